@@ -2,5 +2,10 @@
 #![tactic(auto)]
 
 mod memory;
+mod texts;
 
 pub use memory::OutOfMemory;
+pub use texts::{Line, Name, Short, Text, text_test};
+
+#[cfg(test)]
+mod tests;

@@ -1,0 +1,15 @@
+pub mod Event
+pub mod Count
+pub mod Source
+pub mod Sink
+pub mod Plan
+pub mod MemSource
+pub mod MemSink
+pub mod Standard
+pub mod Record
+pub mod Unrolled
+pub mod Core
+pub mod Echo
+pub mod Echoing
+pub mod EchoLaws
+pub mod EchoCore

@@ -1,0 +1,9 @@
+use Rattle.std.proofs.Common.{sym, ap, length}
+use Rattle.tt_hub.proofs.Following.{running-made}
+use Rattle.tt_hub.proofs.hub.Hub.new.Goals as goal
+
+pub invariant_of-result : goal.invariant_of-result
+invariant_of-result c = (
+  running-made c.args.setup.now c.copy.result c.new.result.events c.start.result c.copy.ensures.setup c.new.ensures.events c.start.ensures.world,
+  sym (ap length c.new.ensures.events),
+)

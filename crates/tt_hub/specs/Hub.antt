@@ -1,0 +1,33 @@
+-- What a hub is seen as, and what a core's words mean for it.
+use Rattle.std.specs.Prelude.{ℕ, Bool, false, List, []}
+use Rattle.tt_edge.specs.declared.event.Event.{Event}
+use Rattle.tt_hub.specs.declared.setup.Setup.{Setup}
+use Rattle.tt_hub.specs.World.{WorldState, start, world_at}
+use Rattle.tt_hub.specs.Table.{table_of}
+use Rattle.tt_hub.specs.Table as table
+
+-- what it was made from, and the events that it has taken
+pub record HubState : Type 0 where
+  pub setup : Setup
+  pub events : List Event
+
+-- the world behind a list of events: that of the start, run to the table's frame
+abbrev pub world_of : Setup → List Event → WorldState
+world_of setup events = world_at (start setup.seed) (table_of setup events).frame
+
+-- how many bytes of a connection were taken: none, since nobody is told any yet
+abbrev pub taken : HubState → ℕ → ℕ
+taken hub conn = 0
+
+-- what a connection is told: nothing, since none is opened yet
+abbrev pub sent : Setup → List Event → ℕ → List ℕ
+sent setup events conn = []
+
+abbrev pub is_live : Setup → List Event → ℕ → Bool
+is_live setup events conn = false
+
+abbrev pub is_over : Setup → List Event → Bool
+is_over setup events = table.is_over (table_of setup events)
+
+abbrev pub takes : Setup → List Event → Event → Bool
+takes setup events event = table.takes (table_of setup events) event

@@ -1,0 +1,150 @@
+//! The server core: it takes events, and keeps the world that they make of the game's start.
+//!
+//! `Hub::new` makes a game that nothing has reached yet. `event` takes one event or refuses it and changes nothing;
+//! `take` hands out what a connection is told. All else tells how the game stands.
+ghost use Rattle.std.specs.Prelude.{◌≡◌, [], IfOk};
+ghost use Rattle.tt_edge.specs.Event.{opens};
+ghost use Rattle.tt_hub.specs.Table.{table_of};
+ghost use Rattle.tt_hub.specs.Hub.{world_of};
+
+use crate::setup::Setup;
+use crate::table::{Table, is_over, is_taken, ticked};
+use crate::world::World;
+use std::alloc::Global;
+use std::marker::Model;
+use tt_edge::{Core, CoreErr, Event, Record, Took};
+use tt_frame::OutOfMemory;
+
+/// How many events are taken at most, so that places in the list of events can be told in 63 bits.
+const MOST_EVENTS: u64 = (1 << 63) - 1;
+
+/// A game. Contracts see what it was made from and the list of the events that it has taken; all else follows.
+#[derive(Drop)]
+pub struct Hub {
+    setup: Setup,
+    history: Record,
+    count: u64,
+    table: Table,
+    world: World,
+}
+
+impl Model for Hub {
+    ghost use Rattle.std.specs.Prelude.{◌≡◌, length};
+    ghost use Rattle.tt_hub.specs.Hub.{HubState};
+    ghost use Rattle.tt_hub.specs.Running.{IsRunning};
+
+    ghost Value = { HubState };
+
+    ghost view = { λ h. record { setup = h.setup; events = h.history.events } };
+
+    ghost invariant = { λ h. IsRunning h.setup h.history.events h.table h.world × (h.count ≡ length h.history.events) };
+}
+
+impl Hub {
+    /// A game that nothing has reached yet.
+    pub fn new(alloc: Global, setup: &Setup) -> Result<Hub, OutOfMemory>
+        ensures setup { IfOk result (λ hub. hub.setup ≡ setup.now) }
+        ensures events { IfOk result (λ hub. hub.events ≡ []) }
+    {
+        Ok(Hub {
+            setup: setup.copy(),
+            history: Record::new(alloc),
+            count: 0,
+            table: Table { frame: 0, top: 0 },
+            world: World::start(setup.seed),
+        })
+    }
+
+    /// The frame: how many ticks were taken.
+    pub fn frame(&self) -> u32
+        ensures frame { result ≡ (table_of self.now.setup self.now.events).frame }
+    {
+        self.table.frame
+    }
+
+    /// The greatest permitted frame.
+    pub fn top(&self) -> u32
+        ensures top { result ≡ (table_of self.now.setup self.now.events).top }
+    {
+        self.table.top
+    }
+
+    /// The world at the frame.
+    pub fn world(&self) -> &World
+        ensures world { result.now ≡ world_of self.now.setup self.now.events }
+    {
+        &self.world
+    }
+
+    /// The events that it has taken, in order.
+    pub fn events(&self) -> &Record
+        ensures events { result.now.events ≡ self.now.events }
+    {
+        &self.history
+    }
+
+    /// How many connections were opened.
+    pub fn connections(&self) -> u32
+        ensures connections { result ≡ opens self.now.events }
+    {
+        let _frame = self.table.frame;
+        0
+    }
+}
+
+impl Core for Hub {
+    ghost use Rattle.tt_hub.specs.Hub.{taken, sent, is_live, is_over, takes};
+    ghost use Rattle.tt_hub.specs.Laws.{sent_grows, ended_stays, unopened, over_is_last};
+
+    type Made = Setup;
+
+    ghost made = { λ h. h.setup };
+
+    ghost events = { λ h. h.events };
+
+    ghost taken = { taken };
+
+    ghost sent = { sent };
+
+    ghost is_live = { is_live };
+
+    ghost is_over = { is_over };
+
+    ghost takes = { takes };
+
+    fn event(&mut self, event: Event) -> Result<u32, CoreErr> {
+        if is_over(self.table) {
+            return Err(CoreErr::Over);
+        }
+        if !is_taken(self.table, &event) {
+            return Err(CoreErr::NoSuch);
+        }
+        if self.count >= MOST_EVENTS || self.history.reserve().is_err() {
+            return Err(CoreErr::Memory);
+        }
+        self.table = ticked(&self.setup, self.table);
+        self.world.run_frame();
+        self.history.add(event);
+        self.count += 1;
+        Ok(0)
+    }
+
+    fn take(&mut self, _conn: u32, _out: &mut [u8]) -> Took {
+        Took {
+            count: 0,
+            done: true,
+        }
+    }
+
+    fn over(&self) -> bool {
+        is_over(self.table)
+    }
+
+    ghost sent_grows = { sent_grows };
+
+    ghost ended_stays = { ended_stays };
+
+    ghost unopened = { unopened };
+
+    ghost over_is_last = { over_is_last };
+}

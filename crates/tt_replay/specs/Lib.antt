@@ -1,0 +1,5 @@
+pub mod Numbers
+pub mod Script
+pub mod Played
+pub mod Report
+pub mod Statuses

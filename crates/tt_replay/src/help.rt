@@ -1,0 +1,24 @@
+//! What the program says of itself, asked by its first word.
+
+/// How it is used.
+const HELP: &[u8] = b"Writes the report of a game's script.
+
+Use: tt_replay run < SCRIPT
+
+It reads the script from standard input and writes its report to standard output.
+The exit status is 0 when all was done, 2 for unknown words, 3 for an input that is
+no script, 4 and 5 when reading or writing failed, 6 when memory ran out, and 7 for
+an input of more than 64 MiB. Nothing is written to standard error.
+";
+
+/// Which version it is.
+const VERSION: &[u8] = b"tt_replay 0.1\n";
+
+/// The text that a first word asks for, if it asks for one.
+pub fn answer_of(word: &[u8]) -> Option<&'static [u8]> {
+    match word {
+        b"--help" => Some(HELP),
+        b"--version" => Some(VERSION),
+        _ => None,
+    }
+}

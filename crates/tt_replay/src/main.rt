@@ -1,0 +1,82 @@
+//! The replay program writes, for the script that it reads, the report of that script's game, and nothing else.
+//!
+//! `tt_replay run` reads the script from standard input and writes the report to standard output. The exit status
+//! says how it went; docs/PROTOCOL.md tells scripts, reports and statuses.
+#![tactic(auto)]
+
+mod help;
+mod play;
+mod replay;
+mod report;
+mod script;
+
+use crate::help::answer_of;
+use crate::replay::replay_main;
+use std::process::ExitCode;
+use std::rt::Env;
+use std::{env, io};
+use tt_edge::{Sink, StdinSource, StdoutSink, write_all};
+use tt_frame::Line;
+
+/// The status for words that can't be read.
+const BAD_WORDS: u8 = 2;
+
+/// The status where standard output fails.
+const SINK_FAULT: u8 = 5;
+
+/// The status for want of memory.
+const NO_MEMORY: u8 = 6;
+
+fn main(rt: HostRuntime) -> ExitCode {
+    let mut sink = StdoutSink::new(io::writer(&rt));
+    let words = match words_of(&rt) {
+        Ok(words) => words,
+        Err(status) => return ExitCode::from(status),
+    };
+    if let Some(answer) = words.first().and_then(|word| answer_of(word.bytes())) {
+        return ExitCode::from(answered(&mut sink, answer));
+    }
+    let mut source = StdinSource::new(rt.reader());
+    ExitCode::from(replay_main(rt.alloc(), &words, &mut source, &mut sink))
+}
+
+/// The words behind the program's name, or the status where they can't be had.
+fn words_of<R: Env + AllocGlobal>(rt: &R) -> Result<Vec<Line>, u8> {
+    let mut words = Vec::new(rt.alloc());
+    let Ok(args) = env::args(rt) else {
+        return Err(BAD_WORDS);
+    };
+    for word in args.skip(1) {
+        if words.push(line_of(word.as_bytes())).is_err() {
+            return Err(NO_MEMORY);
+        }
+    }
+    Ok(words)
+}
+
+/// A word as a line. One that makes none is handed over as the empty line, which is no form of any program.
+fn line_of(word: &[u8]) -> Line {
+    match Line::new(word) {
+        Some(line) => line,
+        None => no_word(),
+    }
+}
+
+/// The empty line.
+fn no_word() -> Line {
+    match Line::new(b"") {
+        Some(line) => line,
+        None => unreachable!(),
+    }
+}
+
+/// Writes what the first word asked for, and answers the status.
+fn answered<K: Sink>(sink: &mut K, answer: &[u8]) -> u8 {
+    match write_all(sink, answer) {
+        Ok(()) => 0,
+        Err(_) => SINK_FAULT,
+    }
+}
+
+#[cfg(test)]
+mod tests;

@@ -1,0 +1,144 @@
+//! The program's top call over sources and sinks in memory.
+ghost use Rattle.std.specs.Prelude.{◌<◌};
+
+use crate::replay::replay_main;
+use std::alloc::Global;
+use std::test::*;
+use tt_edge::{MemSink, MemSource};
+use tt_frame::{Line, OutOfMemory};
+
+/// The report of the empty script.
+const START: &[u8] = b"server 0 0 00000000 00000000 0 0 0\n";
+
+/// What one call came to.
+#[derive(Drop)]
+struct Trial {
+    status: u8,
+    written: Vec<u8>,
+}
+
+/// Calls the program with one word, over a source whose read and a sink whose write of these numbers fail, counted
+/// from 0. Each call of them moves at most so many bytes.
+fn call(
+    alloc: Global,
+    word: &[u8],
+    script: &[u8],
+    failing: (Option<u64>, Option<u64>),
+    most: usize,
+) -> Result<Trial, OutOfMemory>
+    requires { 0 < most }
+{
+    let mut words = Vec::new(alloc);
+    if let Some(word) = Line::new(word) {
+        words.push(word)?;
+    }
+    let mut reads = Vec::new(alloc);
+    if let Some(read) = failing.0 {
+        reads.push(read)?;
+    }
+    let mut writes = Vec::new(alloc);
+    if let Some(write) = failing.1 {
+        writes.push(write)?;
+    }
+    let mut source = MemSource::new(script.to_vec(alloc)?, reads).at_most(most);
+    let mut sink = MemSink::new(alloc, 200, writes)?.at_most(most);
+    let status = replay_main(alloc, &words, &mut source, &mut sink);
+    let written = sink.bytes().to_vec(alloc)?;
+    Ok(Trial { status, written })
+}
+
+/// Runs a script where nothing fails.
+fn run(alloc: Global, script: &[u8]) -> Result<Trial, OutOfMemory> {
+    call(alloc, b"run", script, (None, None), 4096)
+}
+
+#[test]
+fn a_script_is_reported(rt: HostRuntime) -> Result<(), Fail> {
+    let alloc = rt.alloc();
+    let reports: [(&[u8], &[u8]); 5] = [
+        (b"", START),
+        (b"tick 2\ntick 1\n", b"server 3 3 d75be1b8 1fffffff 0 3 0\n"),
+        (b"tick 2\ntick 1", b"server 3 3 d75be1b8 1fffffff 0 3 0\n"),
+        (b"tick 74\n", b"server 74 74 f9861ef5 4db3a930 1 0 0\n"),
+        (b"tick 100\n", b"server 100 100 faee7efa d46cc9c3 1 26 0\n"),
+    ];
+    for (script, report) in reports {
+        let trial = run(alloc, script)?;
+        assert_eq!(rt; trial.status, 0);
+        assert_eq!(rt; trial.written.as_slice(), report);
+    }
+    Ok(())
+}
+
+#[test]
+fn what_is_no_script_is_refused(rt: HostRuntime) -> Result<(), Fail> {
+    let alloc = rt.alloc();
+    let inputs: [&[u8]; 17] = [
+        b"tick 0\n",
+        b"tick 01\n",
+        b"tick  1\n",
+        b"tick\t1\n",
+        b"tick 1000001\n",
+        b"tick 4294967297\n",
+        b"tick 60\ntick 41\n",
+        b"tick \xff\n",
+        b"tick 1\r\n",
+        b"tick 1\n\n",
+        b"\n",
+        b" tick 1\n",
+        b"tick\n",
+        b"tick \n",
+        b"tick +1\n",
+        b"tick 1 \n",
+        b"open\n",
+    ];
+    for input in inputs {
+        let trial = run(alloc, input)?;
+        assert_eq!(rt; trial.status, 3);
+        assert!(rt; trial.written.is_empty());
+    }
+    Ok(())
+}
+
+#[test]
+fn other_words_are_refused(rt: HostRuntime) -> Result<(), Fail> {
+    let alloc = rt.alloc();
+    let words: [&[u8]; 4] = [b"", b"Run", b"run ", b"walk"];
+    for word in words {
+        let trial = call(alloc, word, b"", (None, None), 1)?;
+        assert_eq!(rt; trial.status, 2);
+        assert!(rt; trial.written.is_empty());
+    }
+    let mut source = MemSource::new(Vec::new(alloc), Vec::new(alloc));
+    let mut sink = MemSink::new(alloc, 200, Vec::new(alloc))?;
+    assert_eq!(rt; replay_main(alloc, &[], &mut source, &mut sink), 2);
+    Ok(())
+}
+
+#[test]
+fn a_source_that_fails_is_told(rt: HostRuntime) -> Result<(), Fail> {
+    let alloc = rt.alloc();
+    // Seven bytes, one a read, and the read that tells the end.
+    for read in 0..8 {
+        let trial = call(alloc, b"run", b"tick 1\n", (Some(read), None), 1)?;
+        assert_eq!(rt; trial.status, 4);
+        assert!(rt; trial.written.is_empty());
+    }
+    let whole = call(alloc, b"run", b"tick 1\n", (Some(8), None), 1)?;
+    assert_eq!(rt; whole.status, 0);
+    Ok(())
+}
+
+#[test]
+fn a_sink_that_fails_has_a_front_of_the_report(rt: HostRuntime) -> Result<(), Fail> {
+    let alloc = rt.alloc();
+    for (place, _) in START.iter().enumerate() {
+        let trial = call(alloc, b"run", b"", (None, Some(place as u64)), 1)?;
+        assert_eq!(rt; trial.status, 5);
+        assert_eq!(rt; trial.written.as_slice(), &START[..place]);
+    }
+    let whole = call(alloc, b"run", b"", (None, Some(35)), 1)?;
+    assert_eq!(rt; whole.status, 0);
+    assert_eq!(rt; whole.written.as_slice(), START);
+    Ok(())
+}
