@@ -1,4 +1,4 @@
--- What an echo keeps goes on with its events.
+-- What the small core keeps goes on with its events.
 use Rattle.std.proofs.Common.{◌≡◌, ℕ, ◌+◌, Bool, true, false, not, ◌&&◌, cond, List, [], ◌∷◌, ◌++◌, refl, sym, ap, ◌∙◌, arith}
 use Rattle.std.specs.Prelude.{eqb}
 use Rattle.std.proofs.lemmas.Bool.{and_from, and_parts, both_ways, not-true, true≢false}
@@ -12,6 +12,7 @@ use Rattle.tt_edge.specs.Echo.{Told, is_fit, phase_behind, telling, is_taken, ch
 use Rattle.tt_edge.specs.Echoing.{IsEchoing}
 use Rattle.tt_edge.specs.EchoLaws.{told-push}
 
+-- the openings of a list and of one event more
 opens-push : (es : List Event) (e : Event) → opens (es ++ e ∷ []) ≡ opens es + cond (is_open e) 1 0
 opens-push es e = omega (arith, sum_by-append (λ x. cond (is_open x) 1 0) es (e ∷ []))
 
@@ -24,6 +25,7 @@ openings-push p (Shut conn) fit = omega arith
 openings-push p Tick fit = omega arith
 openings-push p Stop fit = omega arith
 
+-- where none is opened, nothing was told
 untold-push : (g : ℕ) (p : Phase) (out : List ℕ) (e : Event) → (p.opened ≡ false → out ≡ []) → (p.opened ≡ false → p.live ≡ false) → is_fit p e ≡ true → (phase_behind p e).opened ≡ false → out ++ telling g e ≡ []
 untold-push g p out (Open door peer) untold dead fit none = absurd (true≢false none)
 untold-push g p out (Packet conn kind body) untold dead fit none = absurd (both_ways p.live (dead none) (and_parts (eqb conn 1) p.live fit).1)
@@ -32,6 +34,7 @@ untold-push g p out (Shut conn) untold dead fit none = append-nil out ∙ untold
 untold-push g p out Tick untold dead fit none = append-nil out ∙ untold none
 untold-push g p out Stop untold dead fit none = append-nil out ∙ untold none
 
+-- where none is opened, nothing is live
 dead-push : (p : Phase) (e : Event) → (p.opened ≡ false → p.live ≡ false) → (phase_behind p e).opened ≡ false → (phase_behind p e).live ≡ false
 dead-push p (Open door peer) dead none = absurd (true≢false none)
 dead-push p (Packet conn kind body) dead none = dead none

@@ -12,6 +12,7 @@
 
 pub mod echo;
 mod event;
+pub mod laws;
 mod machine;
 mod mem_sink;
 mod mem_source;

@@ -75,36 +75,45 @@ pub trait Core {
     fn event(&mut self, event: Event) -> Result<u32, CoreErr>
         ensures made { made self.new ≡ made self.old }
         ensures taken { (conn : ℕ) → taken self.new conn ≡ taken self.old conn }
-        ensures ok { IfOk result (λ conn. (events self.new ≡ events self.old ++ event ∷ []) × (conn ≡ conn_of (events self.old) event)) }
-        ensures allowed { OnOk result ((is_over (made self.old) (events self.old) ≡ false) × (takes (made self.old) (events self.old) event ≡ true)) }
+        ensures ok { IfOk result (λ conn. (events self.new ≡ events self.old ++ event ∷ [])
+            × (conn ≡ conn_of (events self.old) event)) }
+        ensures allowed { OnOk result ((is_over (made self.old) (events self.old) ≡ false)
+            × (takes (made self.old) (events self.old) event ≡ true)) }
         ensures few { OnOk result (length (events self.new) < 2 ^ 63) }
         ensures fresh { OnOk result (is_open event ≡ true → taken self.new (opens (events self.new)) ≡ 0) }
-        ensures err { IfErr result (λ error. (events self.new ≡ events self.old) × IsRefusal (is_over (made self.old) (events self.old)) (takes (made self.old) (events self.old) event) error) };
+        ensures err { IfErr result (λ error. (events self.new ≡ events self.old)
+            × IsRefusal (is_over (made self.old) (events self.old)) (takes (made self.old) (events self.old) event) error) };
 
     /// Takes the next bytes that a connection is told, as many as fit or are there.
     fn take(&mut self, conn: u32, out: &mut [u8]) -> Took
         ensures made { made self.new ≡ made self.old }
         ensures events { events self.new ≡ events self.old }
         ensures others { (other : ℕ) → other ≢ conn → taken self.new other ≡ taken self.old other }
-        ensures bytes { Takes (sent (made self.old) (events self.old) conn) (taken self.old conn) (taken self.new conn) out.old out.new result.count }
-        ensures done { IsTrue result.done ↔ IsAllTaken (is_live (made self.old) (events self.old) conn) (sent (made self.old) (events self.old) conn) (taken self.new conn) };
+        ensures bytes { Takes (sent (made self.old) (events self.old) conn)
+            (taken self.old conn) (taken self.new conn) out.old out.new result.count }
+        ensures done { IsTrue result.done ↔ IsAllTaken (is_live (made self.old) (events self.old) conn)
+            (sent (made self.old) (events self.old) conn) (taken self.new conn) };
 
     /// Whether all is over.
     fn over(&self) -> bool
         ensures { result ≡ is_over (made self.now) (events self.now) };
 
     /// What was told stands, and more comes behind it.
-    ghost sent_grows: { (m : Self.Made) (before : List Event) (event : Event) (conn : ℕ) → GrowsTo (sent m before conn) (sent m (before ++ event ∷ []) conn) };
+    ghost sent_grows: { (m : Self.Made) (before : List Event) (event : Event) (conn : ℕ)
+        → GrowsTo (sent m before conn) (sent m (before ++ event ∷ []) conn) };
 
     /// A connection that was opened and is not live stays so, and nothing more is told to it.
-    ghost ended_stays: { (m : Self.Made) (before : List Event) (event : Event) (conn : ℕ) → conn ≤ opens before → is_live m before conn ≡ false
+    ghost ended_stays: { (m : Self.Made) (before : List Event) (event : Event) (conn : ℕ)
+        → conn ≤ opens before → is_live m before conn ≡ false
         → (is_live m (before ++ event ∷ []) conn ≡ false) × (sent m (before ++ event ∷ []) conn ≡ sent m before conn) };
 
     /// A connection that was not opened yet is not live, and is told nothing.
-    ghost unopened: { (m : Self.Made) (before : List Event) (conn : ℕ) → IsUnopened before conn → (is_live m before conn ≡ false) × (sent m before conn ≡ []) };
+    ghost unopened: { (m : Self.Made) (before : List Event) (conn : ℕ)
+        → IsUnopened before conn → (is_live m before conn ≡ false) × (sent m before conn ≡ []) };
 
     /// Where all is over no connection is live, and it stays over.
-    ghost over_is_last: { (m : Self.Made) (before : List Event) (event : Event) (conn : ℕ) → is_over m before ≡ true → (is_live m before conn ≡ false) × (is_over m (before ++ event ∷ []) ≡ true) };
+    ghost over_is_last: { (m : Self.Made) (before : List Event) (event : Event) (conn : ℕ)
+        → is_over m before ≡ true → (is_live m before conn ≡ false) × (is_over m (before ++ event ∷ []) ≡ true) };
 }
 
 /// How many bytes one call asks for.
@@ -113,7 +122,8 @@ const PIECE: usize = 1024;
 /// Takes all that a connection is told and that was not taken yet. Where memory runs out, the bytes that were taken
 /// by then are lost.
 pub fn drain<C: Core>(alloc: Global, core: &mut C, conn: u32) -> Result<Vec<u8>, OutOfMemory>
-    ensures rest { IfOk result (λ bytes. bytes.items ≡ drop (C.taken core.old conn) (C.sent (C.made core.old) (C.events core.old) conn)) }
+    ensures rest { IfOk result (λ bytes.
+        bytes.items ≡ drop (C.taken core.old conn) (C.sent (C.made core.old) (C.events core.old) conn)) }
     ensures all { OnOk result (length (C.sent (C.made core.old) (C.events core.old) conn) ≤ C.taken core.new conn) }
     ensures events { C.events core.new ≡ C.events core.old }
     ensures made { C.made core.new ≡ C.made core.old }

@@ -74,20 +74,24 @@ pub fn read_all<S: Source>(
     source: &mut S,
     limit: u32,
 ) -> Result<Vec<u8>, ReadAllError>
-    // The answer is all that was left, and it was taken.
+    // At Ok the answer is all that was left, it was taken, and the end was told.
     ensures whole { IfOk result (λ bytes. IfSome (S.left source.old) (λ left. bytes.items ≡ left)) }
     ensures taken { IfOk result (λ bytes. Consumes (S.left source.old) (S.left source.new) bytes.items) }
     ensures within { IfOk result (λ bytes. length bytes.items ≤ limit) }
     ensures ended { OnOk result (Rose (S.ends source.old) (S.ends source.new)) }
 
     // Where there are more, the limit and one byte past it were taken.
-    ensures too_long { IsErrOf result ReadAllError.TooLong → IfSome (S.left source.old) (λ left. limit < length left) }
-    ensures over { IsErrOf result ReadAllError.TooLong → ConsumesCount (limit + 1) (S.left source.old) (S.left source.new) }
+    ensures too_long { IsErrOf result ReadAllError.TooLong
+        → IfSome (S.left source.old) (λ left. limit < length left) }
+    ensures over { IsErrOf result ReadAllError.TooLong
+        → ConsumesCount (limit + 1) (S.left source.old) (S.left source.new) }
 
-    // The source failed exactly where that is the answer.
+    // The source fails in this call where that is the answer, and nowhere else.
     ensures failed { IsErrOf result ReadAllError.Failed → Rose (S.faults source.old) (S.faults source.new) }
-    ensures faults { MatchResult result (λ _. S.faults source.new ≡ S.faults source.old) (FaultsAt (S.faults source.old) (S.faults source.new)) }
+    ensures faults { MatchResult result (λ _. S.faults source.new ≡ S.faults source.old)
+        (FaultsAt (S.faults source.old) (S.faults source.new)) }
 
+    // At an error the end was not told. Whatever the answer, at most one byte past the limit was taken.
     ensures err { OnErr result (S.ends source.new ≡ S.ends source.old) }
     ensures at_most { ConsumesAtMost (limit + 1) (S.left source.old) (S.left source.new) }
 {

@@ -1,1 +1,14 @@
 pub mod TextLaws
+pub mod PacketLaws
+pub mod StreamLaws
+pub mod RunLaws
+pub mod FrontLaws
+pub mod ZeroSearch
+pub mod FieldLaws
+pub mod RowLaws
+pub mod StopLaws
+pub mod TableLaws
+pub mod ApartLaws
+pub mod SizeLaws
+pub mod PartLaws
+pub mod ItemLoops

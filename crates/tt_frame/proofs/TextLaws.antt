@@ -1,13 +1,13 @@
 -- The test of a text is true exactly of the texts.
 use Rattle.std.proofs.Common.{◌≡◌, ℕ, ◌≤◌, ◌<◌, ◌↔◌, List, length, Bool, true, false, refl, arith}
-use Rattle.std.specs.Prelude.{◌&&◌, nat_le}
+use Rattle.std.specs.Prelude.{◌&&◌, ◌==◌, nat_le}
 use Rattle.std.specs.List.{list_all}
 use Rattle.std.specs.Str.{IsUtf8, is_utf8}
 use Rattle.std.proofs.lemmas.Str.{IsUtf8-from_is_utf8, IsUtf8-from_ascii, is_utf8-from_IsUtf8}
 use Rattle.std.proofs.lemmas.Str.Ascii.{IsAscii-from_all}
 use Rattle.std.proofs.lemmas.List.Elements.{All-weaker}
 use Rattle.std.proofs.lemmas.List.Sums.{AllPass-from_list_all, list_all-from_AllPass}
-use Rattle.tt_frame.specs.Text.{IsText, is_text, is_shown, is_plain}
+use Rattle.tt_frame.specs.Text.{IsText, is_text, is_shown, is_plain, is_digest, is_hex_digit}
 
 pub and_both : (a b : Bool) → a && b ≡ true → (a ≡ true) × (b ≡ true)
 and_both true b e = (refl, e)
@@ -17,7 +17,7 @@ both_and : (a b : Bool) → a ≡ true → b ≡ true → a && b ≡ true
 both_and true b _ e = e
 both_and false b e _ = e
 
-le_of_test : (a b : ℕ) → nat_le a b ≡ true → a ≤ b
+pub le_of_test : (a b : ℕ) → nat_le a b ≡ true → a ≤ b
 le_of_test a b e = grind arith
 
 test_of_le : (a b : ℕ) → a ≤ b → nat_le a b ≡ true
@@ -74,3 +74,10 @@ IsText-from_is_plain bytes e =
       utf8 = IsUtf8-from_ascii bytes (IsAscii-from_all bytes (All-weaker (λ b. nat_le 32 b && nat_le b 126 ≡ true) (λ b. b < 128) (λ b p. let le = (plain_byte b p).1 in omega arith) bytes each));
       shown = All-weaker (λ b. nat_le 32 b && nat_le b 126 ≡ true) (λ b. 32 ≤ b) (λ b p. (plain_byte b p).0) bytes each;
     }
+
+eq_of_test : (a b : ℕ) → (a == b) ≡ true → a ≡ b
+eq_of_test a b e = grind arith
+
+pub length_of_digest : (bytes : List ℕ) → is_digest bytes ≡ true → length bytes ≡ 32
+unfolding is_digest
+length_of_digest bytes e = eq_of_test (length bytes) 32 (and_both (length bytes == 32) (list_all is_hex_digit bytes) e).0

@@ -1,1 +1,15 @@
 pub mod Text
+pub mod Packet
+pub mod Stream
+pub mod Holding
+pub mod Framing
+pub mod Runs
+pub mod Unread
+pub mod Reading
+pub mod FieldForms
+pub mod ItemForms
+pub mod Rows
+pub mod Stops
+pub mod Tables
+pub mod Apart
+pub mod Parts

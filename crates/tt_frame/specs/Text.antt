@@ -1,5 +1,5 @@
 -- What a text is: first as a fact, for readers, and then as a test, for the functions that read lists of bytes.
-use Rattle.std.specs.Prelude.{ℕ, ◌≤◌, List, length, All, Bool, ◌&&◌, nat_le}
+use Rattle.std.specs.Prelude.{ℕ, ◌≤◌, List, [], ◌∷◌, ◌++◌, length, All, Bool, ◌&&◌, ◌||◌, ◌==◌, nat_le}
 use Rattle.std.specs.List.{list_all}
 use Rattle.std.specs.Str.{IsUtf8, is_utf8}
 
@@ -19,3 +19,15 @@ is_text max bytes = nat_le (length bytes) max && list_all is_shown bytes && is_u
 -- whether each byte is a printable ASCII character; a literal's bytes compute to true, and such bytes are a text
 abbrev pub is_plain : List ℕ → Bool
 is_plain bytes = list_all (λ byte. nat_le 32 byte && nat_le byte 126) bytes
+
+-- a text on the wire: its bytes, and one zero byte
+abbrev pub text_bytes : List ℕ → List ℕ
+text_bytes bytes = bytes ++ 0 ∷ []
+
+-- whether a byte is a lower-case hexadecimal digit
+abbrev pub is_hex_digit : ℕ → Bool
+is_hex_digit byte = (nat_le 48 byte && nat_le byte 57) || (nat_le 97 byte && nat_le byte 102)
+
+-- whether the bytes are 32 lower-case hexadecimal digits
+unfoldable pub is_digest : List ℕ → Bool
+is_digest bytes = (length bytes == 32) && list_all is_hex_digit bytes

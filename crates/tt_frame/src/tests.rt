@@ -1,7 +1,10 @@
-//! Texts at the edges of their rules.
+//! Texts at the edges of their rules, fields there and back, and a stream that comes in pieces.
 ghost use Rattle.std.specs.Prelude.{◌≡◌, [], codes};
 
-use crate::{Line, Name, Short};
+use crate::{
+    Bad, Fields, Framer, Line, Name, Next, Part, Put, Short, UpTo, append, ended, number8,
+    number16, number32, text, up_to,
+};
 use std::test::Fail;
 
 #[test]
@@ -53,4 +56,115 @@ fn literal_line() -> Line
 fn a_literal_is_a_text_with_no_test(rt: HostRuntime) {
     assert_eq!(rt; literal_name().bytes(), b"Game".as_slice());
     assert_eq!(rt; literal_line().bytes().len(), 0);
+}
+
+#[test]
+fn a_number_in_a_range_is_not_above_its_end(rt: HostRuntime) -> Result<(), Fail> {
+    assert_eq!(rt; UpTo::<20>::new(20).ok_or("a code")?.get(), 20);
+    assert!(rt; UpTo::<20>::new(21).is_none());
+    Ok(())
+}
+
+#[test]
+fn a_stream_in_pieces(rt: HostRuntime) -> Result<(), Fail> {
+    let mut framer = Framer::new(rt.alloc(), 6)?;
+    assert_eq!(rt; framer.feed(&[5]), 1);
+    assert!(rt; matches!(framer.next(), Next::Partial));
+    assert_eq!(rt; framer.feed(&[0, 42, 1, 2, 7, 0]), 5);
+    match framer.next() {
+        Next::Packet { kind, body } => {
+            assert_eq!(rt; kind, 42);
+            assert_eq!(rt; body, [1, 2].as_slice());
+        }
+        _ => assert!(rt; false),
+    }
+    assert!(rt; matches!(framer.next(), Next::Partial));
+    Ok(())
+}
+
+#[test]
+fn a_bad_size_stays(rt: HostRuntime) -> Result<(), Fail> {
+    let mut framer = Framer::new(rt.alloc(), 6)?;
+    assert_eq!(rt; framer.feed(&[7]), 1);
+    assert!(rt; matches!(framer.next(), Next::Partial));
+    assert_eq!(rt; framer.feed(&[0]), 1);
+    assert!(rt; matches!(framer.next(), Next::BadSize(7)));
+    assert!(rt; matches!(framer.next(), Next::BadSize(7)));
+    assert_eq!(rt; framer.feed(&[5, 0]), 2);
+    assert!(rt; matches!(framer.next(), Next::BadSize(7)));
+    Ok(())
+}
+
+#[test]
+fn what_was_put_is_read(rt: HostRuntime) -> Result<(), Fail> {
+    let name = Name::new(b"Ann").ok_or("a name")?;
+    let mut out = Vec::new(rt.alloc());
+    Put::u8(&mut out, 1)?;
+    Put::u16(&mut out, 0x0203)?;
+    Put::u32(&mut out, 0x0405_0607)?;
+    Put::text(&mut out, name.bytes())?;
+    Put::raw(&mut out, &[8])?;
+    assert_eq!(rt;
+        out.as_slice(),
+        [1, 3, 2, 7, 6, 5, 4, 65, 110, 110, 0, 8].as_slice()
+    );
+    let mut fields = Fields::new(out.as_slice());
+    assert_eq!(rt; fields.u8(), Some(1));
+    assert_eq!(rt; fields.u16(), Some(0x0203));
+    assert_eq!(rt; fields.u32(), Some(0x0405_0607));
+    assert!(rt; fields.text(2).is_none());
+    assert_eq!(rt; fields.at(), 7);
+    assert_eq!(rt; fields.text(3).ok_or("a text")?, b"Ann".as_slice());
+    assert!(rt; !fields.done());
+    assert_eq!(rt; fields.u16(), None);
+    assert_eq!(rt; fields.at(), 11);
+    Ok(())
+}
+
+/// A byte up to 14, a number of each width, and a text.
+fn read(body: &[u8]) -> Result<(UpTo<14>, u8, u16, u32, Short), Bad> {
+    let mut fields = Fields::new(body);
+    let f = &mut fields;
+    let all = (up_to(f)?, number8(f)?, number16(f)?, number32(f)?, text(f)?);
+    ended(f, all)
+}
+
+#[test]
+fn a_field_that_is_not_there_is_told_by_its_place(rt: HostRuntime) {
+    assert!(rt; read(&[14, 2, 3, 0, 4, 0, 0, 0, 65, 0]).is_ok());
+    assert!(rt; matches!(read(&[15]), Err(Bad::Malformed { at: 0 })));
+    assert!(rt; matches!(read(&[14, 2, 3]), Err(Bad::Malformed { at: 2 })));
+    assert!(rt;
+        matches!(
+            read(&[14, 2, 3, 0, 4, 0, 0, 0, 31, 0]),
+            Err(Bad::Malformed { at: 8 })
+        )
+    );
+    assert!(rt;
+        matches!(
+            read(&[14, 2, 3, 0, 4, 0, 0, 0, 65, 0, 9]),
+            Err(Bad::Malformed { at: 10 })
+        )
+    );
+}
+
+#[test]
+fn a_packet_is_appended_whole(rt: HostRuntime) -> Result<(), Fail> {
+    let name = Name::new(b"A").ok_or("a name")?;
+    let mut out = vec![in rt.alloc(); 9]?;
+    append(
+        &mut out,
+        3,
+        &[
+            Part::U8(1),
+            Part::U16(2),
+            Part::U32(3),
+            Part::Words(name.bytes()),
+        ],
+    )?;
+    assert_eq!(rt;
+        out.as_slice(),
+        [9, 12, 0, 3, 1, 2, 0, 3, 0, 0, 0, 65, 0].as_slice()
+    );
+    Ok(())
 }

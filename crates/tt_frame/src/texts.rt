@@ -54,7 +54,7 @@ fn is_utf8_bytes(bytes: &[u8]) -> bool
 
 /// Whether the bytes are a text of at most `max` bytes.
 #[tactic(auto, unfolding(crate::specs::Text::is_text))]
-fn is_text_bytes(bytes: &[u8], max: usize) -> bool
+pub(crate) fn is_text_bytes(bytes: &[u8], max: usize) -> bool
     ensures { result ≡ is_text max bytes.now }
 {
     if bytes.len() > max {
@@ -89,7 +89,7 @@ impl<const N: usize> Text<N> {
     /// Its bytes.
     pub fn bytes(&self) -> &[u8]
         ensures same { result.now ≡ self.now }
-        ensures text { IsText self.now }
+        ensures text { IsText result.now }
         ensures test { is_text N self.now ≡ true }
         ensures length { length result.now ≤ N }
     {
@@ -146,7 +146,7 @@ impl Name {
     /// Its bytes.
     pub fn bytes(&self) -> &[u8]
         ensures same { result.now ≡ self.now }
-        ensures text { IsText self.now }
+        ensures text { IsText result.now }
         ensures test { is_text 31 self.now ≡ true }
         ensures length { (1 ≤ length result.now) × (length result.now ≤ 31) }
     {
@@ -162,9 +162,3 @@ impl Name {
         Name { text: text.copy() }
     }
 }
-
-/// The test of a text, as definitions use it, is exact: it is true of the texts of at most that many bytes, and of
-/// nothing else.
-pub fn text_test()
-    ensures { (max : ℕ) (bytes : List ℕ) → (is_text max bytes ≡ true) ↔ (IsText bytes × (length bytes ≤ max)) }
-{}

@@ -1,30 +1,31 @@
 -- What a hub is seen as, and what a core's words mean for it.
-use Rattle.std.specs.Prelude.{ℕ, Bool, false, List, []}
+use Rattle.std.specs.Prelude.{ℕ, Bool, ◌==◌, if◌then◌else◌, List}
 use Rattle.tt_edge.specs.declared.event.Event.{Event}
 use Rattle.tt_hub.specs.declared.setup.Setup.{Setup}
 use Rattle.tt_hub.specs.World.{WorldState, start, world_at}
-use Rattle.tt_hub.specs.Table.{table_of}
+use Rattle.tt_hub.specs.Stepped.{table_of, sent_of}
 use Rattle.tt_hub.specs.Table as table
 
--- what it was made from, and the events that it has taken
+-- what it was made from, the events that it has taken, and how many bytes of its one connection were taken
 pub record HubState : Type 0 where
   pub setup : Setup
   pub events : List Event
+  pub taken : ℕ
 
 -- the world behind a list of events: that of the start, run to the table's frame
 abbrev pub world_of : Setup → List Event → WorldState
 world_of setup events = world_at (start setup.seed) (table_of setup events).frame
 
--- how many bytes of a connection were taken: none, since nobody is told any yet
+-- how many bytes of a connection were taken; the one connection has the number 1
 abbrev pub taken : HubState → ℕ → ℕ
-taken hub conn = 0
+taken hub conn = if conn == 1 then hub.taken else 0
 
--- what a connection is told: nothing, since none is opened yet
+-- what a connection is told
 abbrev pub sent : Setup → List Event → ℕ → List ℕ
-sent setup events conn = []
+sent setup events conn = sent_of setup events conn
 
 abbrev pub is_live : Setup → List Event → ℕ → Bool
-is_live setup events conn = false
+is_live setup events conn = table.is_live (table_of setup events) conn
 
 abbrev pub is_over : Setup → List Event → Bool
 is_over setup events = table.is_over (table_of setup events)

@@ -2,6 +2,8 @@ pub mod Random
 pub mod World
 pub mod Setup
 pub mod Table
+pub mod Judged
+pub mod Stepped
 pub mod Hub
-pub mod Running
 pub mod Laws
+pub mod Running

@@ -1,5 +1,7 @@
 -- The world of a game, and what a frame makes of it.
 use Rattle.std.specs.Prelude.{ℕ, zero, suc, ◌+◌, ◌-◌, ◌^◌, min, Bool, true, false, ◌==◌}
+use Rattle.tt_edge.specs.declared.event.Event.{Event}
+use Rattle.tt_edge.specs.declared.event.Event.TheVariants.{Open, Packet, Broken, Shut, Tick, Stop}
 use Rattle.tt_hub.specs.Random.{next_random}
 
 -- the random words, the day, and the part of the day, of which a day has 74
@@ -25,3 +27,12 @@ framed w = went_on (w.part + 1 == 74) (record w { words = next_random w.words })
 unfoldable pub world_at : WorldState → ℕ → WorldState
 world_at w zero = w
 world_at w (suc frame) = framed (world_at w frame)
+
+-- the world behind an event: a tick is a frame
+abbrev pub world_behind : WorldState → Event → WorldState
+world_behind w (Open door peer) = w
+world_behind w (Packet conn kind body) = w
+world_behind w (Broken conn) = w
+world_behind w (Shut conn) = w
+world_behind w Tick = framed w
+world_behind w Stop = w

@@ -2,13 +2,15 @@
 //!
 //! `Hub::new` makes a game that nothing has reached yet. `event` takes one event or refuses it and changes nothing;
 //! `take` hands out what a connection is told. All else tells how the game stands.
-ghost use Rattle.std.specs.Prelude.{◌≡◌, [], IfOk};
+ghost use Rattle.std.specs.Prelude.{◌≡◌, [], length, IfOk};
 ghost use Rattle.tt_edge.specs.Event.{opens};
-ghost use Rattle.tt_hub.specs.Table.{table_of};
-ghost use Rattle.tt_hub.specs.Hub.{world_of};
+ghost use Rattle.tt_hub.specs.World.{world_behind};
+ghost use Rattle.tt_hub.specs.Stepped.{table_of};
+ghost use Rattle.tt_hub.specs.Hub.{world_of, sent, is_live};
 
+use crate::plan::{conn, planned, tell};
 use crate::setup::Setup;
-use crate::table::{Table, is_over, is_taken, ticked};
+use crate::table::{FIRST, Table, is_live, is_over, is_taken, is_there};
 use crate::world::World;
 use std::alloc::Global;
 use std::marker::Model;
@@ -18,26 +20,31 @@ use tt_frame::OutOfMemory;
 /// How many events are taken at most, so that places in the list of events can be told in 63 bits.
 const MOST_EVENTS: u64 = (1 << 63) - 1;
 
-/// A game. Contracts see what it was made from and the list of the events that it has taken; all else follows.
+/// A game. Contracts see what it was made from, the list of the events that it has taken, and how many bytes of its one
+/// connection were taken; all else follows.
 #[derive(Drop)]
 pub struct Hub {
+    alloc: Global,
     setup: Setup,
     history: Record,
     count: u64,
     table: Table,
     world: World,
+    /// All that the connection is told; the first `taken` bytes of it were taken.
+    out: Vec<u8>,
+    taken: usize,
 }
 
 impl Model for Hub {
-    ghost use Rattle.std.specs.Prelude.{◌≡◌, length};
+    ghost use Rattle.std.specs.Prelude.{◌≡◌, ◌≤◌, length};
     ghost use Rattle.tt_hub.specs.Hub.{HubState};
     ghost use Rattle.tt_hub.specs.Running.{IsRunning};
 
     ghost Value = { HubState };
 
-    ghost view = { λ h. record { setup = h.setup; events = h.history.events } };
+    ghost view = { λ h. record { setup = h.setup; events = h.history.events; taken = h.taken } };
 
-    ghost invariant = { λ h. IsRunning h.setup h.history.events h.table h.world × (h.count ≡ length h.history.events) };
+    ghost invariant = { λ h. IsRunning h.setup h.history.events h.table h.world h.out.items × (h.count ≡ length h.history.events) × (h.taken ≤ length h.out.items) };
 }
 
 impl Hub {
@@ -45,13 +52,17 @@ impl Hub {
     pub fn new(alloc: Global, setup: &Setup) -> Result<Hub, OutOfMemory>
         ensures setup { IfOk result (λ hub. hub.setup ≡ setup.now) }
         ensures events { IfOk result (λ hub. hub.events ≡ []) }
+        ensures taken { IfOk result (λ hub. hub.taken ≡ 0) }
     {
         Ok(Hub {
+            alloc,
             setup: setup.copy(),
             history: Record::new(alloc),
             count: 0,
-            table: Table { frame: 0, top: 0 },
+            table: FIRST,
             world: World::start(setup.seed),
+            out: Vec::new(alloc),
+            taken: 0,
         })
     }
 
@@ -87,8 +98,22 @@ impl Hub {
     pub fn connections(&self) -> u32
         ensures connections { result ≡ opens self.now.events }
     {
-        let _frame = self.table.frame;
-        0
+        self.table.openings
+    }
+
+    /// Whether a connection was opened and has not ended.
+    pub fn live(&self, conn: u32) -> bool
+        ensures live { result ≡ is_live self.now.setup self.now.events conn }
+    {
+        is_live(self.table, conn)
+    }
+
+    /// How many bytes a connection was told.
+    pub fn sent_len(&self, conn: u32) -> u64
+        ensures count { result ≡ length (sent self.now.setup self.now.events conn) }
+    {
+        let told = self.out.len();
+        if conn == 1 { told as u64 } else { 0 }
     }
 }
 
@@ -122,17 +147,34 @@ impl Core for Hub {
         if self.count >= MOST_EVENTS || self.history.reserve().is_err() {
             return Err(CoreErr::Memory);
         }
-        self.table = ticked(&self.setup, self.table);
-        self.world.run_frame();
+        let Ok(plan) = planned(self.alloc, &self.setup, self.table, &event) else {
+            return Err(CoreErr::Memory);
+        };
+        if tell(&mut self.out, &plan.told).is_err() {
+            return Err(CoreErr::Memory);
+        }
+        let about = conn(self.table.openings, &event);
+        run(&mut self.world, &event);
+        self.table = plan.table;
         self.history.add(event);
         self.count += 1;
-        Ok(0)
+        Ok(about)
     }
 
-    fn take(&mut self, _conn: u32, _out: &mut [u8]) -> Took {
+    fn take(&mut self, conn: u32, out: &mut [u8]) -> Took {
+        let left = self.out.len() - self.taken;
+        if conn != 1 {
+            return Took {
+                count: 0,
+                done: true,
+            };
+        }
+        let count = out.len().min(left);
+        out[..count].copy_from_slice(&self.out[self.taken..self.taken + count]);
+        self.taken += count;
         Took {
-            count: 0,
-            done: true,
+            count,
+            done: !is_there(self.table.standing) && self.taken == self.out.len(),
         }
     }
 
@@ -147,4 +189,13 @@ impl Core for Hub {
     ghost unopened = { unopened };
 
     ghost over_is_last = { over_is_last };
+}
+
+/// Runs a frame at a tick.
+fn run(world: &mut World, event: &Event)
+    ensures world { world.new ≡ world_behind world.old event.now }
+{
+    if let Event::Tick = event {
+        world.run_frame();
+    }
 }

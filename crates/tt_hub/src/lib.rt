@@ -1,11 +1,15 @@
-//! Whatever events reach a hub, in whatever order, its world is the one that they make of the game's start.
+//! Whatever events reach a hub, in whatever order, its world and the bytes that it tells are those that they make of the
+//! game's start.
 #![tactic(auto)]
 
-mod hub;
 pub mod random;
 pub mod setup;
-mod table;
 pub mod world;
+
+mod hub;
+mod plan;
+mod table;
+mod verdict;
 
 pub use hub::Hub;
 pub use random::Random;

@@ -1,0 +1,46 @@
+-- Items read one behind the other in a loop.
+use Rattle.std.proofs.Common.{◌≡◌, ℕ, suc, ◌+◌, ◌-◌, ◌<◌, ◌≤◌, List, [], ◌∷◌, ◌++◌, Result, Ok, Err, refl, sym, ap, ◌∙◌, append_assoc, arith}
+use Rattle.std.proofs.lemmas.List.{append-nil}
+use Rattle.tt_frame.specs.Unread.{Unread}
+use Rattle.tt_frame.specs.Reading.{◌>>=◌, FieldRead}
+use Rattle.tt_frame.specs.declared.bad.Bad.{Bad}
+use Rattle.tt_frame.specs.declared.bad.Bad.TheVariants.{Memory, Malformed}
+use Rattle.tt_frame.specs.FieldForms.{Field}
+use Rattle.tt_frame.specs.ItemForms.{Item, item_at, items_at}
+
+-- these items first
+abbrev pub with_front : (fs : List Field) → List (Item fs) → Result (List (Item fs) × Unread) ℕ → Result (List (Item fs) × Unread) ℕ
+with_front fs front (Ok x) = Ok (front ++ x.0, x.1)
+with_front fs front (Err e) = Err e
+
+regroup : (fs : List Field) (front : List (Item fs)) (x : Item fs) (r : Result (List (Item fs) × Unread) ℕ) → with_front fs front (r >>= λ xs. Ok (x ∷ xs.0, xs.1)) ≡ with_front fs (front ++ x ∷ []) r
+regroup fs front x (Ok y) = ap (λ (xs : List (Item fs)). Ok (xs, y.1)) (sym (append_assoc front (x ∷ []) y.0))
+regroup fs front x (Err e) = refl
+
+pub goes_on : (fs : List Field) (front : List (Item fs)) (n i : ℕ) (s : Unread) (x : Item fs) (t : Unread) (total : Result (List (Item fs) × Unread) ℕ) → i < n → item_at fs s ≡ Ok (x, t)
+    → with_front fs front (items_at fs (n - i) s) ≡ total → with_front fs (front ++ x ∷ []) (items_at fs (n - (i + 1)) t) ≡ total
+unfolding items_at
+goes_on fs front n i s x t total lt h so_far =
+    let k : n - i ≡ suc (n - (i + 1)) = omega arith in
+    let one : with_front fs front (items_at fs (n - i) s) ≡ with_front fs (front ++ x ∷ []) (items_at fs (n - (i + 1)) t) = rw (k, h) (regroup fs front x (items_at fs (n - (i + 1)) t)) in
+    sym one ∙ so_far
+
+pub fails : (fs : List Field) (front : List (Item fs)) (n i : ℕ) (s : Unread) (at : ℕ) (total : Result (List (Item fs) × Unread) ℕ) → i < n → item_at fs s ≡ Err at
+    → with_front fs front (items_at fs (n - i) s) ≡ total → total ≡ Err at
+unfolding items_at
+fails fs front n i s at total lt h so_far =
+    let k : n - i ≡ suc (n - (i + 1)) = omega arith in
+    let one : with_front fs front (items_at fs (n - i) s) ≡ Err at = rw (k, h) refl in
+    sym so_far ∙ one
+
+pub is_done : (fs : List Field) (front : List (Item fs)) (n i : ℕ) (s : Unread) (total : Result (List (Item fs) × Unread) ℕ) → n ≤ i → with_front fs front (items_at fs (n - i) s) ≡ total → total ≡ Ok (front, s)
+unfolding items_at
+is_done fs front n i s total le so_far =
+    let k : n - i ≡ 0 = omega arith in
+    let one : with_front fs front (items_at fs (n - i) s) ≡ Ok (front, s) = rw k (ap (λ (xs : List (Item fs)). Ok (xs, s)) (append-nil front)) in
+    sym so_far ∙ one
+
+pub fails_as : (X Z : Type 0) (fs : List Field) (view : X → List (Item fs)) (one : Z → Item fs) (e : Bad) (front : List (Item fs)) (n i : ℕ) (s t u : Unread) (total : Result (List (Item fs) × Unread) ℕ) → i < n → FieldRead one (Err e) t (item_at fs s)
+    → with_front fs front (items_at fs (n - i) s) ≡ total → FieldRead view (Err e) u total
+fails_as X Z fs view one Memory front n i s t u total lt h so_far = tt
+fails_as X Z fs view one (Malformed at) front n i s t u total lt h so_far = fails fs front n i s at total lt h so_far

@@ -1,0 +1,42 @@
+-- A table of messages: one line for each, with its number, its row, and the constructor that its values are handed to.
+use Rattle.std.specs.Prelude.{◌≡◌, ℕ, List, [], ◌∷◌, Result, Ok, Err, ◌==◌, if◌then◌else◌}
+use Rattle.tt_frame.specs.Unread.{Unread, whole}
+use Rattle.tt_frame.specs.Rows.{Row, unknown, Maker, RowSpells, row_at}
+use Rattle.tt_frame.specs.Stops.{RowStops}
+use Rattle.tt_frame.specs.declared.bad.Bad.{Bad}
+use Rattle.tt_frame.specs.declared.bad.Bad.TheVariants.{Memory, Malformed}
+
+-- a line of a table of messages of the type M
+pub record Rule (M : Type 0) : Type 0 where
+  pub kind : ℕ
+  pub fields : Row
+  pub make : Maker fields M
+
+abbrev pub row : {M : Type 0} → ℕ → (r : Row) → Maker r M → Rule M
+row kind r make = record { kind = kind; fields = r; make = make }
+
+abbrev pub no_rule : {M : Type 0} → Rule M
+no_rule = record { kind = 0; fields = unknown; make = tt }
+
+-- the line of that number, or one that spells nothing
+abbrev pub rule_of : {M : Type 0} → List (Rule M) → ℕ → Rule M
+rule_of [] kind = no_rule
+rule_of (l ∷ ls) kind = if kind == l.kind then l else rule_of ls kind
+
+-- a body of that number spells the message
+abbrev pub SpelledBy : {M : Type 0} → List (Rule M) → M → ℕ → List ℕ → Type 0
+SpelledBy table m kind body = let l = rule_of table kind in RowSpells l.fields l.make m body
+
+-- the place where a body of that number stops
+abbrev pub StopsBy : {M : Type 0} → List (Rule M) → ℕ → List ℕ → ℕ → Type 0
+StopsBy table kind body at = RowStops (rule_of table kind).fields (whole body) at
+
+-- the message that is read, or that place
+abbrev pub read_by : {M : Type 0} → List (Rule M) → ℕ → Unread → Result M ℕ
+read_by table kind s = let l = rule_of table kind in row_at l.fields l.make s
+
+-- What a function of a decoder answered is what reading gives, unless memory ran out.
+abbrev pub MessageRead : {M : Type 0} → Result M Bad → Result M ℕ → Type 0
+MessageRead (Ok m) reading = reading ≡ Ok m
+MessageRead (Err Memory) reading = Unit {0}
+MessageRead (Err (Malformed at)) reading = reading ≡ Err at

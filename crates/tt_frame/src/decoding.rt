@@ -1,0 +1,81 @@
+//! What a decoder of messages calls: a field, or the place where it isn't.
+//!
+//! A message's function is one struct literal of these, `text(f)?`, `number32(f)?` and so on in the order of its row, and
+//! then `ended(f, message)`.
+ghost use Rattle.std.specs.Prelude.{◌≡◌};
+ghost use Rattle.std.specs.Int.{w8, w16, w32};
+ghost use Rattle.tt_frame.specs.Reading.{FieldRead, number_at, within_at, text_at};
+ghost use Rattle.tt_frame.specs.Rows.{ended_at};
+ghost use Rattle.tt_frame.specs.Tables.{MessageRead};
+
+use crate::bad::Bad;
+use crate::fields::Fields;
+use crate::ranges::UpTo;
+use crate::texts::Text;
+
+/// A number of one byte.
+pub fn number8(f: &mut Fields) -> Result<u8, Bad>
+    ensures { FieldRead (λ n. n) result f.new (number_at w8 f.old) }
+{
+    match f.u8() {
+        Some(n) => Ok(n),
+        None => Err(Bad::Malformed { at: f.at() }),
+    }
+}
+
+/// A number of two bytes.
+pub fn number16(f: &mut Fields) -> Result<u16, Bad>
+    ensures { FieldRead (λ n. n) result f.new (number_at w16 f.old) }
+{
+    match f.u16() {
+        Some(n) => Ok(n),
+        None => Err(Bad::Malformed { at: f.at() }),
+    }
+}
+
+/// A number of four bytes.
+pub fn number32(f: &mut Fields) -> Result<u32, Bad>
+    ensures { FieldRead (λ n. n) result f.new (number_at w32 f.old) }
+{
+    match f.u32() {
+        Some(n) => Ok(n),
+        None => Err(Bad::Malformed { at: f.at() }),
+    }
+}
+
+/// A number of one byte from 0 to `M`.
+#[tactic(auto, unfolding(crate::specs::Reading::within_at))]
+pub fn up_to<const M: u8>(f: &mut Fields) -> Result<UpTo<M>, Bad>
+    ensures { FieldRead (λ n. n) result f.new (within_at w8 M f.old) }
+{
+    let at = f.at();
+    let v = number8(f)?;
+    match UpTo::new(v) {
+        Some(n) => Ok(n),
+        None => Err(Bad::Malformed { at }),
+    }
+}
+
+/// A text of at most `N` bytes.
+pub fn text<const N: usize>(f: &mut Fields) -> Result<Text<N>, Bad>
+    ensures { FieldRead (λ t. t) result f.new (text_at N f.old) }
+{
+    let Some(bytes) = f.text(N) else {
+        return Err(Bad::Malformed { at: f.at() });
+    };
+    match Text::new(bytes) {
+        Some(text) => Ok(text),
+        None => unreachable!(),
+    }
+}
+
+/// The message, where nothing stands behind its last field.
+pub fn ended<M: Drop>(f: &Fields, message: M) -> Result<M, Bad>
+    ensures { MessageRead result (ended_at message f.now) }
+{
+    if f.done() {
+        Ok(message)
+    } else {
+        Err(Bad::Malformed { at: f.at() })
+    }
+}

@@ -1,0 +1,87 @@
+//! What an encoder of messages calls: `append(out, number, &parts)` writes one whole packet, or nothing.
+ghost use Rattle.std.specs.Prelude.{◌≡◌, ◌++◌, ◌∷◌, ◌≤◌, ◌+◌, length, take, OnOk, OnErr, vec_len};
+ghost use Rattle.tt_frame.specs.Packet.{packet};
+ghost use Rattle.tt_frame.specs.Parts.{part_spelled, parts_spelled, PartFits, PartsFit, sealed};
+
+use crate::memory::OutOfMemory;
+use crate::put::Put;
+
+/// A part of a body: a field's value.
+#[derive(Clone, Copy)]
+pub enum Part<'a> {
+    U8(u8),
+    U16(u16),
+    U32(u32),
+    /// A text; a zero byte is written behind it.
+    Words(&'a [u8]),
+}
+
+fn put_part(out: &mut Vec<u8>, part: &Part) -> Result<(), OutOfMemory>
+    requires { PartFits part.now }
+    ensures ok { OnOk result (out.new.items ≡ out.old.items ++ part_spelled part.now) }
+    ensures err { OnErr result (out.new.items ≡ out.old.items) }
+{
+    match part {
+        Part::U8(n) => Put::u8(out, *n),
+        Part::U16(n) => Put::u16(out, *n),
+        Part::U32(n) => Put::u32(out, *n),
+        Part::Words(bytes) => Put::text(out, bytes),
+    }
+}
+
+fn put_parts(out: &mut Vec<u8>, parts: &[Part]) -> Result<(), OutOfMemory>
+    requires { PartsFit parts.now }
+    ensures ok { OnOk result (out.new.items ≡ out.old.items ++ parts_spelled parts.now) }
+    ensures err { OnErr result (take (vec_len out.old) out.new.items ≡ out.old.items) }
+{
+    for part in parts {
+        if let Err(e) = put_part(out, part) {
+            return Err(e);
+        }
+    }
+    Ok(())
+}
+
+/// Writes the size of the packet that begins at `start` over its first two bytes.
+#[tactic(auto, unfolding(crate::specs::Parts::sealed))]
+fn seal(out: &mut Vec<u8>, start: usize)
+    requires header { start + 3 ≤ vec_len out.old }
+    requires size { vec_len out.old ≤ start + 32767 }
+    ensures { out.new.items ≡ sealed start out.old.items }
+{
+    let size = (out.len() - start) as u16;
+    let bytes = size.to_le_bytes();
+    out[start] = bytes[0];
+    out[start + 1] = bytes[1];
+}
+
+/// Two bytes for the size, the number, and the parts.
+fn put_all(out: &mut Vec<u8>, kind: u8, parts: &[Part]) -> Result<(), OutOfMemory>
+    requires { PartsFit parts.now }
+    ensures ok { OnOk result (out.new.items ≡ out.old.items ++ 0 ∷ 0 ∷ kind ∷ parts_spelled parts.now) }
+    ensures err { OnErr result (take (vec_len out.old) out.new.items ≡ out.old.items) }
+{
+    out.extend_from_slice(&[0, 0, kind])?;
+    put_parts(out, parts)
+}
+
+/// Appends one packet of that number, with the parts one behind the other as its body, or nothing where memory is
+/// refused.
+pub fn append(out: &mut Vec<u8>, kind: u8, parts: &[Part]) -> Result<(), OutOfMemory>
+    requires few { length parts.now ≤ 20 }
+    requires fit { PartsFit parts.now }
+    ensures ok { OnOk result (out.new.items ≡ out.old.items ++ packet kind (parts_spelled parts.now)) }
+    ensures err { OnErr result (out.new.items ≡ out.old.items) }
+{
+    let start = out.len();
+    match put_all(out, kind, parts) {
+        Ok(()) => {
+            seal(out, start);
+            Ok(())
+        }
+        Err(e) => {
+            out.truncate(start);
+            Err(e)
+        }
+    }
+}
