@@ -5,7 +5,8 @@ use Rattle.std.proofs.lemmas.List.{append-nil, drop_all, length-append, length-r
 use Rattle.tt_frame.specs.Packet.{IsBytes, packet_bytes, size_of}
 use Rattle.tt_frame.specs.Stream.{told_size, IsPartial, IsProperFront}
 use Rattle.tt_frame.specs.Framing.{BeginsWith}
-use Rattle.tt_frame.proofs.PacketLaws.{begins_with_packet, packet_in}
+use Rattle.tt_frame.proofs.PacketLaws.{begins_with_packet}
+use Rattle.tt_frame.specs.StreamReading.{packet_in}
 use Rattle.tt_frame.proofs.StreamLaws.{told_size-packet}
 use Rattle.tt_frame.proofs.RunLaws.{told_size-append}
 

@@ -6,11 +6,8 @@ use Rattle.std.proofs.lemmas.List.{drop-drop, drop-take, take-append-drop, lengt
 use Rattle.std.proofs.lemmas.List.Edits.{length-between}
 use Rattle.std.proofs.lemmas.Nat.{le_bytes_2}
 use Rattle.tt_frame.specs.Packet.{IsBytes, Packet, packet_bytes, size_of}
+use Rattle.tt_frame.specs.StreamReading.{packet_in}
 use Rattle.tt_frame.specs.Framing.{BeginsWith, GivesPacket}
-
--- the packet that stands in the first size bytes
-abbrev pub packet_in : List ℕ → ℕ → Packet
-packet_in bytes size = record { kind = get_or bytes 2 0; body = take (size - 3) (drop 3 bytes) }
 
 IsBytes-pair : (low high : ℕ) (more : List ℕ) → IsBytes (low ∷ high ∷ more) → IsBytes (low ∷ high ∷ [])
 IsBytes-pair low high more bytes zero = bytes 0

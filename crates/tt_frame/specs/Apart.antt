@@ -50,11 +50,14 @@ pub record Parted {M : Type 0} (table : List (Rule M)) : Type 0 where
   pub kind : ℕ
   pub values : Values (rule_of table kind).fields
 
+-- how it is written
 abbrev pub part : {M : Type 0} → (table : List (Rule M)) → (kind : ℕ) → Values (rule_of table kind).fields → Parted table
 part table kind values = record { kind = kind; values = values }
 
+-- the body that its values are spelled as
 abbrev pub parted_body : {M : Type 0} → (table : List (Rule M)) → Parted table → List ℕ
 parted_body table p = body_of (rule_of table p.kind).fields p.values
 
+-- its values are in their ranges
 abbrev pub PartedFits : {M : Type 0} → (table : List (Rule M)) → Parted table → Type 0
 PartedFits table p = ValuesFit (rule_of table p.kind).fields p.values

@@ -9,6 +9,7 @@ use Rattle.tt_frame.specs.Reading.{number_at, within_at, truth_at, text_at, dige
 pub data CountWidth : Type 0 where
   byte word : CountWidth
 
+-- the same as a width of numbers
 abbrev pub count_width : CountWidth → Width
 count_width byte = w8
 count_width word = w16
@@ -18,6 +19,7 @@ abbrev pub count_limit : CountWidth → ℕ
 count_limit byte = 2 ^ 8
 count_limit word = 2 ^ 16
 
+-- a field's form
 pub data Field : Type 0 where
   -- a number of 1, 2, 4 or 8 bytes
   u8 u16 u32 u64 : Field
@@ -51,10 +53,12 @@ Value digest = List ℕ
 Value optional_digest = Option (List ℕ)
 Value (raw n) = List ℕ
 
+-- the digest, or the empty text for none
 abbrev pub optional_bytes : Option (List ℕ) → List ℕ
 optional_bytes None = []
 optional_bytes (Some d) = d
 
+-- the byte of a truth value
 abbrev pub truth_number : Bool → ℕ
 truth_number true = 1
 truth_number false = 0
@@ -72,6 +76,7 @@ spelled digest d = text_bytes d
 spelled optional_digest o = text_bytes (optional_bytes o)
 spelled (raw n) s = s
 
+-- what is there is a digest
 abbrev pub IsOptionalDigest : Option (List ℕ) → Type 0
 IsOptionalDigest None = Unit {0}
 IsOptionalDigest (Some d) = is_digest d ≡ true

@@ -1,6 +1,7 @@
 pub mod Text
 pub mod Packet
 pub mod Stream
+pub mod StreamReading
 pub mod Holding
 pub mod Framing
 pub mod Runs

@@ -15,6 +15,7 @@ pub record Packet : Type 0 where
   pub kind : ℕ
   pub body : List ℕ
 
+-- its bytes
 abbrev pub packet_bytes : Packet → List ℕ
 packet_bytes p = packet p.kind p.body
 

@@ -13,6 +13,7 @@ part_spelled (U16 n) = spelled u16 n
 part_spelled (U32 n) = spelled u32 n
 part_spelled (Words s) = text_bytes s.now
 
+-- one part behind the other
 abbrev pub parts_spelled : List Part → List ℕ
 parts_spelled [] = []
 parts_spelled (p ∷ ps) = part_spelled p ++ parts_spelled ps
@@ -24,10 +25,13 @@ PartFits (U16 n) = Unit {0}
 PartFits (U32 n) = Unit {0}
 PartFits (Words s) = IsText s.now × (length s.now ≤ 1400)
 
+-- each of them does
 abbrev pub PartsFit : List Part → Type 0
 PartsFit [] = Unit {0}
 PartsFit (p ∷ ps) = PartFits p × PartsFit ps
 
 -- the size of what stands from start on, written over its first two bytes
 unfoldable pub sealed : ℕ → List ℕ → List ℕ
-sealed start bytes = let size = to_le_bytes w16 (length bytes - start) in slice_set (slice_set bytes start (slice_index size 0)) (start + 1) (slice_index size 1)
+sealed start bytes =
+    let size = to_le_bytes w16 (length bytes - start) in
+    slice_set (slice_set bytes start (slice_index size 0)) (start + 1) (slice_index size 1)

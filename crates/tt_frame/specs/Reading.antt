@@ -14,7 +14,9 @@ abbrev pub ◌>>=◌ : {A B : Type 0} → Result A ℕ → (A → Result B ℕ) 
 
 -- a number of that width, the low byte first
 unfoldable pub number_at : Width → Unread → Result (ℕ × Unread) ℕ
-number_at w s = if nat_lt (length s.rest) (byte_len w) then Err s.at else Ok (from_le_bytes w (take (byte_len w) s.rest), skip (byte_len w) s)
+number_at w s =
+    if nat_lt (length s.rest) (byte_len w) then Err s.at
+    else Ok (from_le_bytes w (take (byte_len w) s.rest), skip (byte_len w) s)
 
 -- a number of that width from 0 to max
 unfoldable pub within_at : Width → ℕ → Unread → Result (ℕ × Unread) ℕ

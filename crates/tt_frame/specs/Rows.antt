@@ -37,10 +37,24 @@ abbrev pub RowSpells : {M : Type 0} → (r : Row) → Maker r M → M → List �
 RowSpells unknown make m body = ⊥
 RowSpells end make m body = (m ≡ make) × (body ≡ [])
 RowSpells (rest low high) make m body = (m ≡ make body) × (low ≤ length body) × (length body ≤ high)
-RowSpells (f ▸ r) make m body = (x : Value f) × ((after : List ℕ) × (Fits f x × (body ≡ spelled f x ++ after) × RowSpells r (make x) m after))
-RowSpells (fixed byte r) make m body = (after : List ℕ) × ((body ≡ byte ∷ after) × RowSpells r make m after)
-RowSpells (counted w max fs r) make m body = (xs : List (Item fs)) × ((after : List ℕ) × (Fits (within w max) (length xs) × ItemsFit fs xs × (body ≡ spelled (within w max) (length xs) ++ items_spelled fs xs ++ after) × RowSpells r (make xs) m after))
-RowSpells (marked max fs r) make m body = (xs : List (Item fs)) × ((after : List ℕ) × ((length xs ≤ max) × ItemsFit fs xs × (body ≡ marked_spelled fs xs ++ after) × RowSpells r (make xs) m after))
+RowSpells (f ▸ r) make m body =
+    (x : Value f) × ((after : List ℕ) × (Fits f x × (body ≡ spelled f x ++ after) × RowSpells r (make x) m after))
+RowSpells (fixed byte r) make m body =
+    (after : List ℕ) × ((body ≡ byte ∷ after) × RowSpells r make m after)
+RowSpells (counted w max fs r) make m body =
+    (xs : List (Item fs)) × ((after : List ℕ) × (
+    Fits (within w max) (length xs)
+    × ItemsFit fs xs
+    × (body ≡ spelled (within w max) (length xs) ++ items_spelled fs xs ++ after)
+    × RowSpells r (make xs) m after
+    ))
+RowSpells (marked max fs r) make m body =
+    (xs : List (Item fs)) × ((after : List ℕ) × (
+    (length xs ≤ max)
+    × ItemsFit fs xs
+    × (body ≡ marked_spelled fs xs ++ after)
+    × RowSpells r (make xs) m after
+    ))
 
 -- the message, where nothing is left
 abbrev pub ended_at : {M : Type 0} → M → Unread → Result M ℕ

@@ -12,9 +12,11 @@ pub record Rule (M : Type 0) : Type 0 where
   pub fields : Row
   pub make : Maker fields M
 
+-- how a line is written in a table
 abbrev pub row : {M : Type 0} → ℕ → (r : Row) → Maker r M → Rule M
 row kind r make = record { kind = kind; fields = r; make = make }
 
+-- the line of a number that no message has
 abbrev pub no_rule : {M : Type 0} → Rule M
 no_rule = record { kind = 0; fields = unknown; make = tt }
 

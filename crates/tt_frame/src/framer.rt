@@ -24,8 +24,9 @@ pub enum Next<'a> {
     BadSize(u16),
 }
 
-/// What stands first in the bytes.
-fn first_of(bytes: &[u8], limit: u16) -> Next<'_>
+/// What stands first in the bytes, where packets have at most `limit` of them. It is for a reader that keeps the bytes
+/// itself; a `Framer` keeps them for one.
+pub fn first_of(bytes: &[u8], limit: u16) -> Next<'_>
     ensures { IsFirst limit bytes.now result }
 {
     if bytes.len() < 2 {

@@ -4,6 +4,7 @@ ghost use Rattle.std.specs.Prelude.{◌≡◌, ℕ, ◌<◌, ◌≤◌, ◌^◌,
 ghost use Rattle.tt_frame.specs.Text.{IsText, is_text};
 ghost use Rattle.tt_frame.specs.Packet.{IsBytes, Packet};
 ghost use Rattle.tt_frame.specs.Stream.{IsPartial, IsProperFront, End, Reads, Cut, Broken};
+ghost use Rattle.tt_frame.specs.StreamReading.{reading};
 ghost use Rattle.tt_frame.specs.Holding.{Holding};
 ghost use Rattle.tt_frame.specs.Framing.{Feeds, Gives, GivesPartial, GivesBadSize};
 ghost use Rattle.tt_frame.specs.declared.framer.Next.{Next};
@@ -34,6 +35,8 @@ pub fn one_reading()
         → (packets : List Packet) × (end : End) × Reads limit bytes packets end }
     ensures only { (limit : ℕ) (bytes : List ℕ) (packets others : List Packet) (end other : End) → limit < 2 ^ 16
         → Reads limit bytes packets end → Reads limit bytes others other → (packets ≡ others) × (end ≡ other) }
+    // It is the one that the function `reading` gives.
+    ensures reading { (limit : ℕ) (bytes : List ℕ) → 3 ≤ limit → IsBytes bytes → Reads limit bytes (reading limit bytes).0 (reading limit bytes).1 }
     // What is less than a packet is one byte or none, or a proper front of a packet.
     ensures partial { (limit : ℕ) (rest : List ℕ) → 3 ≤ limit → limit < 2 ^ 16 → IsBytes rest → 2 ≤ length rest
         → (IsPartial limit rest ↔ IsProperFront limit rest) }

@@ -16,7 +16,7 @@ mod writing;
 pub use bad::Bad;
 pub use decoding::{ended, number8, number16, number32, text, up_to};
 pub use fields::Fields;
-pub use framer::{Framer, Next};
+pub use framer::{Framer, Next, first_of};
 pub use laws::{every_run, one_field, one_reading, text_test};
 pub use memory::OutOfMemory;
 pub use put::Put;

@@ -11,8 +11,8 @@ use Rattle.std.proofs.lemmas.Str.{IsUtf8-from_ascii}
 use Rattle.std.proofs.lemmas.Str.Parse.{IsNumeralModel, numerals_by_value, tells_digits, parse_plain, digit_at}
 use Rattle.tt_replay.specs.Numbers.{StartsPlain}
 use Rattle.tt_replay.specs.Script.{IsLine, body_of}
-use Rattle.tt_replay.specs.declared.script.ScriptLine.{ScriptLine}
-use Rattle.tt_replay.specs.declared.script.ScriptLine.TheVariants.{Tick}
+use Rattle.tt_replay.specs.declared.script_line.ScriptLine.{ScriptLine}
+use Rattle.tt_replay.specs.declared.script_line.ScriptLine.TheVariants.{Tick}
 
 pub own : IsNumeralModel (AllDigits 10) (digits_value 10)
 own = numerals_by_value (AllDigits 10) tells_digits

@@ -1,2 +1,4 @@
 pub mod Decimals
+pub mod Breaks
+pub mod Pieces
 pub mod Lines

@@ -3,8 +3,8 @@ use Rattle.std.specs.Prelude.{List, replicate}
 use Rattle.std.specs.List.{flat_map}
 use Rattle.tt_edge.specs.declared.event.Event.{Event}
 use Rattle.tt_edge.specs.declared.event.Event.TheVariants as event
-use Rattle.tt_replay.specs.declared.script.ScriptLine.{ScriptLine}
-use Rattle.tt_replay.specs.declared.script.ScriptLine.TheVariants.{Tick}
+use Rattle.tt_replay.specs.declared.script_line.ScriptLine.{ScriptLine}
+use Rattle.tt_replay.specs.declared.script_line.ScriptLine.TheVariants.{Tick}
 
 -- the events of a line
 abbrev pub events_of : ScriptLine → List Event

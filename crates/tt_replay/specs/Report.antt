@@ -10,7 +10,7 @@ use Rattle.tt_hub.specs.Setup.{plain}
 use Rattle.tt_hub.specs.World.{WorldState}
 use Rattle.tt_hub.specs.Table.{table_of}
 use Rattle.tt_hub.specs.Hub.{world_of}
-use Rattle.tt_replay.specs.declared.script.ScriptLine.{ScriptLine}
+use Rattle.tt_replay.specs.declared.script_line.ScriptLine.{ScriptLine}
 use Rattle.tt_replay.specs.Played.{played}
 
 -- a word of 32 bits in eight hexadecimal digits

@@ -1,25 +1,49 @@
 -- What a script is: lines, each with one spelling.
-use Rattle.std.specs.Prelude.{◌≡◌, ◌≢◌, ℕ, ◌≤◌, List, [], ◌∷◌, ◌++◌, cond, ◌==◌, codes, sum_by, slice_index, EachIndex}
+use Rattle.std.specs.Prelude.{◌≡◌, ◌≢◌, ℕ, ◌^◌, ◌<◌, ◌≤◌, List, [], ◌∷◌, ◌++◌, cond, ◌==◌, codes, sum_by, length, slice_index, EachIndex}
 use Rattle.std.specs.List.{flat_map, AllByRecursion}
 use Rattle.std.specs.Fmt.{decimal}
-use Rattle.tt_replay.specs.declared.script.ScriptLine.{ScriptLine}
-use Rattle.tt_replay.specs.declared.script.ScriptLine.TheVariants.{Tick}
+use Rattle.hex.specs.Hex.{encode_lower}
+use Rattle.tt_frame.specs.Packet.{IsBytes}
+use Rattle.tt_replay.specs.declared.script_line.ScriptLine.{ScriptLine}
+use Rattle.tt_replay.specs.declared.script_line.ScriptLine.TheVariants.{Open, Bytes, Tick}
+
+-- a connection's number, and the bytes of a piece as pairs of hexadecimal digits
+abbrev pub piece_text : ℕ → List ℕ → List ℕ
+piece_text conn piece = decimal conn ++ 32 ∷ encode_lower piece
 
 -- a line without its line feed
 abbrev pub body_of : ScriptLine → List ℕ
+body_of Open = codes "open"
+body_of (Bytes conn piece) = codes "bytes " ++ piece_text conn piece
 body_of (Tick n) = codes "tick " ++ decimal n
 
--- the numbers that a line may have
+-- a piece of a stream: bytes, and at least one
+pub record IsPiece (piece : List ℕ) : Type 0 where
+  pub bytes : IsBytes piece
+  pub some : 0 < length piece
+
+-- what a line may have: a connection below 2 ^ 32 and a piece, or 1 to 1,000,000 ticks
 abbrev pub IsLine : ScriptLine → Type 0
+IsLine Open = Unit {0}
+IsLine (Bytes conn piece) = (conn < 2 ^ 32) × IsPiece piece
 IsLine (Tick n) = (1 ≤ n) × (n ≤ 1000000)
 
 -- how many ticks a line asks for
 abbrev pub ticks_of : ScriptLine → ℕ
+ticks_of Open = 0
+ticks_of (Bytes conn piece) = 0
 ticks_of (Tick n) = n
 
--- the lines of a script: each in its range, and at most 100 ticks in sum
+-- whether a line opens a connection
+abbrev pub openings_of : ScriptLine → ℕ
+openings_of Open = 1
+openings_of (Bytes conn piece) = 0
+openings_of (Tick n) = 0
+
+-- the lines of a script: each in its range, at most one opening, and at most 100 ticks in sum
 pub record IsScript (lines : List ScriptLine) : Type 0 where
   pub each : AllByRecursion IsLine lines
+  pub openings : sum_by openings_of lines ≤ 1
   pub ticks : sum_by ticks_of lines ≤ 100
 
 -- a line with its line feed
@@ -44,3 +68,7 @@ pub record Spells (lines : List ScriptLine) (bytes : List ℕ) : Type 0 where
 -- a text within one line
 abbrev pub HasNoBreak : List ℕ → Type 0
 HasNoBreak text = EachIndex text (λ i. slice_index text i ≢ 10)
+
+-- a text within one word
+abbrev pub HasNoBlank : List ℕ → Type 0
+HasNoBlank text = EachIndex text (λ i. slice_index text i ≢ 32)

@@ -3,7 +3,7 @@ use Rattle.std.specs.Prelude.{◌≡◌, ◌≤◌, ℕ, List, [], ◌∷◌, le
 use Rattle.std.specs.Str.{bytes_eq}
 use Rattle.std.specs.Io.KnownBytes.{Appends}
 use Rattle.tt_edge.specs.Sink.{AppendsPart}
-use Rattle.tt_replay.specs.declared.script.ScriptLine.{ScriptLine}
+use Rattle.tt_replay.specs.declared.script_line.ScriptLine.{ScriptLine}
 use Rattle.tt_replay.specs.Script.{Spells}
 use Rattle.tt_replay.specs.Report.{report}
 

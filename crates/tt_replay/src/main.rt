@@ -5,10 +5,12 @@
 #![tactic(auto)]
 
 mod help;
+mod number;
 mod play;
 mod replay;
 mod report;
 mod script;
+mod script_line;
 
 use crate::help::answer_of;
 use crate::replay::replay_main;

@@ -3,7 +3,7 @@ ghost use Rattle.std.specs.Prelude.{◌≡◌, ◌⊎◌, ◌≢◌, ◌<◌, �
 ghost use Rattle.std.specs.Io.KnownBytes.{Consumes, Keeps};
 ghost use Rattle.tt_edge.specs.Count.{Rose};
 ghost use Rattle.tt_edge.specs.Source.{ConsumesAtMost};
-ghost use Rattle.tt_replay.specs.declared.script.ScriptLine.{ScriptLine};
+ghost use Rattle.tt_replay.specs.declared.script_line.ScriptLine.{ScriptLine};
 ghost use Rattle.tt_replay.specs.Script.{IsScript, Spells};
 ghost use Rattle.tt_replay.specs.Report.{report};
 ghost use Rattle.tt_replay.specs.Statuses.{is_run, input_limit, IsNoScript, IsReported, IsPartlyReported};

@@ -1,4 +1,4 @@
-use Rattle.tt_frame.proofs.StreamLaws.{some_reading, same_reading}
+use Rattle.tt_frame.proofs.StreamLaws.{some_reading, same_reading, reading_reads}
 use Rattle.tt_frame.proofs.FrontLaws.{proper_front, front_is_partial}
 use Rattle.tt_frame.proofs.laws.one_reading.Goals as goal
 
@@ -10,3 +10,6 @@ returns-clause-only c limit bytes ps qs d e small a b = same_reading limit bytes
 
 pub returns-clause-partial : goal.returns-clause-partial
 returns-clause-partial c limit rest least small fits two = (proper_front limit rest fits two, front_is_partial limit rest small two)
+
+pub returns-clause-reading : goal.returns-clause-reading
+returns-clause-reading c limit bytes least fits = reading_reads limit bytes least fits

@@ -1,4 +1,4 @@
-use Rattle.std.proofs.Common.{◌≡◌, ℕ, List, ◌++◌, Result, Ok, refl, sym, ap, subst}
+use Rattle.std.proofs.Common.{◌≡◌, ℕ, List, ◌++◌, Ok, refl, sym, subst}
 use Rattle.tt_frame.specs.Packet.{Packet, packet}
 use Rattle.tt_frame.specs.Framing.{BeginsWith}
 use Rattle.tt_frame.specs.Unread.{whole}

@@ -1,0 +1,11 @@
+pub mod Journals
+pub mod Views
+pub mod Followers
+pub mod Clients
+pub mod Servers
+pub mod Streams
+pub mod Leading
+pub mod Dialogs
+pub mod Wires
+pub mod Ruled
+pub mod Runners
