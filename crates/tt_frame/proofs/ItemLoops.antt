@@ -1,12 +1,12 @@
 -- Items read one behind the other in a loop.
-use Rattle.std.proofs.Common.{◌≡◌, ℕ, suc, ◌+◌, ◌-◌, ◌<◌, ◌≤◌, List, [], ◌∷◌, ◌++◌, Result, Ok, Err, refl, sym, ap, ◌∙◌, append_assoc, arith}
-use Rattle.std.proofs.lemmas.List.{append-nil}
+use Rattle.std.proofs.Common.{◌≡◌, ℕ, suc, ◌+◌, ◌-◌, ◌<◌, ◌≤◌, List, [], ◌∷◌, ◌++◌, length, get_or, take, Result, Ok, Err, refl, sym, ap, ◌∙◌, append_assoc, arith}
+use Rattle.std.proofs.lemmas.List.{append-nil, take_more}
 use Rattle.tt_frame.specs.Unread.{Unread}
 use Rattle.tt_frame.specs.Reading.{◌>>=◌, FieldRead}
 use Rattle.tt_frame.specs.declared.bad.Bad.{Bad}
 use Rattle.tt_frame.specs.declared.bad.Bad.TheVariants.{Memory, Malformed}
 use Rattle.tt_frame.specs.FieldForms.{Field}
-use Rattle.tt_frame.specs.ItemForms.{Item, item_at, items_at}
+use Rattle.tt_frame.specs.ItemForms.{Item, item_spelled, ItemFits, item_at, items_spelled, ItemsFit, items_at}
 
 -- these items first
 abbrev pub with_front : (fs : List Field) → List (Item fs) → Result (List (Item fs) × Unread) ℕ → Result (List (Item fs) × Unread) ℕ
@@ -44,3 +44,19 @@ pub fails_as : (X Z : Type 0) (fs : List Field) (view : X → List (Item fs)) (o
     → with_front fs front (items_at fs (n - i) s) ≡ total → FieldRead view (Err e) u total
 fails_as X Z fs view one Memory front n i s t u total lt h so_far = tt
 fails_as X Z fs view one (Malformed at) front n i s t u total lt h so_far = fails fs front n i s at total lt h so_far
+
+items_spelled-append : (fs : List Field) (xs ys : List (Item fs)) → items_spelled fs (xs ++ ys) ≡ items_spelled fs xs ++ items_spelled fs ys
+items_spelled-append fs [] ys = refl
+items_spelled-append fs (x ∷ xs) ys = ap (λ (r : List ℕ). item_spelled fs x ++ r) (items_spelled-append fs xs ys) ∙ sym (append_assoc (item_spelled fs x) (items_spelled fs xs) (items_spelled fs ys))
+
+-- one item more is written behind the others
+pub items_more : (fs : List Field) (xs : List (Item fs)) (i : ℕ) (x : Item fs) → i < length xs → items_spelled fs (take (i + 1) xs) ≡ items_spelled fs (take i xs) ++ item_spelled fs (get_or xs i x)
+items_more fs xs i x lt =
+    ap (λ (ys : List (Item fs)). items_spelled fs ys) (take_more xs i x lt)
+    ∙ items_spelled-append fs (take i xs) (get_or xs i x ∷ [])
+    ∙ ap (λ (r : List ℕ). items_spelled fs (take i xs) ++ r) (append-nil (item_spelled fs (get_or xs i x)))
+
+-- one item more that fits
+pub ItemsFit-push : (fs : List Field) (xs : List (Item fs)) (x : Item fs) → ItemsFit fs xs → ItemFits fs x → ItemsFit fs (xs ++ x ∷ [])
+ItemsFit-push fs [] x fit one = (one, tt)
+ItemsFit-push fs (y ∷ xs) x fit one = (fit.0, ItemsFit-push fs xs x fit.1 one)

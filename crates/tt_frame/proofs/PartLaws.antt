@@ -5,7 +5,7 @@ use Rattle.std.proofs.Math.Seq.{set-append_seam}
 use Rattle.tt_frame.specs.Packet.{packet}
 use Rattle.tt_frame.specs.Parts.{part_spelled, parts_spelled, PartFits, PartsFit, sealed}
 use Rattle.tt_frame.specs.declared.writing.Part.{Part}
-use Rattle.tt_frame.specs.declared.writing.Part.TheVariants.{U8, U16, U32, Words}
+use Rattle.tt_frame.specs.declared.writing.Part.TheVariants.{U8, U16, U32, U64, Truth, Words, Raw}
 
 parts_spelled-append : (ps qs : List Part) → parts_spelled (ps ++ qs) ≡ parts_spelled ps ++ parts_spelled qs
 parts_spelled-append [] qs = refl
@@ -29,7 +29,10 @@ part_bound : (p : Part) → PartFits p → length (part_spelled p) ≤ 1401
 part_bound (U8 n) h = omega arith
 part_bound (U16 n) h = omega arith
 part_bound (U32 n) h = omega arith
+part_bound (U64 n) h = omega arith
+part_bound (Truth b) h = omega arith
 part_bound (Words s) h = omega (arith, h.1, length-append s.now (0 ∷ []))
+part_bound (Raw s) h = omega (arith, h)
 
 pub parts_bound : (ps : List Part) → PartsFit ps → length (parts_spelled ps) ≤ 1401 * length ps
 parts_bound [] h = omega arith

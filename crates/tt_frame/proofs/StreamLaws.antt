@@ -124,7 +124,7 @@ splits_more limit bytes p more ps rest first later = record {
   each = (first.fits, later.each);
 }
 
-reads_more : (limit : ℕ) (bytes : List ℕ) (p : Packet) (more : List ℕ) (ps : List Packet) (end : End) → BeginsWith limit bytes p more → Reads limit more ps end → Reads limit bytes (p ∷ ps) end
+pub reads_more : (limit : ℕ) (bytes : List ℕ) (p : Packet) (more : List ℕ) (ps : List Packet) (end : End) → BeginsWith limit bytes p more → Reads limit more ps end → Reads limit bytes (p ∷ ps) end
 reads_more limit bytes p more ps (rest_of rest) first later = record { splits = splits_more limit bytes p more ps rest first later.splits; partial = later.partial }
 reads_more limit bytes p more ps (bad_size n) first later = record { rest = later.rest; splits = splits_more limit bytes p more ps later.rest first later.splits; bad = later.bad }
 

@@ -1,6 +1,6 @@
 -- The test of a text is true exactly of the texts.
-use Rattle.std.proofs.Common.{◌≡◌, ℕ, ◌≤◌, ◌<◌, ◌↔◌, List, length, Bool, true, false, refl, arith}
-use Rattle.std.specs.Prelude.{◌&&◌, ◌==◌, nat_le}
+use Rattle.std.proofs.Common.{◌≡◌, ℕ, ◌≤◌, ◌<◌, ◌↔◌, List, length, Bool, true, false, refl, arith, ◌⊎◌, inl, inr}
+use Rattle.std.specs.Prelude.{◌&&◌, ◌||◌, ◌==◌, nat_le}
 use Rattle.std.specs.List.{list_all}
 use Rattle.std.specs.Str.{IsUtf8, is_utf8}
 use Rattle.std.proofs.lemmas.Str.{IsUtf8-from_is_utf8, IsUtf8-from_ascii, is_utf8-from_IsUtf8}
@@ -81,3 +81,22 @@ eq_of_test a b e = grind arith
 pub length_of_digest : (bytes : List ℕ) → is_digest bytes ≡ true → length bytes ≡ 32
 unfolding is_digest
 length_of_digest bytes e = eq_of_test (length bytes) 32 (and_both (length bytes == 32) (list_all is_hex_digit bytes) e).0
+
+either : (a b : Bool) → a || b ≡ true → (a ≡ true) ⊎ (b ≡ true)
+either true b e = inl refl
+either false b e = inr e
+
+-- a hexadecimal digit is a printable character
+plain_digit : (b : ℕ) → is_hex_digit b ≡ true → nat_le 32 b && nat_le b 126 ≡ true
+plain_digit b e = elim (either (nat_le 48 b && nat_le b 57) (nat_le 97 b && nat_le b 102) e) [
+  | inl low ↦ let both = and_both (nat_le 48 b) (nat_le b 57) low in both_and (nat_le 32 b) (nat_le b 126) (test_of_le 32 b (let le = le_of_test 48 b both.0 in omega arith)) (test_of_le b 126 (let le = le_of_test b 57 both.1 in omega arith))
+  | inr high ↦ let both = and_both (nat_le 97 b) (nat_le b 102) high in both_and (nat_le 32 b) (nat_le b 126) (test_of_le 32 b (let le = le_of_test 97 b both.0 in omega arith)) (test_of_le b 126 (let le = le_of_test b 102 both.1 in omega arith))
+]
+
+digits_of : (bytes : List ℕ) → is_digest bytes ≡ true → list_all is_hex_digit bytes ≡ true
+unfolding is_digest
+digits_of bytes e = (and_both (length bytes == 32) (list_all is_hex_digit bytes) e).1
+
+-- a digest is a text
+pub IsText-from_is_digest : (bytes : List ℕ) → is_digest bytes ≡ true → IsText bytes
+IsText-from_is_digest bytes e = IsText-from_is_plain bytes (list_all-from_AllPass (λ b. nat_le 32 b && nat_le b 126) bytes (All-weaker (λ b. is_hex_digit b ≡ true) (λ b. nat_le 32 b && nat_le b 126 ≡ true) plain_digit bytes (AllPass-from_list_all is_hex_digit bytes (digits_of bytes e))))

@@ -3,12 +3,13 @@
 //! A message's function is one struct literal of these, `text(f)?`, `number32(f)?` and so on in the order of its row, and
 //! then `ended(f, message)`.
 ghost use Rattle.std.specs.Prelude.{◌≡◌};
-ghost use Rattle.std.specs.Int.{w8, w16, w32};
-ghost use Rattle.tt_frame.specs.Reading.{FieldRead, number_at, within_at, text_at};
+ghost use Rattle.std.specs.Int.{w8, w16, w32, w64};
+ghost use Rattle.tt_frame.specs.Reading.{FieldRead, number_at, within_at, truth_at, text_at, digest_at, optional_digest_at, raw_at};
 ghost use Rattle.tt_frame.specs.Rows.{ended_at};
 ghost use Rattle.tt_frame.specs.Tables.{MessageRead};
 
 use crate::bad::Bad;
+use crate::digests::Digest;
 use crate::fields::Fields;
 use crate::ranges::UpTo;
 use crate::texts::Text;
@@ -43,6 +44,26 @@ pub fn number32(f: &mut Fields) -> Result<u32, Bad>
     }
 }
 
+/// A number of eight bytes.
+pub fn number64(f: &mut Fields) -> Result<u64, Bad>
+    ensures { FieldRead (λ n. n) result f.new (number_at w64 f.old) }
+{
+    match f.u64() {
+        Some(n) => Ok(n),
+        None => Err(Bad::Malformed { at: f.at() }),
+    }
+}
+
+/// A byte that is 0 for false or 1 for true.
+pub fn truth(f: &mut Fields) -> Result<bool, Bad>
+    ensures { FieldRead (λ b. b) result f.new (truth_at f.old) }
+{
+    match f.bool() {
+        Some(b) => Ok(b),
+        None => Err(Bad::Malformed { at: f.at() }),
+    }
+}
+
 /// A number of one byte from 0 to `M`.
 #[tactic(auto, unfolding(crate::specs::Reading::within_at))]
 pub fn up_to<const M: u8>(f: &mut Fields) -> Result<UpTo<M>, Bad>
@@ -66,6 +87,40 @@ pub fn text<const N: usize>(f: &mut Fields) -> Result<Text<N>, Bad>
     match Text::new(bytes) {
         Some(text) => Ok(text),
         None => unreachable!(),
+    }
+}
+
+/// A digest.
+pub fn digest(f: &mut Fields) -> Result<Digest, Bad>
+    ensures { FieldRead (λ digest. digest) result f.new (digest_at f.old) }
+{
+    match f.digest() {
+        Some(digest) => Ok(digest),
+        None => Err(Bad::Malformed { at: f.at() }),
+    }
+}
+
+/// A digest, or None where the text in its place is empty.
+pub fn optional_digest(f: &mut Fields) -> Result<Option<Digest>, Bad>
+    ensures { FieldRead (λ digest. digest) result f.new (optional_digest_at f.old) }
+{
+    match f.optional_digest() {
+        Some(digest) => Ok(digest),
+        None => Err(Bad::Malformed { at: f.at() }),
+    }
+}
+
+/// The next `N` bytes, as they are.
+pub fn raw<const N: usize>(f: &mut Fields) -> Result<[u8; N], Bad>
+    ensures { FieldRead (λ bytes. bytes) result f.new (raw_at N f.old) }
+{
+    let mut kept = [0; N];
+    match f.raw(N) {
+        Some(bytes) => {
+            kept.copy_from_slice(bytes);
+            Ok(kept)
+        }
+        None => Err(Bad::Malformed { at: f.at() }),
     }
 }
 

@@ -26,6 +26,7 @@ pub enum Next<'a> {
 
 /// What stands first in the bytes, where packets have at most `limit` of them. It is for a reader that keeps the bytes
 /// itself; a `Framer` keeps them for one.
+#[inline(always)]
 pub fn first_of(bytes: &[u8], limit: u16) -> Next<'_>
     ensures { IsFirst limit bytes.now result }
 {
@@ -90,6 +91,7 @@ impl Framer {
 
     /// Takes the first bytes of the piece, as many as there is room for, and answers how many. After a bad size it takes
     /// all, and forgets them.
+    #[inline]
     pub fn feed(&mut self, piece: &[u8]) -> usize
         ensures { Feeds self.old piece.now result self.new }
     {
@@ -104,6 +106,7 @@ impl Framer {
     }
 
     /// Gives the first whole packet, and lets go of it; or says that there is none yet, or that none can come.
+    #[inline]
     pub fn next(&mut self) -> Next<'_>
         ensures* after { sem 𝓛 (Rests the_row self.entry (λ new. Gives self.old result new)) }
     {
@@ -114,5 +117,14 @@ impl Framer {
             Next::BadSize(_) => self.broken = true,
         }
         next
+    }
+
+    /// Forgets what is held, and a bad size that was met: the framer is as it was when it was made, for another stream.
+    pub fn clear(&mut self)
+        ensures { self.new ≡ record { limit = self.old.limit; held = []; broken = false } }
+    {
+        self.start = 0;
+        self.end = 0;
+        self.broken = false;
     }
 }

@@ -1,9 +1,17 @@
 //! Cuts a stream of bytes into packets, however the stream is cut.
+//!
+//! - `Text`, `Name`, `Digest` and `UpTo` are values within their limits: each is made by one tested constructor.
+//! - `Fields` reads a body field by field and `Put` writes fields; `one_field` is the law of reading.
+//! - `Framer` gives the packets of a stream that comes in pieces; `one_reading` and `every_run` are its laws.
+//! - The message crates stand on `text`, `number32`, `ended` and the like for decoding and on `append` for encoding. What a
+//!   table of messages means is in specs/: FieldForms, ItemForms, Rows, Stops, Tables, Apart.
+//! - `OutOfMemory` and `Bad` are the errors. Only `Framer::new`, `Put` and `append` take memory, and nothing waits.
 #![tactic(auto)]
 
 mod bad;
 mod buffer;
 mod decoding;
+mod digests;
 mod fields;
 mod framer;
 mod laws;
@@ -14,7 +22,10 @@ mod texts;
 mod writing;
 
 pub use bad::Bad;
-pub use decoding::{ended, number8, number16, number32, text, up_to};
+pub use decoding::{
+    digest, ended, number8, number16, number32, number64, optional_digest, raw, text, truth, up_to,
+};
+pub use digests::{Digest, digits_or_none};
 pub use fields::Fields;
 pub use framer::{Framer, Next, first_of};
 pub use laws::{every_run, one_field, one_reading, text_test};

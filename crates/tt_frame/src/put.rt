@@ -1,7 +1,8 @@
 //! A writer of fields: each call appends exactly one field to a vector, or leaves it as it was.
 ghost use Rattle.std.specs.Prelude.{◌≡◌, ◌++◌, length, OnOk, OnErr};
-ghost use Rattle.std.specs.Int.{w8, w16, w32, to_le_bytes};
+ghost use Rattle.std.specs.Int.{w8, w16, w32, w64, to_le_bytes};
 ghost use Rattle.tt_frame.specs.Text.{IsText, text_bytes};
+ghost use Rattle.tt_frame.specs.FieldForms.{truth_number};
 
 use crate::memory::OutOfMemory;
 
@@ -40,6 +41,22 @@ impl Put {
         ensures err { OnErr result (out.new.items ≡ out.old.items) }
     {
         Put::raw(out, &v.to_le_bytes())
+    }
+
+    /// Eight bytes, the low one first.
+    pub fn u64(out: &mut Vec<u8>, v: u64) -> Result<(), OutOfMemory>
+        ensures ok { OnOk result (out.new.items ≡ out.old.items ++ to_le_bytes w64 v) }
+        ensures err { OnErr result (out.new.items ≡ out.old.items) }
+    {
+        Put::raw(out, &v.to_le_bytes())
+    }
+
+    /// One byte: 1 for true, 0 for false.
+    pub fn bool(out: &mut Vec<u8>, v: bool) -> Result<(), OutOfMemory>
+        ensures ok { OnOk result (out.new.items ≡ out.old.items ++ to_le_bytes w8 (truth_number v)) }
+        ensures err { OnErr result (out.new.items ≡ out.old.items) }
+    {
+        Put::u8(out, v as u8)
     }
 
     /// A text, and a zero byte behind it.

@@ -2,8 +2,9 @@
 ghost use Rattle.std.specs.Prelude.{◌≡◌, [], codes};
 
 use crate::{
-    Bad, Fields, Framer, Line, Name, Next, Part, Put, Short, UpTo, append, ended, number8,
-    number16, number32, text, up_to,
+    Bad, Digest, Fields, Framer, Line, Name, Next, Part, Put, Short, UpTo, append, digest,
+    digits_or_none, ended, number8, number16, number32, number64, optional_digest, raw, text,
+    truth, up_to,
 };
 use std::test::Fail;
 
@@ -96,6 +97,64 @@ fn a_bad_size_stays(rt: HostRuntime) -> Result<(), Fail> {
 }
 
 #[test]
+fn a_cleared_framer_is_new(rt: HostRuntime) -> Result<(), Fail> {
+    let mut framer = Framer::new(rt.alloc(), 6)?;
+    assert_eq!(rt; framer.feed(&[7, 0]), 2);
+    assert!(rt; matches!(framer.next(), Next::BadSize(7)));
+    framer.clear();
+    assert!(rt; matches!(framer.next(), Next::Partial));
+    assert_eq!(rt; framer.feed(&[3, 0, 37, 4, 0, 1, 2]), 6);
+    assert!(rt; matches!(framer.next(), Next::Packet { kind: 37, .. }));
+    Ok(())
+}
+
+/// 32 lower-case hexadecimal digits.
+const DIGITS: [u8; 32] = *b"0123456789abcdef0123456789abcdef";
+
+#[test]
+fn a_digest_is_32_lower_case_hexadecimal_digits(rt: HostRuntime) -> Result<(), Fail> {
+    let digits = DIGITS;
+    let digest = Digest::new(&digits).ok_or("a digest")?;
+    assert_eq!(rt; digest.bytes(), digits.as_slice());
+    assert_eq!(rt; digits_or_none(&Some(digest)), digits.as_slice());
+    assert_eq!(rt; digits_or_none(&None).len(), 0);
+    assert!(rt; Digest::new(&digits[1..]).is_none());
+    assert!(rt; Digest::new(&[b'0'; 33]).is_none());
+    assert!(rt; Digest::new(&[]).is_none());
+    for byte in [47, 58, b'A', b'F', 96, 103] {
+        let mut other = DIGITS;
+        other[31] = byte;
+        assert!(rt; Digest::new(&other).is_none());
+    }
+    Ok(())
+}
+
+#[test]
+fn the_other_fields_are_put_and_read(rt: HostRuntime) -> Result<(), Fail> {
+    let mut out = Vec::new(rt.alloc());
+    Put::u64(&mut out, 0x0102_0304_0506_0708)?;
+    Put::bool(&mut out, true)?;
+    Put::bool(&mut out, false)?;
+    Put::raw(&mut out, &[2, 9, 10])?;
+    assert_eq!(rt;
+        out.as_slice(),
+        [8, 7, 6, 5, 4, 3, 2, 1, 1, 0, 2, 9, 10].as_slice()
+    );
+    let mut fields = Fields::new(out.as_slice());
+    assert_eq!(rt; fields.u64(), Some(0x0102_0304_0506_0708));
+    assert_eq!(rt; fields.bool(), Some(true));
+    assert_eq!(rt; fields.bool(), Some(false));
+    assert_eq!(rt; fields.bool(), None);
+    assert!(rt; fields.raw(4).is_none());
+    assert_eq!(rt; fields.at(), 10);
+    assert_eq!(rt; fields.raw(1).ok_or("a byte")?, [2].as_slice());
+    assert_eq!(rt; fields.rest(), [9, 10].as_slice());
+    assert_eq!(rt; fields.at(), 13);
+    assert_eq!(rt; fields.u64(), None);
+    Ok(())
+}
+
+#[test]
 fn what_was_put_is_read(rt: HostRuntime) -> Result<(), Fail> {
     let name = Name::new(b"Ann").ok_or("a name")?;
     let mut out = Vec::new(rt.alloc());
@@ -146,6 +205,76 @@ fn a_field_that_is_not_there_is_told_by_its_place(rt: HostRuntime) {
             Err(Bad::Malformed { at: 10 })
         )
     );
+}
+
+/// A number of eight bytes, a truth, two bytes, a digest, and one that may be left out.
+fn read_others(body: &[u8]) -> Result<(u64, bool, [u8; 2], Digest, Option<Digest>), Bad> {
+    let mut fields = Fields::new(body);
+    let f = &mut fields;
+    let all = (
+        number64(f)?,
+        truth(f)?,
+        raw(f)?,
+        digest(f)?,
+        optional_digest(f)?,
+    );
+    ended(f, all)
+}
+
+/// 5, true, the bytes 6 and 7, the digits, and behind them an empty text.
+fn others() -> [u8; 45] {
+    let mut body = [0; 45];
+    body[0] = 5;
+    body[8] = 1;
+    body[9] = 6;
+    body[10] = 7;
+    body[11..43].copy_from_slice(&DIGITS);
+    body
+}
+
+#[test]
+fn a_digest_may_be_left_out(rt: HostRuntime) -> Result<(), Fail> {
+    let all = read_others(&others())?;
+    assert_eq!(rt; all.0, 5);
+    assert!(rt; all.1);
+    assert_eq!(rt; all.2.as_slice(), [6, 7].as_slice());
+    let digits = DIGITS;
+    assert_eq!(rt; all.3.bytes(), digits.as_slice());
+    assert!(rt; all.4.is_none());
+    Ok(())
+}
+
+#[test]
+fn another_field_that_is_not_there_is_told_by_its_place(rt: HostRuntime) {
+    for (place, byte, told) in [
+        (8, 2, 8),
+        (11, b'A', 11),
+        (42, 0, 11),
+        (43, b'0', 11),
+        (44, b'a', 44),
+    ] {
+        let mut body = others();
+        body[place] = byte;
+        match read_others(&body) {
+            Err(Bad::Malformed { at }) => assert_eq!(rt; at, told),
+            _ => assert!(rt; false),
+        }
+    }
+}
+
+#[test]
+fn a_packet_of_other_parts_is_appended_whole(rt: HostRuntime) -> Result<(), Fail> {
+    let mut out = Vec::new(rt.alloc());
+    append(
+        &mut out,
+        9,
+        &[Part::U64(1), Part::Truth(true), Part::Raw(&[7, 8])],
+    )?;
+    assert_eq!(rt;
+        out.as_slice(),
+        [14, 0, 9, 1, 0, 0, 0, 0, 0, 0, 0, 1, 7, 8].as_slice()
+    );
+    Ok(())
 }
 
 #[test]

@@ -12,8 +12,12 @@ pub enum Part<'a> {
     U8(u8),
     U16(u16),
     U32(u32),
+    U64(u64),
+    Truth(bool),
     /// A text; a zero byte is written behind it.
     Words(&'a [u8]),
+    /// Bytes as they are.
+    Raw(&'a [u8]),
 }
 
 fn put_part(out: &mut Vec<u8>, part: &Part) -> Result<(), OutOfMemory>
@@ -25,7 +29,10 @@ fn put_part(out: &mut Vec<u8>, part: &Part) -> Result<(), OutOfMemory>
         Part::U8(n) => Put::u8(out, *n),
         Part::U16(n) => Put::u16(out, *n),
         Part::U32(n) => Put::u32(out, *n),
+        Part::U64(n) => Put::u64(out, *n),
+        Part::Truth(b) => Put::bool(out, *b),
         Part::Words(bytes) => Put::text(out, bytes),
+        Part::Raw(bytes) => Put::raw(out, bytes),
     }
 }
 
