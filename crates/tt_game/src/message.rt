@@ -1,10 +1,17 @@
 //! The messages between a client and the server of a game.
-use tt_frame::{Text, UpTo};
+use crate::files::Files;
+use crate::map_piece::MapPiece;
+use tt_frame::{Digest, Text, UpTo};
 
-/// A message between a client and the server.
+/// A message between a client and the server. Each field's type holds exactly the values that have a spelling.
 #[derive(Debug, PartialEq, Eq, Drop)]
 pub enum GameMsg {
-    /// 2, from a client: it asks to join, with its revision and NewGRF version, its name, and the company that it wants.
+    /// 0, from the server: it has no room for the client, and the connection ends.
+    ServerFull,
+    /// 1, from the server: the client may not join. It is never sent.
+    ServerBanned,
+    /// 2, from a client: it asks to join, with its revision and NewGRF version, its name, and the company that it wants
+    /// (255 none, 254 a new one).
     ClientJoin {
         revision: Text<31>,
         grf: u32,
@@ -15,12 +22,160 @@ pub enum GameMsg {
     ServerError {
         code: UpTo<20>,
     },
+    /// 4, from a client: it asks what game this is.
+    ClientGameInfo,
+    /// 5, from the server: the game, with its name, its frame, how many clients and companies it has, how many clients
+    /// it takes, and whether it wants a password.
+    ServerGameInfo {
+        name: Text<31>,
+        frame: u32,
+        clients: u8,
+        companies: u8,
+        max: u8,
+        password: bool,
+    },
+    /// 6, from the server: the files that the client must have. It is never sent.
+    ServerCheckNewgrfs {
+        items: Files,
+    },
+    /// 7, from a client: it has all the files.
+    ClientNewgrfsChecked,
+    /// 8, from the server: the game wants a password, salted by this seed and id.
+    ServerNeedGamePassword {
+        seed: u32,
+        id: Text<31>,
+    },
+    /// 9, from a client: the digest of the game's password.
+    ClientGamePassword {
+        digest: Digest,
+    },
+    /// 10, from the server: the company wants a password, salted by this seed and id.
+    ServerNeedCompanyPassword {
+        seed: u32,
+        id: Text<31>,
+    },
+    /// 11, from a client: the digest of the company's password.
+    ClientCompanyPassword {
+        digest: Digest,
+    },
     /// 12, from the server: the client is let in, by this number. Seed and id salt its passwords.
     ServerWelcome {
         client: u32,
         seed: u32,
         id: Text<31>,
     },
+    /// 13, from a client: it asks for the map.
+    ClientGetmap,
+    /// 14, from the server: the map comes later, since so many clients are before this one.
+    ServerWait {
+        number: u8,
+    },
+    /// 15, from the server: the map begins, as it was at this frame.
+    ServerMapBegin {
+        frame: u32,
+    },
+    /// 16, from the server: the map has so many bytes.
+    ServerMapSize {
+        size: u32,
+    },
+    /// 17, from the server: the next piece of the map.
+    ServerMapData {
+        rest: MapPiece,
+    },
+    /// 18, from the server: the map is whole.
+    ServerMapDone,
+    /// 19, from a client: it holds the map's world.
+    ClientMapOk,
+    /// 20, from the server: this client plays now.
+    ServerJoin {
+        client: u32,
+    },
+    /// 21, from the server: it is at this frame, and clients may run up to the frame `max`.
+    ServerFrame {
+        frame: u32,
+        max: u32,
+    },
+    /// 22, from the server: at this frame the world's random word is this.
+    ServerSync {
+        frame: u32,
+        word: u32,
+    },
+    /// 23, from a client: it has run up to this frame.
+    ClientAck {
+        frame: u32,
+    },
+    /// 24, from a client: a command of its company, to be run by all. `code` says which, and number, `to` and text are
+    /// what it wants.
+    ClientCommand {
+        company: u8,
+        code: u16,
+        number: u32,
+        to: u8,
+        text: Text<31>,
+    },
+    /// 25, from the server: a command that all run at this frame, and the client that gave it.
+    ServerCommand {
+        company: u8,
+        code: u16,
+        number: u32,
+        to: u8,
+        text: Text<31>,
+        frame: u32,
+        sender: u32,
+    },
+    /// 26, from a client: a line for all (scope 0), for the company `to` (1), or for the client `to` (2).
+    ClientChat {
+        scope: UpTo<2>,
+        to: u32,
+        text: Text<899>,
+    },
+    /// 27, from the server: a line that this client said, in that scope.
+    ServerChat {
+        client: u32,
+        scope: UpTo<2>,
+        text: Text<899>,
+    },
+    /// 28, from a client: its new name.
+    ClientSetName {
+        name: Text<24>,
+    },
+    /// 29, from the server: a client, its company and its name.
+    ServerClientInfo {
+        client: u32,
+        company: u8,
+        name: Text<24>,
+    },
+    /// 30, from a client: its company's new password, or none.
+    ClientSetPassword {
+        digest: Option<Digest>,
+    },
+    /// 31, from a client: it moves to this company, which may want a password.
+    ClientMove {
+        company: u8,
+        digest: Option<Digest>,
+    },
+    /// 32, from the server: this client moved to this company.
+    ServerMove {
+        client: u32,
+        company: u8,
+    },
+    /// 33, from a client: it leaves, for this reason.
+    ClientError {
+        code: UpTo<20>,
+    },
+    /// 34, from the server: this client was ended, for this reason.
+    ServerErrorQuit {
+        client: u32,
+        code: UpTo<20>,
+    },
+    /// 35, from a client: it leaves.
+    ClientQuit,
+    /// 36, from the server: this client left.
+    ServerQuit {
+        client: u32,
+    },
     /// 37, from the server: the game is over.
     ServerShutdown,
+    /// 38, from the server: another game begins. It is never sent.
+    ServerNewgame,
 }

@@ -1,4 +1,4 @@
-//! From a packet's number and body to the message: one function for each message with fields.
+//! From a packet's number and body to the message. The functions of the fields of each message stand in three groups.
 ghost use Rattle.std.specs.Prelude.{◌≡◌, ℕ, ◌⊎◌, IfOk, Ok, Err};
 ghost use Rattle.tt_frame.specs.declared.bad.Bad.TheVariants.{Malformed, Memory};
 ghost use Rattle.tt_frame.specs.Unread.{whole};
@@ -6,39 +6,13 @@ ghost use Rattle.tt_frame.specs.Tables.{MessageRead, StopsBy, read_by};
 ghost use Rattle.tt_game.specs.Messages.{messages, Spells};
 ghost use Rattle.tt_game.specs.declared.message.GameMsg.{GameMsg};
 
+mod joining;
+mod map_coming;
+mod playing;
+
 use crate::message::GameMsg;
 use std::alloc::Global;
-use tt_frame::{Bad, Fields, ended, number8, number32, text, up_to};
-
-fn client_join(f: &mut Fields) -> Result<GameMsg, Bad>
-    ensures { MessageRead result (read_by messages 2 f.old) }
-{
-    let message = GameMsg::ClientJoin {
-        revision: text(f)?,
-        grf: number32(f)?,
-        name: text(f)?,
-        company: number8(f)?,
-    };
-    ended(f, message)
-}
-
-fn server_error(f: &mut Fields) -> Result<GameMsg, Bad>
-    ensures { MessageRead result (read_by messages 3 f.old) }
-{
-    let message = GameMsg::ServerError { code: up_to(f)? };
-    ended(f, message)
-}
-
-fn server_welcome(f: &mut Fields) -> Result<GameMsg, Bad>
-    ensures { MessageRead result (read_by messages 12 f.old) }
-{
-    let message = GameMsg::ServerWelcome {
-        client: number32(f)?,
-        seed: number32(f)?,
-        id: text(f)?,
-    };
-    ended(f, message)
-}
+use tt_frame::{Bad, Fields, ended};
 
 /// The message of that number.
 fn by_kind(kind: u8, f: &mut Fields) -> Result<GameMsg, Bad>
@@ -46,10 +20,45 @@ fn by_kind(kind: u8, f: &mut Fields) -> Result<GameMsg, Bad>
     ensures { MessageRead result (read_by messages kind f.old) }
 {
     match kind {
-        2 => client_join(f),
-        3 => server_error(f),
-        12 => server_welcome(f),
+        0 => ended(f, GameMsg::ServerFull),
+        1 => ended(f, GameMsg::ServerBanned),
+        2 => joining::client_join(f),
+        3 => joining::server_error(f),
+        4 => ended(f, GameMsg::ClientGameInfo),
+        5 => joining::server_game_info(f),
+        6 => joining::server_check_newgrfs(f),
+        7 => ended(f, GameMsg::ClientNewgrfsChecked),
+        8 => joining::server_need_game_password(f),
+        9 => joining::client_game_password(f),
+        10 => joining::server_need_company_password(f),
+        11 => joining::client_company_password(f),
+        12 => joining::server_welcome(f),
+        13 => ended(f, GameMsg::ClientGetmap),
+        14 => map_coming::server_wait(f),
+        15 => map_coming::server_map_begin(f),
+        16 => map_coming::server_map_size(f),
+        17 => map_coming::server_map_data(f),
+        18 => ended(f, GameMsg::ServerMapDone),
+        19 => ended(f, GameMsg::ClientMapOk),
+        20 => playing::server_join(f),
+        21 => playing::server_frame(f),
+        22 => playing::server_sync(f),
+        23 => playing::client_ack(f),
+        24 => playing::client_command(f),
+        25 => playing::server_command(f),
+        26 => playing::client_chat(f),
+        27 => playing::server_chat(f),
+        28 => playing::client_set_name(f),
+        29 => playing::server_client_info(f),
+        30 => playing::client_set_password(f),
+        31 => playing::client_move(f),
+        32 => playing::server_move(f),
+        33 => playing::client_error(f),
+        34 => playing::server_error_quit(f),
+        35 => ended(f, GameMsg::ClientQuit),
+        36 => playing::server_quit(f),
         37 => ended(f, GameMsg::ServerShutdown),
+        38 => ended(f, GameMsg::ServerNewgame),
         _ => Err(Bad::Malformed { at: 0 }),
     }
 }

@@ -5,8 +5,9 @@ ghost use Rattle.tt_frame.specs.Apart.{PartedFits};
 ghost use Rattle.tt_game.specs.Messages.{messages, Spells};
 ghost use Rattle.tt_game.specs.Apart.{apart, kind_of, body_bytes};
 
+use crate::files::put_files;
 use crate::message::GameMsg;
-use tt_frame::{OutOfMemory, Part, append};
+use tt_frame::{OutOfMemory, Part, append, digits_or_none};
 
 fn put(message: &GameMsg, out: &mut Vec<u8>) -> Result<(), OutOfMemory>
     ensures fits { PartedFits messages (apart message.now) }
@@ -14,6 +15,8 @@ fn put(message: &GameMsg, out: &mut Vec<u8>) -> Result<(), OutOfMemory>
     ensures err { OnErr result (out.new.items ≡ out.old.items) }
 {
     match message {
+        GameMsg::ServerFull => append(out, 0, &[]),
+        GameMsg::ServerBanned => append(out, 1, &[]),
         GameMsg::ClientJoin {
             revision,
             grf,
@@ -30,6 +33,44 @@ fn put(message: &GameMsg, out: &mut Vec<u8>) -> Result<(), OutOfMemory>
             ],
         ),
         GameMsg::ServerError { code } => append(out, 3, &[Part::U8(code.get())]),
+        GameMsg::ClientGameInfo => append(out, 4, &[]),
+        GameMsg::ServerGameInfo {
+            name,
+            frame,
+            clients,
+            companies,
+            max,
+            password,
+        } => append(
+            out,
+            5,
+            &[
+                Part::Words(name.bytes()),
+                Part::U32(*frame),
+                Part::U8(*clients),
+                Part::U8(*companies),
+                Part::U8(*max),
+                Part::Truth(*password),
+            ],
+        ),
+        GameMsg::ServerCheckNewgrfs { items } => put_files(out, items),
+        GameMsg::ClientNewgrfsChecked => append(out, 7, &[]),
+        GameMsg::ServerNeedGamePassword { seed, id } => append(
+            out,
+            8,
+            &[Part::U32(*seed), Part::Words(id.bytes())],
+        ),
+        GameMsg::ClientGamePassword { digest } => append(out, 9, &[Part::Words(digest.bytes())]),
+        GameMsg::ServerNeedCompanyPassword { seed, id } => append(
+            out,
+            10,
+            &[Part::U32(*seed), Part::Words(id.bytes())],
+        ),
+        GameMsg::ClientCompanyPassword { digest } => append(
+            out,
+            11,
+            &[Part::Words(digest.bytes())],
+        ),
         GameMsg::ServerWelcome { client, seed, id } => append(
             out,
             12,
@@ -39,7 +80,124 @@ fn put(message: &GameMsg, out: &mut Vec<u8>) -> Result<(), OutOfMemory>
                 Part::Words(id.bytes()),
             ],
         ),
+        GameMsg::ClientGetmap => append(out, 13, &[]),
+        GameMsg::ServerWait { number } => append(out, 14, &[Part::U8(*number)]),
+        GameMsg::ServerMapBegin { frame } => append(out, 15, &[Part::U32(*frame)]),
+        GameMsg::ServerMapSize { size } => append(out, 16, &[Part::U32(*size)]),
+        GameMsg::ServerMapData { rest } => append(out, 17, &[Part::Raw(rest.bytes())]),
+        GameMsg::ServerMapDone => append(out, 18, &[]),
+        GameMsg::ClientMapOk => append(out, 19, &[]),
+        GameMsg::ServerJoin { client } => append(out, 20, &[Part::U32(*client)]),
+        GameMsg::ServerFrame { frame, max } => append(
+            out,
+            21,
+            &[Part::U32(*frame), Part::U32(*max)],
+        ),
+        GameMsg::ServerSync { frame, word } => append(
+            out,
+            22,
+            &[Part::U32(*frame), Part::U32(*word)],
+        ),
+        GameMsg::ClientAck { frame } => append(out, 23, &[Part::U32(*frame)]),
+        GameMsg::ClientCommand {
+            company,
+            code,
+            number,
+            to,
+            text,
+        } => append(
+            out,
+            24,
+            &[
+                Part::U8(*company),
+                Part::U16(*code),
+                Part::U32(*number),
+                Part::U8(*to),
+                Part::Words(text.bytes()),
+            ],
+        ),
+        GameMsg::ServerCommand {
+            company,
+            code,
+            number,
+            to,
+            text,
+            frame,
+            sender,
+        } => append(
+            out,
+            25,
+            &[
+                Part::U8(*company),
+                Part::U16(*code),
+                Part::U32(*number),
+                Part::U8(*to),
+                Part::Words(text.bytes()),
+                Part::U32(*frame),
+                Part::U32(*sender),
+            ],
+        ),
+        GameMsg::ClientChat { scope, to, text } => append(
+            out,
+            26,
+            &[
+                Part::U8(scope.get()),
+                Part::U32(*to),
+                Part::Words(text.bytes()),
+            ],
+        ),
+        GameMsg::ServerChat {
+            client,
+            scope,
+            text,
+        } => append(
+            out,
+            27,
+            &[
+                Part::U32(*client),
+                Part::U8(scope.get()),
+                Part::Words(text.bytes()),
+            ],
+        ),
+        GameMsg::ClientSetName { name } => append(out, 28, &[Part::Words(name.bytes())]),
+        GameMsg::ServerClientInfo {
+            client,
+            company,
+            name,
+        } => append(
+            out,
+            29,
+            &[
+                Part::U32(*client),
+                Part::U8(*company),
+                Part::Words(name.bytes()),
+            ],
+        ),
+        GameMsg::ClientSetPassword { digest } => append(
+            out,
+            30,
+            &[Part::Words(digits_or_none(digest))],
+        ),
+        GameMsg::ClientMove { company, digest } => append(
+            out,
+            31,
+            &[Part::U8(*company), Part::Words(digits_or_none(digest))],
+        ),
+        GameMsg::ServerMove { client, company } => append(
+            out,
+            32,
+            &[Part::U32(*client), Part::U8(*company)],
+        ),
+        GameMsg::ClientError { code } => append(out, 33, &[Part::U8(code.get())]),
+        GameMsg::ServerErrorQuit { client, code } => append(
+            out,
+            34,
+            &[Part::U32(*client), Part::U8(code.get())],
+        ),
+        GameMsg::ClientQuit => append(out, 35, &[]),
+        GameMsg::ServerQuit { client } => append(out, 36, &[Part::U32(*client)]),
         GameMsg::ServerShutdown => append(out, 37, &[]),
+        GameMsg::ServerNewgame => append(out, 38, &[]),
     }
 }
 
