@@ -10,6 +10,7 @@ pub mod Record
 pub mod Unrolled
 pub mod Core
 pub mod Echo
+pub mod Line
 pub mod Echoing
 pub mod EchoLaws
 pub mod EchoCore

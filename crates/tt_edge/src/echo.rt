@@ -1,57 +1,60 @@
-//! A small core in memory, for tests of what stands over cores: it greets the one connection that it opens, and tells
-//! it the body of each packet again.
+//! A small core in memory, for tests of what stands over cores: it greets each connection that it opens, and tells it
+//! the body of each of its packets again.
 //!
-//! It takes one opening, and answers `NoSuch` to a second. Broken and Shut end the connection; Stop ends all.
-ghost use Rattle.std.specs.Prelude.{◌≡◌, ◌≤◌, cond, ◌==◌, [], length, vec_len};
+//! It takes every opening, Tick and Stop, and each event that names a live connection. Broken and Shut end their
+//! connection; Stop ends all.
+ghost use Rattle.std.specs.Prelude.{◌≡◌, ◌≤◌, [], length};
 ghost use Rattle.tt_edge.specs.Echoing.{IsEchoing};
 
-mod phase;
+mod conn;
+mod lines;
 
-use self::phase::{Phase, answer, behind, fits, room, tell};
+use self::conn::Conn;
+use self::lines::{answer, apply, ends_all, find, takes};
 use crate::event::Event;
 use crate::machine::{Core, CoreErr, Took};
 use crate::record::Record;
 use std::alloc::Global;
 
-/// A core with one connection.
+/// How many events it takes. Beyond them it answers want of memory.
+const MOST_EVENTS: u64 = (1 << 63) - 1;
+
+/// How many connections it opens. Once there are so many, it answers want of memory.
+const MOST_CONNS: usize = u32::MAX as usize;
+
+/// A core that echoes.
 #[derive(Drop)]
 pub struct EchoCore {
     greeting: u8,
     log: Record,
     count: u64,
-    phase: Phase,
-    out: Vec<u8>,
-    taken: usize,
-    ghost echoing: { IsEchoing greeting log.events phase out.items },
+    over: bool,
+    conns: Vec<Conn>,
+    ghost echoing: { IsEchoing greeting log.events over conns.items },
     ghost counted: { count ≡ length log.events },
-    ghost taken_within: { taken ≤ vec_len out },
 }
 
 impl EchoCore {
-    ghost use Rattle.tt_edge.specs.EchoCore.{greeting_of, events_of, taken_of};
+    ghost use Rattle.tt_edge.specs.EchoCore.{greeting_of, events_of, lines_of};
 
     /// A core that nothing has reached yet, which will greet with this byte. It takes no memory yet.
     pub fn new(alloc: Global, greeting: u8) -> EchoCore
         ensures greeting { greeting_of result ≡ greeting }
         ensures events { events_of result ≡ [] }
-        ensures taken { taken_of result ≡ 0 }
+        ensures lines { lines_of result ≡ [] }
     {
         EchoCore {
             greeting,
             log: Record::new(alloc),
             count: 0,
-            phase: Phase {
-                opened: false,
-                live: false,
-                over: false,
-            },
-            out: Vec::new(alloc),
-            taken: 0,
+            over: false,
+            conns: Vec::new(alloc),
         }
     }
 }
 
 impl Core for EchoCore {
+    ghost use Rattle.tt_edge.specs.Line.{line_of};
     ghost use Rattle.tt_edge.specs.Echo.{sent, is_live, is_over, takes};
     ghost use Rattle.tt_edge.specs.EchoLaws.{sent_grows, ended_stays, unopened, over_is_last};
 
@@ -61,7 +64,7 @@ impl Core for EchoCore {
 
     ghost events = { λ s. s.log.events };
 
-    ghost taken = { λ s conn. cond (conn == 1) s.taken 0 };
+    ghost taken = { λ s conn. (line_of s.conns.items conn).taken };
 
     ghost sent = { sent };
 
@@ -72,44 +75,43 @@ impl Core for EchoCore {
     ghost takes = { takes };
 
     fn event(&mut self, event: Event) -> Result<u32, CoreErr> {
-        if self.phase.over {
+        if self.over {
             return Err(CoreErr::Over);
         }
-        if !fits(self.phase, &event) {
+        if !takes(&self.conns, &event) {
             return Err(CoreErr::NoSuch);
         }
-        if self.count >= (1 << 63) - 1
-            || self.log.reserve().is_err()
-            || self.out.reserve(room(&event)).is_err()
-        {
+        if self.count >= MOST_EVENTS || self.conns.len() >= MOST_CONNS {
             return Err(CoreErr::Memory);
         }
-        let conn = answer(&event);
-        tell(&mut self.out, self.greeting, &event);
-        self.phase = behind(self.phase, &event);
+        self.log.reserve()?;
+        let conn = answer(self.conns.len(), &event);
+        apply(&mut self.conns, self.greeting, &event)?;
+        self.over = ends_all(&event);
         self.log.add(event);
         self.count += 1;
         Ok(conn)
     }
 
     fn take(&mut self, conn: u32, out: &mut [u8]) -> Took {
-        if conn != 1 {
+        let Some(at) = find(&self.conns, conn) else {
             return Took {
                 count: 0,
                 done: true,
             };
-        }
-        let count = out.len().min(self.out.len() - self.taken);
-        out[..count].copy_from_slice(&self.out[self.taken..self.taken + count]);
-        self.taken += count;
+        };
+        let line = &mut self.conns[at];
+        let count = line.take(out);
+        let live = line.is_live();
+        let drained = line.is_drained();
         Took {
             count,
-            done: !self.phase.live && self.taken == self.out.len(),
+            done: (self.over || !live) && drained,
         }
     }
 
     fn over(&self) -> bool {
-        self.phase.over
+        self.over
     }
 
     ghost sent_grows = { sent_grows };

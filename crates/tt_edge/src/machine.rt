@@ -1,6 +1,7 @@
 //! A core: a machine over events, which tells bytes to connections.
 ghost use Rattle.std.specs.Prelude.{◌≡◌, ◌≢◌, ◌≤◌, ◌<◌, ◌^◌, ℕ, Bool, true, false, List, [], ◌∷◌, ◌++◌, drop, length, IfOk, IfErr, OnOk, IsTrue, ◌↔◌};
 ghost use Rattle.tt_edge.specs.declared.event.Event.{Event};
+ghost use Rattle.tt_edge.specs.declared.machine.CoreErr.TheVariants.{Memory};
 ghost use Rattle.tt_edge.specs.Event.{is_open, opens, conn_of};
 ghost use Rattle.tt_edge.specs.Core.{Takes, IsAllTaken, IsRefusal, IsUnopened, GrowsTo};
 
@@ -21,6 +22,14 @@ pub enum CoreErr {
     /// Memory ran out.
     #[error("memory ran out")]
     Memory,
+}
+
+impl From<OutOfMemory> for CoreErr {
+    ghost from_gives = { λ _ e. e ≡ Memory };
+
+    fn from(_error: OutOfMemory) -> Self {
+        CoreErr::Memory
+    }
 }
 
 /// What `Core::take` took of a connection's bytes.

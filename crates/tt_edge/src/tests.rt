@@ -95,21 +95,46 @@ fn a_record_costs_its_events_and_bodies_but_no_ticks(rt: HostRuntime) -> Result<
     Ok(())
 }
 
+/// Where the tests' connections come from.
+fn opening() -> Event {
+    let host = [127, 0, 0, 1];
+    Event::Open {
+        door: Door::Main,
+        peer: Peer { host, port: 3979 },
+    }
+}
+
 #[test]
-fn an_echo_greets_answers_refuses_and_ends(rt: HostRuntime) -> Result<(), Fail> {
+fn an_echo_tells_each_connection_its_own(rt: HostRuntime) -> Result<(), Fail> {
     let alloc = rt.alloc();
     let mut core = EchoCore::new(alloc, 7);
-    let host = [127, 0, 0, 1];
-    let peer = Peer { host, port: 3979 };
-    let door = Door::Main;
-    let conn = core.event(Event::Open { door, peer })?;
+    assert_eq!(rt; core.event(opening())?, 1);
+    assert_eq!(rt; core.event(opening())?, 2);
+    let (conn, kind) = (2, 4);
     let body = Body::new(alloc, b"ab")?;
-    let kind = 4;
     core.event(Event::Packet { conn, kind, body })?;
+    let first = drain(alloc, &mut core, 1)?;
+    assert_eq!(rt; first.as_slice(), [7].as_slice());
+    let second = drain(alloc, &mut core, 2)?;
+    assert_eq!(rt; second.as_slice(), [7, 97, 98].as_slice());
+    Ok(())
+}
+
+#[test]
+fn an_echo_refuses_and_ends(rt: HostRuntime) -> Result<(), Fail> {
+    let alloc = rt.alloc();
+    let mut core = EchoCore::new(alloc, 7);
+    let conn = core.event(opening())?;
     core.event(Event::Broken { conn })?;
     assert_eq!(rt; core.event(Event::Shut { conn }), Err(CoreErr::NoSuch));
-    let bytes = drain(alloc, &mut core, conn)?;
-    assert_eq!(rt; bytes.as_slice(), [7, 97, 98].as_slice());
+    let took = core.take(conn, &mut [0; 4]);
+    assert_eq!(rt;
+        took,
+        Took {
+            count: 1,
+            done: true
+        }
+    );
     core.event(Event::Stop)?;
     assert!(rt; core.over());
     assert_eq!(rt; core.event(Event::Tick), Err(CoreErr::Over));
