@@ -1,0 +1,10 @@
+pub mod Random
+pub mod Setup
+pub mod World
+pub mod Holding
+pub mod Sound
+pub mod Reasons
+pub mod Commands
+pub mod Economy
+pub mod Gap
+pub mod Laws

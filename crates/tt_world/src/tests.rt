@@ -1,0 +1,382 @@
+//! What a world does, in numbers from outside.
+ghost use Rattle.std.specs.Prelude.{◌≡◌, ◌%◌, ◌≤◌, pos, ◌≤ℤ◌};
+ghost use Rattle.tt_world.specs.Sound.{IsCompany, most_money};
+
+use super::*;
+use std::test::Fail;
+use tt_frame::Short;
+
+/// An entry of a company.
+fn entry(company: u8, code: Code, number: u32, to: u8, text: &[u8]) -> Result<Entry, Fail> {
+    let text = Short::new(text).ok_or("a short text")?;
+    Ok(Entry {
+        frame: 1,
+        sender: 2,
+        company,
+        command: Command {
+            code,
+            number,
+            to,
+            text,
+        },
+    })
+}
+
+#[test]
+fn the_words_are_the_generators(rt: HostRuntime) {
+    let mut random = Random::seeded(0);
+    let words = [
+        (0xFE24_68AD, 0xFFFF_FFFF),
+        (0x0000_0001, 0xBFC4_8D14),
+        (0xD75B_E1B8, 0x1FFF_FFFF),
+        (0xD777_790C, 0x1AEB_7C36),
+        (0x6989_3761, 0x9AEE_EF20),
+        (0x289A_ECD4, 0x2D31_26EB),
+    ];
+    for wanted in words {
+        let word = random.next();
+        assert_eq!(rt; random.words(), wanted);
+        assert_eq!(rt; word, wanted.1);
+    }
+    let mut random = Random::of(0, 0);
+    assert_eq!(rt; random.next_below(1_000), 999);
+    assert_eq!(rt; random.next_below(1_000), 749);
+    assert_eq!(rt; random.next_below(0), 0);
+}
+
+#[test]
+fn the_plain_setup_fits_and_its_bounds_are_sharp(rt: HostRuntime) {
+    assert!(rt; Setup::plain().fits());
+    let mut setup = Setup::plain();
+    setup.frame_freq = 65;
+    assert!(rt; !setup.fits());
+    setup.frame_freq = 64;
+    setup.sync_freq = 1_001;
+    assert!(rt; !setup.fits());
+    setup.sync_freq = 1_000;
+    setup.cost = 63;
+    assert!(rt; !setup.fits());
+    setup.cost = 64;
+    setup.lag = 0;
+    assert!(rt; !setup.fits());
+    setup.lag = 1;
+    assert!(rt; setup.copy().fits());
+}
+
+#[test]
+fn each_command_is_refused_just_past_its_bound(rt: HostRuntime) -> Result<(), Fail> {
+    let mut world = World::start(rt.alloc(), &Setup::plain())?;
+    let founded = entry(255, Code::NewCompany, 0, 0, b"")?;
+    assert_eq!(rt; world.apply(&founded), Effect::Done);
+    assert_eq!(rt; world.apply(&founded), Effect::Done);
+    let rows: [(u8, Code, u32, u8, &[u8], Effect); 33] = [
+        (
+            14,
+            Code::IncreaseLoan,
+            0,
+            0,
+            b"",
+            Effect::Refused(Why::NoCompany),
+        ),
+        (
+            14,
+            Code::DecreaseLoan,
+            0,
+            0,
+            b"",
+            Effect::Refused(Why::NoCompany),
+        ),
+        (14, Code::Give, 0, 0, b"", Effect::Refused(Why::NoCompany)),
+        (
+            15,
+            Code::PlaceSign,
+            1_048_576,
+            0,
+            b"",
+            Effect::Refused(Why::NoCompany),
+        ),
+        (
+            255,
+            Code::RenameSign,
+            0,
+            0,
+            b"",
+            Effect::Refused(Why::NoCompany),
+        ),
+        (
+            2,
+            Code::RenameCompany,
+            0,
+            0,
+            b"",
+            Effect::Refused(Why::NoCompany),
+        ),
+        (
+            2,
+            Code::RenamePresident,
+            0,
+            0,
+            b"",
+            Effect::Refused(Why::NoCompany),
+        ),
+        (
+            0,
+            Code::IncreaseLoan,
+            0,
+            0,
+            b"",
+            Effect::Refused(Why::Amount),
+        ),
+        (
+            0,
+            Code::IncreaseLoan,
+            10_001,
+            0,
+            b"",
+            Effect::Refused(Why::Amount),
+        ),
+        (
+            0,
+            Code::IncreaseLoan,
+            210_000,
+            0,
+            b"",
+            Effect::Refused(Why::Loan),
+        ),
+        (0, Code::IncreaseLoan, 200_000, 0, b"", Effect::Done),
+        (
+            0,
+            Code::DecreaseLoan,
+            310_001,
+            0,
+            b"",
+            Effect::Refused(Why::Amount),
+        ),
+        (
+            0,
+            Code::DecreaseLoan,
+            310_000,
+            0,
+            b"",
+            Effect::Refused(Why::Loan),
+        ),
+        (0, Code::DecreaseLoan, 300_000, 0, b"", Effect::Done),
+        (1, Code::Give, 0, 0, b"", Effect::Refused(Why::Amount)),
+        (
+            1,
+            Code::Give,
+            20_000_001,
+            0,
+            b"",
+            Effect::Refused(Why::Amount),
+        ),
+        (
+            1,
+            Code::Give,
+            20_000_000,
+            2,
+            b"",
+            Effect::Refused(Why::NoCompany),
+        ),
+        (
+            1,
+            Code::Give,
+            20_000_000,
+            1,
+            b"",
+            Effect::Refused(Why::NoCompany),
+        ),
+        (1, Code::Give, 1, 0, b"", Effect::Refused(Why::Money)),
+        (
+            0,
+            Code::PlaceSign,
+            1_048_576,
+            0,
+            b"",
+            Effect::Refused(Why::Tile),
+        ),
+        (
+            0,
+            Code::PlaceSign,
+            1_048_575,
+            0,
+            b"",
+            Effect::Refused(Why::Text),
+        ),
+        (0, Code::PlaceSign, 1_048_575, 0, b"here", Effect::Done),
+        (
+            0,
+            Code::RenameSign,
+            1,
+            0,
+            b"there",
+            Effect::Refused(Why::NoSign),
+        ),
+        (
+            1,
+            Code::RenameSign,
+            0,
+            0,
+            b"there",
+            Effect::Refused(Why::NoSign),
+        ),
+        (0, Code::RenameSign, 0, 0, b"there", Effect::Done),
+        (
+            0,
+            Code::RenameCompany,
+            0,
+            0,
+            b"",
+            Effect::Refused(Why::Text),
+        ),
+        (
+            0,
+            Code::RenameCompany,
+            0,
+            0,
+            b"Company 2",
+            Effect::Refused(Why::Text),
+        ),
+        (0, Code::RenameCompany, 0, 0, b"Company 1", Effect::Done),
+        (
+            0,
+            Code::RenamePresident,
+            0,
+            0,
+            b"",
+            Effect::Refused(Why::Text),
+        ),
+        (0, Code::RenamePresident, 0, 0, b"Ann", Effect::Done),
+        (0, Code::Pause, 2, 0, b"", Effect::Refused(Why::Amount)),
+        (0, Code::Pause, 0, 0, b"", Effect::Refused(Why::Same)),
+        (0, Code::Pause, 1, 0, b"", Effect::Done),
+    ];
+    for (company, code, number, to, text, wanted) in rows {
+        let asked = entry(company, code, number, to, text)?;
+        assert_eq!(rt; world.apply(&asked), wanted);
+    }
+    Ok(())
+}
+
+#[test]
+fn the_sixteenth_company_is_refused(rt: HostRuntime) -> Result<(), Fail> {
+    let mut world = World::start(rt.alloc(), &Setup::plain())?;
+    let founded = entry(255, Code::NewCompany, 0, 0, b"")?;
+    for _ in 0..15 {
+        assert_eq!(rt; world.apply(&founded), Effect::Done);
+    }
+    assert_eq!(rt; world.apply(&founded), Effect::Refused(Why::Full));
+    let last = world.company(14).ok_or("a company")?;
+    assert_eq!(rt; last.name.bytes(), b"Company 15".as_slice());
+    assert_eq!(rt; last.money, 100_000);
+    assert!(rt; world.company(15).is_none());
+    Ok(())
+}
+
+#[test]
+fn the_sign_behind_a_thousand_is_refused(rt: HostRuntime) -> Result<(), Fail> {
+    let mut world = World::start(rt.alloc(), &Setup::plain())?;
+    let founded = entry(255, Code::NewCompany, 0, 0, b"")?;
+    let sign = entry(0, Code::PlaceSign, 5, 0, b"here")?;
+    let taken = entry(0, Code::RenameSign, 7, 0, b"")?;
+    assert_eq!(rt; world.apply(&founded), Effect::Done);
+    for _ in 0..1_000 {
+        assert_eq!(rt; world.apply(&sign), Effect::Done);
+    }
+    assert_eq!(rt; world.apply(&sign), Effect::Refused(Why::Full));
+    assert_eq!(rt; world.apply(&taken), Effect::Done);
+    assert_eq!(rt; world.signs().len(), 999);
+    assert_eq!(rt; world.apply(&sign), Effect::Done);
+    let copy = world.copy(rt.alloc())?;
+    let seventh = copy.signs().get(7).ok_or("a sign")?;
+    assert_eq!(rt; seventh.id, 7);
+    Ok(())
+}
+
+#[test]
+fn a_paused_world_draws_nothing(rt: HostRuntime) -> Result<(), Fail> {
+    let mut setup = Setup::plain();
+    setup.seed = 1;
+    let mut world = World::start(rt.alloc(), &setup)?;
+    world.run_frame();
+    assert_eq!(rt; world.random().words(), (0xFC24_68AE, 0x1FFF_FFFF));
+    let paused = entry(255, Code::Pause, 1, 0, b"")?;
+    assert_eq!(rt; world.apply(&paused), Effect::Done);
+    world.run_frame();
+    assert!(rt; world.paused());
+    assert_eq!(rt; (world.day(), world.part()), (0, 1));
+    assert_eq!(rt; world.random().words(), (0xFC24_68AE, 0x1FFF_FFFF));
+    Ok(())
+}
+
+/// A company in no world.
+fn company(money: i64, loan: u32) -> Company
+    requires least { pos 0 ≤ℤ money }
+    requires most { money ≤ℤ pos most_money }
+    requires loan { loan ≤ 300000 }
+    requires steps { loan % 10000 ≡ 0 }
+    ensures money { result.money ≡ money }
+    ensures sound { IsCompany result }
+{
+    Company {
+        money,
+        loan,
+        name: founding::name_of(b"A"),
+        president: founding::name_of(b"B"),
+    }
+}
+
+#[test]
+fn only_money_that_is_not_borrowed_is_given(rt: HostRuntime) {
+    let giver = company(150_000, 100_000);
+    let rich = company(20_100_000, 100_000);
+    let receiver = company(0, 0);
+    let rows = [
+        (1, 50_000, None),
+        (1, 50_001, Some(Why::Money)),
+        (1, 0, Some(Why::Amount)),
+        (1, 20_000_001, Some(Why::Amount)),
+        (0, 50_000, Some(Why::NoCompany)),
+    ];
+    for (to, number, wanted) in rows {
+        assert_eq!(rt;
+            refusals::give(0, to, number, Some(&receiver), &giver),
+            wanted
+        );
+    }
+    assert_eq!(rt;
+        refusals::give(0, 1, 20_000_000, Some(&receiver), &rich),
+        None
+    );
+    assert_eq!(rt;
+        refusals::give(0, 1, 50_000, None, &giver),
+        Some(Why::NoCompany)
+    );
+}
+
+#[test]
+fn no_company_has_more_than_the_most_money(rt: HostRuntime) {
+    let giver = company(150_000, 100_000);
+    let full = company(8_999_999_999_990_000, 0);
+    let fuller = company(8_999_999_999_990_001, 0);
+    assert_eq!(rt; refusals::increase_loan(10_000, &full), None);
+    assert_eq!(rt; refusals::increase_loan(10_000, &fuller), Some(Why::Money));
+    assert_eq!(rt; refusals::give(0, 1, 10_000, Some(&full), &giver), None);
+    assert_eq!(rt;
+        refusals::give(0, 1, 10_000, Some(&fuller), &giver),
+        Some(Why::Money)
+    );
+}
+
+#[test]
+fn companies_earn_before_they_pay(rt: HostRuntime) {
+    let mut random = Random::of(0xFE24_68AD, 0xFFFF_FFFF);
+    let mut companies = [Some(company(0, 300_000))];
+    economy::begin_day(30, &mut random, &mut companies);
+    assert_eq!(rt; random.words(), (0x0000_0001, 0xBFC4_8D14));
+    assert_eq!(rt; companies, [Some(company(249, 300_000))]);
+    let mut companies = [Some(company(9_000_000_000_000_000, 0))];
+    economy::begin_day(31, &mut random, &mut companies);
+    assert_eq!(rt; companies, [Some(company(9_000_000_000_000_000, 0))]);
+    assert_eq!(rt; economy::next_day(u32::MAX), u32::MAX);
+}
