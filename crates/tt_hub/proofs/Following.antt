@@ -8,7 +8,7 @@ use Rattle.tt_edge.specs.declared.event.Event.{Event}
 use Rattle.tt_edge.specs.declared.event.Event.TheVariants.{Open, Packet, Broken, Shut, Tick, Stop}
 use Rattle.tt_edge.specs.Event.{is_open, is_tick, opens}
 use Rattle.tt_game.specs.declared.message.GameMsg.{GameMsg}
-use Rattle.tt_hub.specs.declared.setup.Setup.{Setup}
+use Rattle.tt_world.specs.declared.setup.Setup.{Setup}
 use Rattle.tt_hub.specs.declared.table.Standing.{Standing}
 use Rattle.tt_hub.specs.declared.table.Standing.TheVariants.{Unopened, Inactive, Welcomed, Ended}
 use Rattle.tt_hub.specs.declared.table.Table.{Table}
@@ -18,12 +18,13 @@ use Rattle.tt_hub.specs.Table.{first, last_frame, is_unopened, is_there, closed}
 use Rattle.tt_hub.specs.Table as table
 use Rattle.tt_hub.specs.Judged.{judged}
 use Rattle.tt_hub.specs.Stepped.{behind, changed, said, stepped, table_of, spelled, told, sent_of}
-use Rattle.tt_hub.specs.World.{WorldState, start, framed, world_at, world_behind}
+use Rattle.tt_world.specs.World.{WorldState, start}
+use Rattle.tt_hub.specs.World.{world_at, world_behind}
 use Rattle.tt_hub.specs.Running.{IsRunning}
 use Rattle.tt_hub.specs.Laws.{table_of-push, sent-push, told-other, told-dead, unopened}
 
 -- nothing came yet
-pub running-first : (setup : Setup) → IsRunning setup [] first (start setup.seed) []
+pub running-first : (setup : Setup) → IsRunning setup [] first (start setup) []
 unfolding world_at
 running-first setup = record {
   table_is = refl;
@@ -39,7 +40,7 @@ running-first setup = record {
 }
 
 -- a hub that is just made
-pub running-made : (setup copied : Setup) (events : List Event) (world : WorldState) (out : List ℕ) → copied ≡ setup → events ≡ [] → world ≡ start setup.seed → out ≡ []
+pub running-made : (setup copied : Setup) (events : List Event) (world : WorldState) (out : List ℕ) → copied ≡ setup → events ≡ [] → world ≡ start setup → out ≡ []
     → IsRunning copied events first world out
 running-made setup copied events world out same none begins untold = rw (same, none, begins, untold) (running-first setup)
 
@@ -47,13 +48,13 @@ count-push : (p : Event → Bool) (events : List Event) (event : Event) → coun
 count-push p events event = omega (arith, sum_by-append (λ e. cond (p e) 1 0) events (event ∷ []))
 
 -- the world behind an event
-world-push : (setup : Setup) (t : Table) (e : Event) → world_behind (world_at (start setup.seed) t.frame) e ≡ world_at (start setup.seed) (changed setup t e).frame
+world-push : (setup : Setup) (t : Table) (e : Event) → world_behind (world_at (start setup) t.frame) e ≡ world_at (start setup) (changed setup t e).frame
 unfolding world_at
 world-push setup t (Open door peer) = refl
 world-push setup t (Packet conn kind body) = refl
 world-push setup t (Broken conn) = refl
 world-push setup t (Shut conn) = refl
-world-push setup t Tick = let next : suc t.frame ≡ t.frame + 1 = omega arith in ap (world_at (start setup.seed)) next
+world-push setup t Tick = let next : suc t.frame ≡ t.frame + 1 = omega arith in ap (world_at (start setup)) next
 world-push setup t Stop = refl
 
 -- ---- the one connection
@@ -231,7 +232,7 @@ pub running-more : (setup : Setup) (events : List Event) (t : Table) (world : Wo
 running-more setup events t world out e so_far going takes =
     let taken : table.is_taken t e ≡ true = rw (going, takes) refl in
     let now : changed setup t e ≡ table_of setup (events ++ e ∷ []) =
-        sym (taken_steps setup t e taken) ∙ ap (λ (s : Table). stepped setup s e) so_far.table_is ∙ sym (table_of-push setup events e) in
+    sym (taken_steps setup t e taken) ∙ ap (λ (s : Table). stepped setup s e) so_far.table_is ∙ sym (table_of-push setup events e) in
     record {
       table_is = now;
       world_is = ap (λ (w : WorldState). world_behind w e) so_far.world_is ∙ world-push setup t e;

@@ -1,8 +1,9 @@
 -- What a hub is seen as, and what a core's words mean for it.
 use Rattle.std.specs.Prelude.{ℕ, Bool, ◌==◌, if◌then◌else◌, List}
 use Rattle.tt_edge.specs.declared.event.Event.{Event}
-use Rattle.tt_hub.specs.declared.setup.Setup.{Setup}
-use Rattle.tt_hub.specs.World.{WorldState, start, world_at}
+use Rattle.tt_world.specs.declared.setup.Setup.{Setup}
+use Rattle.tt_world.specs.World.{WorldState, start}
+use Rattle.tt_hub.specs.World.{world_at}
 use Rattle.tt_hub.specs.Stepped.{table_of, sent_of}
 use Rattle.tt_hub.specs.Table as table
 
@@ -14,7 +15,7 @@ pub record HubState : Type 0 where
 
 -- the world behind a list of events: that of the start, run to the table's frame
 abbrev pub world_of : Setup → List Event → WorldState
-world_of setup events = world_at (start setup.seed) (table_of setup events).frame
+world_of setup events = world_at (start setup) (table_of setup events).frame
 
 -- how many bytes of a connection were taken; the one connection has the number 1
 abbrev pub taken : HubState → ℕ → ℕ

@@ -4,9 +4,9 @@ use Rattle.std.specs.Str.{bytes_eq}
 use Rattle.tt_frame.specs.Unread.{whole}
 use Rattle.tt_frame.specs.Tables.{read_by}
 use Rattle.tt_game.specs.declared.message.GameMsg.{GameMsg}
-use Rattle.tt_game.specs.declared.message.GameMsg.TheVariants.{ClientJoin, ServerError, ServerWelcome, ServerShutdown}
+use Rattle.tt_game.specs.declared.message.GameMsg.TheVariants.{ClientJoin}
 use Rattle.tt_game.specs.Messages.{messages}
-use Rattle.tt_hub.specs.declared.setup.Setup.{Setup}
+use Rattle.tt_world.specs.declared.setup.Setup.{Setup}
 use Rattle.tt_hub.specs.declared.table.Standing.{Standing}
 use Rattle.tt_hub.specs.declared.table.Standing.TheVariants.{Unopened, Inactive, Welcomed, Ended}
 use Rattle.tt_hub.specs.declared.verdict.Verdict.{Verdict}
@@ -56,9 +56,7 @@ judged_join setup standing revision grf name company =
 -- what a packet with the number of a request to join spells; where it spells nothing it is an illegal packet
 abbrev pub judged_reading : Setup → Standing → Result GameMsg ℕ → Verdict
 judged_reading setup standing (Ok (ClientJoin revision grf name company)) = judged_join setup standing revision grf name company
-judged_reading setup standing (Ok (ServerError code)) = Ends general
-judged_reading setup standing (Ok (ServerWelcome client seed id)) = Ends general
-judged_reading setup standing (Ok ServerShutdown) = Ends general
+judged_reading setup standing (Ok other) = Ends general
 judged_reading setup standing (Err at) = Ends illegal_packet
 
 -- a packet, by its number and body: all but requests to join are not built yet

@@ -10,7 +10,7 @@ use Rattle.tt_edge.specs.declared.event.Event.TheVariants.{Open, Packet, Broken,
 use Rattle.tt_edge.specs.Event.{is_open, opens}
 use Rattle.tt_edge.specs.Core.{GrowsTo, IsUnopened}
 use Rattle.tt_game.specs.declared.message.GameMsg.{GameMsg}
-use Rattle.tt_hub.specs.declared.setup.Setup.{Setup}
+use Rattle.tt_world.specs.declared.setup.Setup.{Setup}
 use Rattle.tt_hub.specs.declared.table.Standing.{Standing}
 use Rattle.tt_hub.specs.declared.table.Standing.TheVariants.{Unopened, Inactive, Welcomed, Ended}
 use Rattle.tt_hub.specs.declared.table.Table.{Table}
@@ -42,9 +42,10 @@ on_step setup t e P stays goes = cond_both (is_taken t e) (changed setup t e) (c
 
 -- ---- what every table keeps
 
--- the connection has the number of an opening, and where the game is over it is not there
+-- the connection has the number of an opening, none was opened where none came, and where the game is over it is not there
 pub record IsSane (t : Table) (openings : ℕ) : Type 0 where
   pub count : t.openings ≡ openings
+  pub fresh : t.openings ≡ 0 → is_unopened t.standing ≡ true
   pub conn : t.conn ≤ t.openings
   pub some : is_there t.standing ≡ true → 1 ≤ t.conn
   pub quiet : table.is_over t ≡ true → is_there t.standing ≡ false
@@ -56,7 +57,7 @@ there_named over named there goes = (and_parts named there (and_parts (not over)
 going : (over fit : Bool) → not over && fit ≡ true → over ≡ false
 going over fit goes = not-true over (and_parts (not over) fit goes).0
 
-closed-there : (b : Bool) (s : Standing) → is_there (closed b s) ≡ true → is_there s ≡ true
+pub closed-there : (b : Bool) (s : Standing) → is_there (closed b s) ≡ true → is_there s ≡ true
 closed-there true Unopened e = absurd (false≢true e)
 closed-there true Inactive e = absurd (false≢true e)
 closed-there true Welcomed e = absurd (false≢true e)
@@ -70,16 +71,23 @@ closed-over true Welcomed e = refl
 closed-over true Ended e = refl
 closed-over false s e = absurd (false≢true e)
 
+closed-fresh : (b : Bool) (s : Standing) → is_unopened s ≡ true → is_unopened (closed b s) ≡ true
+closed-fresh true Unopened e = refl
+closed-fresh true Inactive e = e
+closed-fresh true Welcomed e = e
+closed-fresh true Ended e = e
+closed-fresh false s e = e
+
 plus_none : (n : ℕ) → n ≡ n + 0
 plus_none n = omega arith
 
 sane-counted : (t : Table) (e : Event) (n : ℕ) → IsSane t n → IsSane (counted t e) (n + cond (is_open e) 1 0)
-sane-counted t (Open door peer) n sane = record { count = ap (λ (k : ℕ). k + 1) sane.count; conn = omega (arith, sane.conn); some = sane.some; quiet = sane.quiet }
-sane-counted t (Packet conn kind body) n sane = record { count = sane.count ∙ plus_none n; conn = sane.conn; some = sane.some; quiet = sane.quiet }
-sane-counted t (Broken conn) n sane = record { count = sane.count ∙ plus_none n; conn = sane.conn; some = sane.some; quiet = sane.quiet }
-sane-counted t (Shut conn) n sane = record { count = sane.count ∙ plus_none n; conn = sane.conn; some = sane.some; quiet = sane.quiet }
-sane-counted t Tick n sane = record { count = sane.count ∙ plus_none n; conn = sane.conn; some = sane.some; quiet = sane.quiet }
-sane-counted t Stop n sane = record { count = sane.count ∙ plus_none n; conn = sane.conn; some = sane.some; quiet = sane.quiet }
+sane-counted t (Open door peer) n sane = record { count = ap (λ (k : ℕ). k + 1) sane.count; fresh = λ none. absurd (omega (arith, none)); conn = omega (arith, sane.conn); some = sane.some; quiet = sane.quiet }
+sane-counted t (Packet conn kind body) n sane = record { count = sane.count ∙ plus_none n; fresh = sane.fresh; conn = sane.conn; some = sane.some; quiet = sane.quiet }
+sane-counted t (Broken conn) n sane = record { count = sane.count ∙ plus_none n; fresh = sane.fresh; conn = sane.conn; some = sane.some; quiet = sane.quiet }
+sane-counted t (Shut conn) n sane = record { count = sane.count ∙ plus_none n; fresh = sane.fresh; conn = sane.conn; some = sane.some; quiet = sane.quiet }
+sane-counted t Tick n sane = record { count = sane.count ∙ plus_none n; fresh = sane.fresh; conn = sane.conn; some = sane.some; quiet = sane.quiet }
+sane-counted t Stop n sane = record { count = sane.count ∙ plus_none n; fresh = sane.fresh; conn = sane.conn; some = sane.some; quiet = sane.quiet }
 
 -- a game that takes an event is not over
 never_over : (setup : Setup) (t : Table) (fit : Bool) {P : Type 0} → not (table.is_over t) && fit ≡ true → table.is_over t ≡ true → P
@@ -88,30 +96,34 @@ never_over setup t fit goes over = absurd (both_ways (table.is_over t) (going (t
 sane-changed : (setup : Setup) (t : Table) (e : Event) (n : ℕ) → IsSane t n → is_taken t e ≡ true → IsSane (changed setup t e) (n + cond (is_open e) 1 0)
 sane-changed setup t (Open door peer) n sane goes = record {
   count = ap (λ (k : ℕ). k + 1) sane.count;
+  fresh = λ none. absurd (omega (arith, none));
   conn = omega arith;
   some = λ there. omega arith;
   quiet = never_over setup t (takes t (Open door peer)) goes;
 }
 sane-changed setup t (Packet conn kind body) n sane goes = record {
   count = sane.count ∙ plus_none n;
+  fresh = λ none. absurd (omega (arith, none, sane.conn, sane.some (there_named (table.is_over t) (eqb t.conn conn) (is_there t.standing) goes)));
   conn = sane.conn;
   some = λ there. sane.some (there_named (table.is_over t) (eqb t.conn conn) (is_there t.standing) goes);
   quiet = never_over setup t (takes t (Packet conn kind body)) goes;
 }
 sane-changed setup t (Broken conn) n sane goes = record {
   count = sane.count ∙ plus_none n;
+  fresh = λ none. absurd (omega (arith, none, sane.conn, sane.some (there_named (table.is_over t) (eqb t.conn conn) (is_there t.standing) goes)));
   conn = sane.conn;
   some = λ there. absurd (false≢true there);
   quiet = λ over. refl;
 }
-sane-changed setup t (Shut conn) n sane goes = record { count = sane.count ∙ plus_none n; conn = sane.conn; some = sane.some; quiet = sane.quiet }
+sane-changed setup t (Shut conn) n sane goes = record { count = sane.count ∙ plus_none n; fresh = sane.fresh; conn = sane.conn; some = sane.some; quiet = sane.quiet }
 sane-changed setup t Tick n sane goes = record {
   count = sane.count ∙ plus_none n;
+  fresh = λ none. closed-fresh (eqb (t.frame + 1) last_frame) t.standing (sane.fresh none);
   conn = sane.conn;
   some = λ there. sane.some (closed-there (eqb (t.frame + 1) last_frame) t.standing there);
   quiet = λ over. closed-over (eqb (t.frame + 1) last_frame) t.standing over;
 }
-sane-changed setup t Stop n sane goes = record { count = sane.count ∙ plus_none n; conn = sane.conn; some = sane.some; quiet = sane.quiet }
+sane-changed setup t Stop n sane goes = record { count = sane.count ∙ plus_none n; fresh = sane.fresh; conn = sane.conn; some = sane.some; quiet = sane.quiet }
 
 sane-step : (setup : Setup) (t : Table) (e : Event) (n : ℕ) → IsSane t n → IsSane (stepped setup t e) (n + cond (is_open e) 1 0)
 sane-step setup t e n sane = on_step setup t e (λ (s : Table). IsSane s (n + cond (is_open e) 1 0)) (sane-counted t e n sane) (sane-changed setup t e n sane)
@@ -128,7 +140,7 @@ sane-all setup t (e ∷ es) n sane =
 -- the table behind a list of events is sane
 pub sane : (setup : Setup) (es : List Event) → IsSane (table_of setup es) (opens es)
 sane setup es =
-    let begun : IsSane first 0 = record { count = refl; conn = omega arith; some = λ there. absurd (false≢true there); quiet = λ over. refl } in
+    let begun : IsSane first 0 = record { count = refl; fresh = λ none. refl; conn = omega arith; some = λ there. absurd (false≢true there); quiet = λ over. refl } in
     let same : opens es ≡ 0 + opens es = omega arith in
     rw same (sane-all setup first es 0 begun)
 
@@ -221,8 +233,7 @@ pub ended_stays : (setup : Setup) (events : List Event) (event : Event) (conn : 
     → (is_live setup (events ++ event ∷ []) conn ≡ false) × (sent setup (events ++ event ∷ []) conn ≡ sent setup events conn)
 ended_stays setup events event conn opened dead =
     let t = table_of setup events in
-    let within : conn ≤ t.openings = omega (arith, opened, (sane setup events).count) in
-    (
+    let within : conn ≤ t.openings = omega (arith, opened, (sane setup events).count) in (
       rw (table_of-push setup events event) (on_step setup t event (λ (s : Table). table.is_live s conn ≡ false) (dead_counted t event conn dead) (dead_changed setup t event conn within dead)),
       sent-push setup events event conn ∙ ap (λ (xs : List ℕ). sent setup events conn ++ xs) (told_dead_one setup t event conn dead) ∙ append-nil (sent setup events conn),
     )
@@ -271,8 +282,7 @@ over_counted t Stop over = over
 pub over_is_last : (setup : Setup) (events : List Event) (event : Event) (conn : ℕ) → is_over setup events ≡ true
     → (is_live setup events conn ≡ false) × (is_over setup (events ++ event ∷ []) ≡ true)
 over_is_last setup events event conn over =
-    let t = table_of setup events in
-    (
+    let t = table_of setup events in (
       and_right (eqb t.conn conn) (is_there t.standing) ((sane setup events).quiet over),
       rw (table_of-push setup events event) (on_step setup t event (λ (s : Table). table.is_over s ≡ true) (over_counted t event over) (λ goes. never_over setup t (takes t event) goes over)),
     )

@@ -1,6 +1,4 @@
-pub mod Random
 pub mod World
-pub mod Setup
 pub mod Table
 pub mod Judged
 pub mod Stepped

@@ -6,7 +6,7 @@ use Rattle.tt_frame.specs.Packet.{packet}
 use Rattle.tt_game.specs.declared.message.GameMsg.{GameMsg}
 use Rattle.tt_game.specs.declared.message.GameMsg.TheVariants.{ServerError, ServerWelcome, ServerShutdown}
 use Rattle.tt_game.specs.Apart.{kind_of, body_bytes}
-use Rattle.tt_hub.specs.declared.setup.Setup.{Setup}
+use Rattle.tt_world.specs.declared.setup.Setup.{Setup}
 use Rattle.tt_hub.specs.declared.table.Standing.{Standing}
 use Rattle.tt_hub.specs.declared.table.Standing.TheVariants.{Inactive, Welcomed, Ended}
 use Rattle.tt_hub.specs.declared.table.Table.{Table}

@@ -9,13 +9,12 @@ ghost use Rattle.tt_hub.specs.Stepped.{table_of};
 ghost use Rattle.tt_hub.specs.Hub.{world_of, sent, is_live};
 
 use crate::plan::{conn, planned, tell};
-use crate::setup::Setup;
 use crate::table::{FIRST, Table, is_live, is_over, is_taken, is_there};
-use crate::world::World;
 use std::alloc::Global;
 use std::marker::Model;
 use tt_edge::{Core, CoreErr, Event, Record, Took};
 use tt_frame::OutOfMemory;
+use tt_world::{Setup, World};
 
 /// How many events are taken at most, so that places in the list of events can be told in 63 bits.
 const MOST_EVENTS: u64 = (1 << 63) - 1;
@@ -54,13 +53,14 @@ impl Hub {
         ensures events { IfOk result (λ hub. hub.events ≡ []) }
         ensures taken { IfOk result (λ hub. hub.taken ≡ 0) }
     {
+        let world = World::start(alloc, setup)?;
         Ok(Hub {
             alloc,
             setup: setup.copy(),
             history: Record::new(alloc),
             count: 0,
             table: FIRST,
-            world: World::start(setup.seed),
+            world,
             out: Vec::new(alloc),
             taken: 0,
         })

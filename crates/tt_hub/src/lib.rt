@@ -2,19 +2,12 @@
 //! game's start.
 #![tactic(auto)]
 
-pub mod random;
-pub mod setup;
-pub mod world;
-
 mod hub;
 mod plan;
 mod table;
 mod verdict;
 
 pub use hub::Hub;
-pub use random::Random;
-pub use setup::Setup;
-pub use world::World;
 
 #[cfg(test)]
 mod tests;

@@ -7,13 +7,13 @@ ghost use Rattle.tt_hub.specs.declared.table.Standing.TheVariants.{Inactive};
 ghost use Rattle.tt_hub.specs.Table.{last_frame, is_there};
 ghost use Rattle.tt_hub.specs.Stepped.{behind, answer, changed, said, spelled};
 
-use crate::setup::Setup;
 use crate::table::{LAST_FRAME, Standing, Table, is_there, ticked};
 use crate::verdict::{ILLEGAL_PACKET, Verdict, code, judged};
 use std::alloc::Global;
 use tt_edge::Event;
 use tt_frame::{Name, OutOfMemory, Short};
 use tt_game::GameMsg;
+use tt_world::Setup;
 
 /// The number of the first client; 1 is the server.
 const FIRST_CLIENT: u32 = 2;

@@ -3,8 +3,8 @@
 ghost use Rattle.std.specs.Prelude.{◌≡◌, ◌<◌, ◌≤◌};
 ghost use Rattle.tt_hub.specs.Table.{is_over, is_there, is_live, takes, raised, closed, ticked, last_frame};
 
-use crate::setup::Setup;
 use tt_edge::{Door, Event};
+use tt_world::Setup;
 
 /// The frame with which a game ends.
 pub const LAST_FRAME: u32 = 4_000_000_000;
@@ -81,10 +81,12 @@ pub fn is_taken(table: Table, event: &Event) -> bool
 {
     match event {
         Event::Open {
-            door: Door::Main, ..
+            door: Door::Main,
+            ..
         } => matches!(table.standing, Standing::Unopened),
         Event::Open {
-            door: Door::Side, ..
+            door: Door::Side,
+            ..
         } => false,
         Event::Packet { conn, .. } => is_live(table, *conn),
         Event::Broken { conn } => is_live(table, *conn),

@@ -1,45 +1,8 @@
-//! The generator's known words, and a game of ticks.
+//! A game of ticks, and a join.
 use super::*;
 use std::test::*;
-use tt_edge::{Core, CoreErr, Door, Event, Peer};
-
-#[test]
-fn the_words_of_seed_0_are_known(rt: HostRuntime) {
-    let mut random = Random::seeded(0);
-    let known = [
-        (0xfe24_68ad, 0xffff_ffff),
-        (0x0000_0001, 0xbfc4_8d14),
-        (0xd75b_e1b8, 0x1fff_ffff),
-        (0xd777_790c, 0x1aeb_7c36),
-        (0x6989_3761, 0x9aee_ef20),
-        (0x289a_ecd4, 0x2d31_26eb),
-    ];
-    for words in known {
-        assert_eq!(rt; random.next(), words.1);
-        assert_eq!(rt; random.words(), words);
-    }
-    assert!(rt; Random::of(0x289a_ecd4, 0x2d31_26eb) == random);
-}
-
-#[test]
-fn a_number_below_a_limit_is_the_upper_half_of_the_product(rt: HostRuntime) {
-    let mut random = Random::seeded(0);
-    assert_eq!(rt; random.next_below(1000), 999);
-    assert_eq!(rt; random.next_below(1000), 749);
-    assert_eq!(rt; random.next_below(0), 0);
-}
-
-#[test]
-fn a_world_starts_on_its_first_day(rt: HostRuntime) {
-    let mut world = World::start(5);
-    for _ in 0..74 {
-        world.run_frame();
-    }
-    assert_eq!(rt; (world.day(), world.part()), (1, 0));
-    let random = world.random();
-    assert_eq!(rt; World::start(5).random().words(), (5, 5));
-    assert!(rt; random.words() != (5, 5));
-}
+use tt_edge::{Body, Core, CoreErr, Door, Event, Peer, drain};
+use tt_world::Setup;
 
 #[test]
 fn ticks_raise_the_greatest_permitted_frame(rt: HostRuntime) -> Result<(), Fail> {
@@ -58,20 +21,67 @@ fn ticks_raise_the_greatest_permitted_frame(rt: HostRuntime) -> Result<(), Fail>
     Ok(())
 }
 
+const PEER: Peer = Peer {
+    host: [127, 0, 0, 1],
+    port: 3979,
+};
+
+fn opening(door: Door) -> Event {
+    Event::Open { door, peer: PEER }
+}
+
+/// The body of the join packet of a client named Ann, with the revision of the server.
+const JOIN: &[u8] = b"13.4\0\x0d\0\0\0Ann\0\xff";
+
 #[test]
-fn what_is_no_tick_is_refused(rt: HostRuntime) -> Result<(), Fail> {
+fn what_is_not_built_yet_is_refused(rt: HostRuntime) -> Result<(), Fail> {
     let alloc = rt.alloc();
     let mut hub = Hub::new(alloc, &Setup::plain())?;
-    let peer = Peer {
-        host: [127, 0, 0, 1],
-        port: 3979,
-    };
-    let door = Door::Main;
-    assert_eq!(rt; hub.event(Event::Open { door, peer }), Err(CoreErr::NoSuch));
+    assert_eq!(rt; hub.event(opening(Door::Side)), Err(CoreErr::NoSuch));
     assert_eq!(rt; hub.event(Event::Stop), Err(CoreErr::NoSuch));
+    assert_eq!(rt; hub.event(Event::Broken { conn: 1 }), Err(CoreErr::NoSuch));
+    assert_eq!(rt; hub.event(opening(Door::Main)), Ok(1));
+    assert_eq!(rt; hub.event(opening(Door::Main)), Err(CoreErr::NoSuch));
+    assert_eq!(rt; hub.event(Event::Shut { conn: 1 }), Err(CoreErr::NoSuch));
+    assert_eq!(rt;
+        (hub.over(), hub.connections(), hub.live(1)),
+        (false, 1, true)
+    );
+    Ok(())
+}
+
+#[test]
+fn a_join_is_welcomed_and_a_broken_stream_ends_it(rt: HostRuntime) -> Result<(), Fail> {
+    let alloc = rt.alloc();
+    let mut hub = Hub::new(alloc, &Setup::plain())?;
+    let body = Body::new(alloc, JOIN)?;
+    assert_eq!(rt; hub.event(opening(Door::Main)), Ok(1));
+    let packet = Event::Packet {
+        conn: 1,
+        kind: 2,
+        body,
+    };
+    assert_eq!(rt; hub.event(packet), Ok(1));
+    let welcome = [14, 0, 12, 2, 0, 0, 0, 0, 0, 0, 0, b't', b't', 0];
+    assert_eq!(rt; drain(alloc, &mut hub, 1)?.as_slice(), welcome.as_slice());
+    assert_eq!(rt; hub.event(Event::Broken { conn: 1 }), Ok(1));
+    assert_eq!(rt;
+        drain(alloc, &mut hub, 1)?.as_slice(),
+        [4, 0, 3, 4].as_slice()
+    );
+    assert_eq!(rt;
+        (hub.live(1), hub.sent_len(1), hub.sent_len(2)),
+        (false, 18, 0)
+    );
+    Ok(())
+}
+
+#[test]
+fn an_unopened_connection_gives_nothing(rt: HostRuntime) -> Result<(), Fail> {
+    let alloc = rt.alloc();
+    let mut hub = Hub::new(alloc, &Setup::plain())?;
     let mut out = [7; 4];
     let took = hub.take(1, &mut out);
     assert_eq!(rt; (took.count, took.done, out), (0, true, [7; 4]));
-    assert_eq!(rt; (hub.over(), hub.connections(), hub.frame()), (false, 0, 0));
     Ok(())
 }

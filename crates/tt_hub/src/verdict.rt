@@ -3,11 +3,11 @@ ghost use Rattle.std.specs.Prelude.{◌≡◌, ◌≤◌, IfOk, Ok, not, if◌th
 ghost use Rattle.tt_hub.specs.declared.verdict.Verdict.TheVariants.{Welcome, Ends};
 ghost use Rattle.tt_hub.specs.Judged.{general, wrong_revision, is_same_game, may_join, judged_reading, judged};
 
-use crate::setup::Setup;
 use crate::table::Standing;
 use std::alloc::Global;
 use tt_frame::{Bad, OutOfMemory, UpTo};
 use tt_game::GameMsg;
+use tt_world::Setup;
 
 /// The number of a request to join.
 const JOIN: u8 = 2;

@@ -1,18 +1,14 @@
 -- Numbers that are spelled in digits.
-use Rattle.std.proofs.Common.{◌≡◌, ◌≢◌, ℕ, zero, suc, ◌<◌, ◌^◌, List, [], ◌∷◌, length, get_or, Result, Ok, Err, refl, sym, ap, ◌∙◌, arith}
+use Rattle.std.proofs.Common.{◌≡◌, ◌≢◌, ℕ, zero, suc, ◌<◌, ◌^◌, List, get_or, Result, Ok, Err, refl, sym, ap, ◌∙◌, arith}
 use Rattle.std.specs.Fmt.{decimal}
-use Rattle.std.specs.Prelude.{IfSome, IfNone, ◌≤◌, ◌-◌, take, drop}
-use Rattle.std.proofs.lemmas.List.{take_rest}
-use Rattle.std.specs.Result.{OkIff, result_ok}
+use Rattle.std.specs.Prelude.{IfSome, IfNone, ◌≤◌}
+use Rattle.std.specs.Result.{result_ok}
 use Rattle.std.specs.Str.{IsUtf8}
 use Rattle.std.specs.Str.Parse.{AllDigits, ParsesUnsigned, digits_value}
 use Rattle.std.proofs.lemmas.Fmt.{decimal_digit, decimal_nonempty, first_decimal, decimal-digits_value, parse-decimal, IsAscii-decimal, decimal_injective}
 use Rattle.std.proofs.lemmas.Str.{IsUtf8-from_ascii}
-use Rattle.std.proofs.lemmas.Str.Parse.{IsNumeralModel, numerals_by_value, tells_digits, parse_plain, digit_at}
+use Rattle.std.proofs.lemmas.Str.Parse.{IsNumeralModel, numerals_by_value, tells_digits, parse_plain}
 use Rattle.tt_replay.specs.Numbers.{StartsPlain}
-use Rattle.tt_replay.specs.Script.{IsLine, body_of}
-use Rattle.tt_replay.specs.declared.script_line.ScriptLine.{ScriptLine}
-use Rattle.tt_replay.specs.declared.script_line.ScriptLine.TheVariants.{Tick}
 
 pub own : IsNumeralModel (AllDigits 10) (digits_value 10)
 own = numerals_by_value (AllDigits 10) tells_digits
@@ -41,9 +37,8 @@ parsed_none digits (Err x) parses = λ n lt is. let h = parse-decimal 32 n digit
 pub decimal_text : (digits : List ℕ) (n : ℕ) → n < 2 ^ 32 → digits ≡ decimal n → IsUtf8 digits
 decimal_text digits n lt e = rw e (IsUtf8-from_ascii (decimal n) (IsAscii-decimal n (omega arith)))
 
--- a line of ticks whose number is out of range is no other line
-pub ticks_out : (text : List ℕ) (n : ℕ) → n < 2 ^ 32 → take (length text - 5) (drop 5 text) ≡ decimal n → (1 ≤ n → n ≤ 1000000 → ⊥) → (line : ScriptLine) → IsLine line → text ≢ body_of line
-ticks_out text n lt is out (Tick m) fits e =
-    let front : decimal n ≡ decimal m = sym is ∙ take_rest text 5 ∙ ap (drop 5) e in
-    let same : n ≡ m = decimal_injective n m (omega arith) (omega (arith, fits.1)) front in
-    out (omega (arith, fits.0, same)) (omega (arith, fits.1, same))
+-- a number that is spelled so and out of range is no other number in range
+pub ticks_out : (digits : List ℕ) (n : ℕ) → n < 2 ^ 32 → digits ≡ decimal n → (1 ≤ n → n ≤ 1000000 → ⊥) → (m : ℕ) → 1 ≤ m → m ≤ 1000000 → digits ≢ decimal m
+ticks_out digits n lt is out m low high e =
+    let same : n ≡ m = decimal_injective n m (omega arith) (omega (arith, high)) (sym is ∙ e) in
+    out (omega (arith, low, same)) (omega (arith, high, same))

@@ -2,3 +2,6 @@ pub mod Decimals
 pub mod Breaks
 pub mod Pieces
 pub mod Lines
+pub mod Streams
+pub mod Plays
+pub mod Reports

@@ -1,13 +1,10 @@
 -- Scripts, line by line.
-use Rattle.std.proofs.Common.{◌≡◌, ◌≢◌, ℕ, zero, suc, ◌+◌, ◌≤◌, ◌<◌, ◌^◌, List, [], ◌∷◌, ◌++◌, length, get_or, refl, sym, ap, ◌∙◌, append_assoc, arith}
-use Rattle.std.specs.Prelude.{sum_by, codes, true, false, not, ◌==◌, ◌-◌, take, drop}
-use Rattle.std.proofs.lemmas.List.{take_rest, take-append-drop, drop_more}
-use Rattle.std.specs.List.{AllByRecursion, list_all}
-use Rattle.std.proofs.lemmas.Bool.{and_parts, eqb-false, ne_eqb, not-true}
+use Rattle.std.proofs.Common.{◌≡◌, ◌≢◌, ℕ, ◌+◌, ◌≤◌, ◌<◌, List, [], ◌∷◌, ◌++◌, length, get_or, refl, sym, ap, ap₂, ◌∙◌, append_assoc, arith}
+use Rattle.std.specs.Prelude.{sum_by, codes, false, ◌==◌}
+use Rattle.std.specs.List.{AllByRecursion}
+use Rattle.std.proofs.lemmas.Bool.{ne_eqb}
 use Rattle.std.specs.Fmt.{decimal}
-use Rattle.std.specs.Str.Parse.{AllDigits}
-use Rattle.std.proofs.lemmas.Fmt.{decimal_injective, digits_decimal}
-use Rattle.std.proofs.lemmas.Str.Parse.{digit_at}
+use Rattle.std.proofs.lemmas.Fmt.{decimal_injective}
 use Rattle.std.proofs.lemmas.List.Concat.{flat_map-cons}
 use Rattle.std.proofs.lemmas.List.Sums.{sum_by-append, sum_by-cons}
 use Rattle.tt_replay.specs.Script.{piece_text, body_of, line_text, script_text, with_last_break, IsLine, Spells, HasNoBreak, ticks_of, openings_of}
@@ -25,19 +22,23 @@ body_one (Bytes conn piece) fits =
     (has_no-append 10 (decimal conn) (32 ∷ encode_lower piece) (decimal_one 10 conn (omega arith) (omega (arith, fits.0))) (has_no-cons 10 32 (encode_lower piece) (λ e. omega (arith, e)) (lower_one 10 piece (omega arith) fits.1.bytes)))
 body_one (Tick n) fits = has_no-append 10 (codes "tick ") (decimal n) (has_no-test 10 (codes "tick ") refl) (decimal_one 10 n (omega arith) (omega (arith, fits.1)))
 
+-- texts with another first byte are apart
+first_apart : {xs ys : List ℕ} → xs ≡ ys → (get_or xs 0 0 ≡ get_or ys 0 0 → ⊥) → ⊥
+first_apart e apart = apart (ap (λ (xs : List ℕ). get_or xs 0 0) e)
+
 -- a line is spelled in one way
 pub body_injective : (a b : ScriptLine) → IsLine a → IsLine b → body_of a ≡ body_of b → a ≡ b
 body_injective Open Open fits other e = refl
-body_injective Open (Bytes conn piece) fits other e = absurd cc
-body_injective Open (Tick n) fits other e = absurd cc
-body_injective (Bytes conn piece) Open fits other e = absurd cc
+body_injective Open (Bytes conn piece) fits other e = absurd (first_apart e (λ is. omega (arith, is)))
+body_injective Open (Tick n) fits other e = absurd (first_apart e (λ is. omega (arith, is)))
+body_injective (Bytes conn piece) Open fits other e = absurd (first_apart e (λ is. omega (arith, is)))
 body_injective (Bytes conn piece) (Bytes to more) fits other e =
     let words : piece_text conn piece ≡ piece_text to more = cc in
     let same = piece_injective conn to piece more fits.0 other.0 fits.1 other.1 words in
     ap₂ Bytes same.0 same.1
-body_injective (Bytes conn piece) (Tick n) fits other e = absurd cc
-body_injective (Tick m) Open fits other e = absurd cc
-body_injective (Tick m) (Bytes conn piece) fits other e = absurd cc
+body_injective (Bytes conn piece) (Tick n) fits other e = absurd (first_apart e (λ is. omega (arith, is)))
+body_injective (Tick m) Open fits other e = absurd (first_apart e (λ is. omega (arith, is)))
+body_injective (Tick m) (Bytes conn piece) fits other e = absurd (first_apart e (λ is. omega (arith, is)))
 body_injective (Tick m) (Tick n) fits other e =
     let digits : decimal m ≡ decimal n = cc in
     ap Tick (decimal_injective m n (omega (arith, fits.1)) (omega (arith, other.1)) digits)
@@ -125,4 +126,3 @@ pub last_break-none : (text : List ℕ) → 0 < length text → HasNoBreak text 
 last_break-none [] some one = absurd (omega (arith, some))
 last_break-none (a ∷ []) some one = let other : (a == 10) ≡ false = ne_eqb a 10 (one 0 (omega arith)) in rw other refl
 last_break-none (a ∷ b ∷ text) some one = ap (λ (t : List ℕ). a ∷ t) (last_break-none (b ∷ text) (omega arith) (has_no-rest 10 a (b ∷ text) one))
-

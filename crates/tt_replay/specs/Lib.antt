@@ -2,4 +2,5 @@ pub mod Numbers
 pub mod Script
 pub mod Played
 pub mod Report
+pub mod Playing
 pub mod Statuses

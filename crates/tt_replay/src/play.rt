@@ -1,59 +1,234 @@
 //! The lines of a script, done on a hub in order.
-ghost use Rattle.std.specs.Prelude.{◌≡◌, ◌+◌, ◌<◌, ◌≤◌, [], ◌∷◌, ◌++◌, OnOk, replicate, sum_by};
-ghost use Rattle.tt_hub.specs.Table.{table_of, last_frame};
-ghost use Rattle.tt_replay.specs.Script.{ticks_of};
-ghost use Rattle.tt_replay.specs.Played.{played, events_of};
+//!
+//! A play keeps the hub, the bytes of the one connection that are no whole packet yet, and how many lines were refused.
+ghost use Rattle.std.specs.Prelude.{◌≡◌, ◌+◌, ◌<◌, ◌≤◌, [], ◌∷◌, ◌++◌, true, false, length, drop, IfOk, OnOk, OnErr, replicate};
+ghost use Rattle.tt_frame.specs.Packet.{IsBytes};
+ghost use Rattle.tt_frame.specs.Stream.{rest_of};
+ghost use Rattle.tt_frame.specs.StreamReading.{reading};
+ghost use Rattle.tt_edge.specs.Event.{opens};
+ghost use Rattle.tt_world.specs.Setup.{plain};
+ghost use Rattle.tt_hub.specs.Table.{is_taken, is_there};
+ghost use Rattle.tt_hub.specs.Stepped.{table_of};
+ghost use Rattle.tt_hub.specs.Hub.{is_live};
+ghost use Rattle.tt_replay.specs.Script.{IsScript, IsPiece, IsLine, ticks_of, openings_of};
+ghost use Rattle.tt_replay.specs.Played.{Played, nothing, reader_limit, stream_events, until_ended, with_piece, done, played};
+ghost use Rattle.tt_replay.specs.Playing.{IsAt};
 
-use crate::script::ScriptLine;
-use tt_edge::{Core, CoreErr, Event};
-use tt_frame::OutOfMemory;
+use crate::script_line::ScriptLine;
+use std::alloc::Global;
+use tt_edge::{Body, Core, CoreErr, Door, Event, Peer};
+use tt_frame::{Next, OutOfMemory, first_of};
 use tt_hub::Hub;
+use tt_world::Setup;
 
-/// Does the lines in order. The hub has taken their events then.
-pub fn play(hub: &mut Hub, lines: &[ScriptLine]) -> Result<(), OutOfMemory>
-    requires { (table_of hub.old.setup hub.old.events).frame + sum_by ticks_of lines.now ≤ last_frame }
-    ensures events { OnOk result (hub.new.events ≡ hub.old.events ++ played lines.now) }
-    ensures setup { hub.new.setup ≡ hub.old.setup }
+/// The largest packet that is read.
+const READER_LIMIT: u16 = 32_767;
+
+/// Where every opening of a script comes from.
+const NOBODY: Peer = Peer {
+    host: [0; 4],
+    port: 0,
+};
+
+/// What the lines done so far came to.
+#[derive(Drop)]
+pub struct Play {
+    /// The hub, which has taken their events.
+    pub hub: Hub,
+    /// What of the connection's stream is no whole packet yet.
+    pub rest: Vec<u8>,
+    /// How many lines were refused.
+    pub refused: u32,
+}
+
+/// Does the lines of a script in order, on a hub that is made for it.
+pub fn play_lines(alloc: Global, lines: &[ScriptLine]) -> Result<Play, OutOfMemory>
+    requires { IsScript lines.now }
+    ensures played { IfOk result (λ play. IsAt play (played lines.now)) }
 {
+    let mut play = begun(alloc)?;
     for line in lines {
-        play_line(hub, *line)?;
+        do_line(alloc, &mut play, line)?;
     }
-    Ok(())
+    Ok(play)
+}
+
+/// A play of no lines yet.
+fn begun(alloc: Global) -> Result<Play, OutOfMemory>
+    ensures at { IfOk result (λ play. IsAt play nothing) }
+{
+    Ok(Play {
+        hub: Hub::new(alloc, &Setup::plain())?,
+        rest: Vec::new(alloc),
+        refused: 0,
+    })
 }
 
 /// Does one line.
-fn play_line(hub: &mut Hub, line: ScriptLine) -> Result<(), OutOfMemory>
-    requires { (table_of hub.old.setup hub.old.events).frame + ticks_of line ≤ last_frame }
-    ensures events { OnOk result (hub.new.events ≡ hub.old.events ++ events_of line) }
-    ensures setup { hub.new.setup ≡ hub.old.setup }
-    ensures frame { OnOk result ((table_of hub.new.setup hub.new.events).frame ≡ (table_of hub.old.setup hub.old.events).frame + ticks_of line) }
+fn do_line(alloc: Global, play: &mut Play, line: &ScriptLine) -> Result<(), OutOfMemory>
+    requires setup { play.old.hub.setup ≡ plain }
+    requires early { (table_of plain play.old.hub.events).frame + ticks_of line.now ≤ 100 }
+    requires few { opens play.old.hub.events + openings_of line.now ≤ 1 }
+    ensures at { (p : Played) → IsAt play.old p → IsLine line.now → OnOk result (IsAt play.new (done p line.now)) }
+    ensures setup { play.new.hub.setup ≡ plain }
+    ensures frame { OnOk result ((table_of plain play.new.hub.events).frame ≡ (table_of plain play.old.hub.events).frame + ticks_of line.now) }
+    ensures openings { OnOk result (opens play.new.hub.events ≡ opens play.old.hub.events + openings_of line.now) }
 {
     match line {
-        ScriptLine::Tick(n) => run_ticks(hub, n),
+        ScriptLine::Open => {
+            open(&mut play.hub)?;
+            Ok(())
+        }
+        ScriptLine::Bytes(conn, piece) => {
+            if play.hub.live(*conn) {
+                feed(alloc, play, *conn, piece.bytes())?;
+                Ok(())
+            } else {
+                refuse(play)?;
+                Ok(())
+            }
+        }
+        ScriptLine::Tick(n) => {
+            run_ticks(&mut play.hub, *n)?;
+            Ok(())
+        }
     }
+}
+
+/// Counts a line that is refused. More than can be told are answered by want of memory.
+fn refuse(play: &mut Play) -> Result<(), OutOfMemory>
+    ensures ok { OnOk result (play.new ≡ record play.old { refused = play.old.refused + 1 }) }
+    ensures hub { play.new.hub ≡ play.old.hub }
+{
+    play.refused = play.refused.checked_add(1).ok_or(OutOfMemory)?;
+    Ok(())
+}
+
+/// The first opening.
+fn open(hub: &mut Hub) -> Result<(), OutOfMemory>
+    requires setup { hub.old.setup ≡ plain }
+    requires early { (table_of plain hub.old.events).frame ≤ 100 }
+    requires none { opens hub.old.events ≡ 0 }
+    ensures events { OnOk result (hub.new.events ≡ hub.old.events ++ Event.Open Door.Main NOBODY ∷ []) }
+    ensures setup { hub.new.setup ≡ plain }
+    ensures taken { hub.new.taken ≡ hub.old.taken }
+{
+    put(
+        hub,
+        Event::Open {
+            door: Door::Main,
+            peer: NOBODY,
+        },
+    )
 }
 
 /// So many ticks.
 fn run_ticks(hub: &mut Hub, n: u32) -> Result<(), OutOfMemory>
-    requires { (table_of hub.old.setup hub.old.events).frame + n ≤ last_frame }
+    requires setup { hub.old.setup ≡ plain }
+    requires early { (table_of plain hub.old.events).frame + n ≤ 100 }
     ensures events { OnOk result (hub.new.events ≡ hub.old.events ++ replicate n Event.Tick) }
-    ensures setup { hub.new.setup ≡ hub.old.setup }
-    ensures frame { OnOk result ((table_of hub.new.setup hub.new.events).frame ≡ (table_of hub.old.setup hub.old.events).frame + n) }
+    ensures setup { hub.new.setup ≡ plain }
+    ensures taken { hub.new.taken ≡ hub.old.taken }
+    ensures frame { OnOk result ((table_of plain hub.new.events).frame ≡ (table_of plain hub.old.events).frame + n) }
 {
     for _ in 0..n {
-        run_tick(hub)?;
+        put(hub, Event::Tick)?;
     }
     Ok(())
 }
 
-/// One tick, which a game takes that is before its last frame.
-fn run_tick(hub: &mut Hub) -> Result<(), OutOfMemory>
-    requires { (table_of hub.old.setup hub.old.events).frame < last_frame }
-    ensures events { OnOk result (hub.new.events ≡ hub.old.events ++ Event.Tick ∷ []) }
-    ensures setup { hub.new.setup ≡ hub.old.setup }
-    ensures frame { OnOk result ((table_of hub.new.setup hub.new.events).frame ≡ (table_of hub.old.setup hub.old.events).frame + 1) }
+/// Feeds a piece to a connection that is live.
+fn feed(alloc: Global, play: &mut Play, conn: u32, piece: &[u8]) -> Result<(), OutOfMemory>
+    requires setup { play.old.hub.setup ≡ plain }
+    requires live { is_live plain play.old.hub.events conn ≡ true }
+    ensures at { (p : Played) → IsAt play.old p → IsPiece piece.now → OnOk result (IsAt play.new (with_piece conn piece.now p)) }
+    ensures setup { play.new.hub.setup ≡ plain }
+    ensures frame { (table_of plain play.new.hub.events).frame ≡ (table_of plain play.old.hub.events).frame }
+    ensures openings { opens play.new.hub.events ≡ opens play.old.hub.events }
 {
-    match hub.event(Event::Tick) {
+    play.rest.extend_from_slice(piece)?;
+    let end = take_packets(alloc, &mut play.hub, conn, &play.rest)?;
+    let rest = Vec::from_slice(alloc, &play.rest[end..])?;
+    play.rest = rest;
+    Ok(())
+}
+
+/// Hands over the packets of the bytes until the connection has ended, and answers where they end.
+fn take_packets(alloc: Global, hub: &mut Hub, conn: u32, bytes: &[u8]) -> Result<usize, OutOfMemory>
+    requires setup { hub.old.setup ≡ plain }
+    requires live { is_live plain hub.old.events conn ≡ true }
+    ensures events { OnOk result (hub.new.events ≡ until_ended conn hub.old.events (stream_events conn bytes.now)) }
+    ensures rest { IfOk result (λ end. is_there (table_of plain hub.new.events).standing ≡ true → (reading reader_limit bytes.now).1 ≡ rest_of (drop end bytes.now)) }
+    ensures within { IfOk result (λ end. end ≤ length bytes.now) }
+    ensures setup { hub.new.setup ≡ plain }
+    ensures taken { hub.new.taken ≡ hub.old.taken }
+    ensures frame { (table_of plain hub.new.events).frame ≡ (table_of plain hub.old.events).frame }
+    ensures openings { opens hub.new.events ≡ opens hub.old.events }
+{
+    let mut end = 0;
+    'packets: while hub.live(conn) {
+        match first_of(&bytes[end..], READER_LIMIT) {
+            Next::Packet { kind, body } => {
+                put_packet(alloc, hub, conn, kind, body)?;
+                end += body.len() + 3;
+            }
+            Next::Partial => return Ok(end),
+            Next::BadSize(_) => {
+                put_broken(hub, conn)?;
+                return Ok(end);
+            }
+        }
+    }
+    Ok(end)
+}
+
+/// A packet of a connection that is live.
+fn put_packet(
+    alloc: Global,
+    hub: &mut Hub,
+    conn: u32,
+    kind: u8,
+    body: &[u8],
+) -> Result<(), OutOfMemory>
+    requires setup { hub.old.setup ≡ plain }
+    requires live { is_live plain hub.old.events conn ≡ true }
+    requires length { length body.now ≤ 32764 }
+    ensures events { OnOk result (hub.new.events ≡ hub.old.events ++ Event.Packet conn kind body.now ∷ []) }
+    ensures setup { hub.new.setup ≡ plain }
+    ensures taken { hub.new.taken ≡ hub.old.taken }
+    ensures frame { (table_of plain hub.new.events).frame ≡ (table_of plain hub.old.events).frame }
+    ensures openings { opens hub.new.events ≡ opens hub.old.events }
+    ensures conn { (table_of plain hub.new.events).conn ≡ (table_of plain hub.old.events).conn }
+{
+    let body = Body::new(alloc, body)?;
+    put(hub, Event::Packet { conn, kind, body })
+}
+
+/// A bad size in the stream of a connection that is live.
+fn put_broken(hub: &mut Hub, conn: u32) -> Result<(), OutOfMemory>
+    requires setup { hub.old.setup ≡ plain }
+    requires live { is_live plain hub.old.events conn ≡ true }
+    ensures events { OnOk result (hub.new.events ≡ hub.old.events ++ Event.Broken conn ∷ []) }
+    ensures setup { hub.new.setup ≡ plain }
+    ensures taken { hub.new.taken ≡ hub.old.taken }
+    ensures frame { (table_of plain hub.new.events).frame ≡ (table_of plain hub.old.events).frame }
+    ensures openings { opens hub.new.events ≡ opens hub.old.events }
+    ensures ended { OnOk result (is_there (table_of plain hub.new.events).standing ≡ false) }
+{
+    put(hub, Event::Broken { conn })?;
+    Ok(())
+}
+
+/// One event that the hub takes now, unless memory runs out.
+fn put(hub: &mut Hub, event: Event) -> Result<(), OutOfMemory>
+    requires setup { hub.old.setup ≡ plain }
+    requires taken { is_taken (table_of plain hub.old.events) event ≡ true }
+    ensures ok { OnOk result (hub.new.events ≡ hub.old.events ++ event ∷ []) }
+    ensures err { OnErr result (hub.new.events ≡ hub.old.events) }
+    ensures setup { hub.new.setup ≡ plain }
+    ensures taken { hub.new.taken ≡ hub.old.taken }
+{
+    match hub.event(event) {
         Ok(_) => Ok(()),
         Err(CoreErr::Memory) => Err(OutOfMemory),
         Err(CoreErr::Over | CoreErr::NoSuch) => unreachable!(),

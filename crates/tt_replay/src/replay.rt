@@ -2,19 +2,19 @@
 ghost use Rattle.std.specs.Prelude.{◌≡◌, ◌⊎◌, ◌≢◌, ◌<◌, ◌≤◌, ◌↔◌, ◌+◌, List, ℕ, Some, length, IfSome, IfOk, true, false};
 ghost use Rattle.std.specs.Io.KnownBytes.{Consumes, Keeps};
 ghost use Rattle.tt_edge.specs.Count.{Rose};
-ghost use Rattle.tt_edge.specs.Source.{ConsumesAtMost};
+ghost use Rattle.tt_edge.specs.Source.{ConsumesAtMost, ConsumesCount};
 ghost use Rattle.tt_replay.specs.declared.script_line.ScriptLine.{ScriptLine};
 ghost use Rattle.tt_replay.specs.Script.{IsScript, Spells};
 ghost use Rattle.tt_replay.specs.Report.{report};
 ghost use Rattle.tt_replay.specs.Statuses.{is_run, input_limit, IsNoScript, IsReported, IsPartlyReported};
 
-use crate::play::play;
+use crate::play::play_lines;
 use crate::report::report_of;
-use crate::script::{ScriptError, ScriptLine, parse_script};
+use crate::script::{ScriptError, parse_script};
+use crate::script_line::ScriptLine;
 use std::alloc::Global;
 use tt_edge::{ReadAllError, Sink, Source, read_all, write_all};
 use tt_frame::{Line, OutOfMemory};
-use tt_hub::{Hub, Setup};
 
 /// All was done as said.
 const DONE: u8 = 0;
@@ -60,8 +60,11 @@ pub fn replay_main<S: Source, K: Sink>(
     ensures source_fault { result ≡ 4 → Rose (S.faults source.old) (S.faults source.new) }
     ensures sink_fault { result ≡ 5 → Rose (K.faults sink.old) (K.faults sink.new) }
 
-    // Too much is read exactly where there is more than the limit, and then one byte past it.
+    // It is told exactly where more than the limit was read, and then that was one byte more. Where memory ran out it
+    // may have been as many.
     ensures too_long { result ≡ 7 → IfSome (S.left source.old) (λ input. input_limit < length input) }
+    ensures over { result ≡ 7 → ConsumesCount (input_limit + 1) (S.left source.old) (S.left source.new) }
+    ensures under { (result ≢ 7) × (result ≢ 6) → ConsumesAtMost input_limit (S.left source.old) (S.left source.new) }
     ensures at_most { ConsumesAtMost (input_limit + 1) (S.left source.old) (S.left source.new) }
 
     // The source was read to its end, and its bytes are no script.
@@ -105,9 +108,8 @@ fn report_of_script(alloc: Global, lines: &[ScriptLine]) -> Result<Vec<u8>, OutO
     requires { IsScript lines.now }
     ensures text { IfOk result (λ text. text.items ≡ report lines.now) }
 {
-    let mut hub = Hub::new(alloc, &Setup::plain())?;
-    play(&mut hub, lines)?;
-    report_of(alloc, &hub)
+    let mut play = play_lines(alloc, lines)?;
+    report_of(alloc, &mut play)
 }
 
 /// Whether the words ask for a run.

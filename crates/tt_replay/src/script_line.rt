@@ -1,5 +1,5 @@
 //! The lines of a script, and the text that spells each.
-ghost use Rattle.std.specs.Prelude.{◌≡◌, ◌≢◌, ◌<◌, ◌≤◌, ◌^◌, ◌++◌, ◌∷◌, ℕ, List, IfOk, IfSome, IfNone, codes};
+ghost use Rattle.std.specs.Prelude.{◌≡◌, ◌≢◌, ◌<◌, ◌≤◌, ◌^◌, ◌++◌, ◌∷◌, ℕ, List, IfOk, IfSome, IfNone, MatchOption, codes};
 ghost use Rattle.std.specs.Fmt.{decimal};
 ghost use Rattle.std.specs.List.{list_all};
 ghost use Rattle.hex.specs.Hex.{encode_lower};
@@ -95,8 +95,7 @@ pub fn line_of(alloc: Global, text: &[u8]) -> Result<Option<ScriptLine>, OutOfMe
 
 /// What stands behind a front of the text, where it begins so.
 fn behind<'a>(text: &'a [u8], front: &[u8]) -> Option<&'a [u8]>
-    ensures found { IfSome result (λ rest. text.now ≡ front.now ++ rest.now) }
-    ensures none { IfNone result ((rest : List ℕ) → text.now ≢ front.now ++ rest) }
+    ensures cases { MatchOption result ((rest : List ℕ) → text.now ≢ front.now ++ rest) (λ rest. text.now ≡ front.now ++ rest.now) }
 {
     text.strip_prefix(front)
 }
@@ -158,7 +157,9 @@ fn piece_of(alloc: Global, digits: &[u8]) -> Result<Option<Piece>, OutOfMemory>
     match hex::decode(alloc, digits) {
         Ok(content) => Ok(Some(Piece { content })),
         Err(FromHexError::OutOfMemory) => Err(OutOfMemory),
-        Err(_) => Ok(None),
+        Err(FromHexError::OddLength) => Ok(None),
+        Err(FromHexError::InvalidStringLength) => Ok(None),
+        Err(FromHexError::InvalidHexCharacter { .. }) => Ok(None),
     }
 }
 

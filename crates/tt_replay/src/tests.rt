@@ -41,7 +41,7 @@ fn call(
         writes.push(write)?;
     }
     let mut source = MemSource::new(script.to_vec(alloc)?, reads).at_most(most);
-    let mut sink = MemSink::new(alloc, 200, writes)?.at_most(most);
+    let mut sink = MemSink::new(alloc, 400, writes)?.at_most(most);
     let status = replay_main(alloc, &words, &mut source, &mut sink);
     let written = sink.bytes().to_vec(alloc)?;
     Ok(Trial { status, written })
@@ -73,7 +73,7 @@ fn a_script_is_reported(rt: HostRuntime) -> Result<(), Fail> {
 #[test]
 fn what_is_no_script_is_refused(rt: HostRuntime) -> Result<(), Fail> {
     let alloc = rt.alloc();
-    let inputs: [&[u8]; 17] = [
+    let inputs: [&[u8]; 25] = [
         b"tick 0\n",
         b"tick 01\n",
         b"tick  1\n",
@@ -90,12 +90,125 @@ fn what_is_no_script_is_refused(rt: HostRuntime) -> Result<(), Fail> {
         b"tick \n",
         b"tick +1\n",
         b"tick 1 \n",
-        b"open\n",
+        b"open\nopen\n",
+        b"bytes 1 0\n",
+        b"bytes 1 \n",
+        b"bytes 1 0A\n",
+        b"bytes 01 00\n",
+        b"bytes 4294967296 00\n",
+        b"bytes 1\n",
+        b"bytes  1 00\n",
+        b"open \n",
     ];
     for input in inputs {
         let trial = run(alloc, input)?;
         assert_eq!(rt; trial.status, 3);
         assert!(rt; trial.written.is_empty());
+    }
+    Ok(())
+}
+
+/// The join packet of a client named Ann, with the revision of the server, in digits.
+const JOIN: &[u8] = b"11000231332e34000d000000416e6e00ff";
+
+/// What a client that joins is told, in digits.
+const WELCOME: &[u8] = b"0e000c0200000000000000747400";
+
+/// The server's line behind no tick, as it ends each of the reports below.
+fn is_report(written: &[u8], conn: &[u8], told: &[u8], end: &[u8]) -> bool {
+    let Some(rest) = written.strip_prefix(conn) else {
+        return false;
+    };
+    let Some(rest) = rest.strip_prefix(told) else {
+        return false;
+    };
+    rest == end
+}
+
+#[test]
+fn a_join_in_single_bytes_is_welcomed(rt: HostRuntime) -> Result<(), Fail> {
+    let alloc = rt.alloc();
+    let mut script = b"open\n".to_vec(alloc)?;
+    for digits in JOIN.chunks(2) {
+        script.extend_from_slice(b"bytes 1 ")?;
+        script.extend_from_slice(digits)?;
+        script.extend_from_slice(b"\n")?;
+    }
+    script.extend_from_slice(b"tick 3\n")?;
+    let trial = run(alloc, &script)?;
+    assert_eq!(rt; trial.status, 0);
+    let end = b"\nserver 3 3 d75be1b8 1fffffff 0 3 0\n";
+    assert!(rt; is_report(&trial.written, b"conn 1 game live ", WELCOME, end));
+    Ok(())
+}
+
+#[test]
+fn a_join_is_judged(rt: HostRuntime) -> Result<(), Fail> {
+    let alloc = rt.alloc();
+    // What stands behind the opening, how the connection stands, what it was told, and what stands behind the server.
+    let trials: [(&[u8], &[u8], &[u8], &[u8]); 7] = [
+        (
+            b"bytes 1 11000231332e33000d000000416e6e00ff\n",
+            b"conn 1 game ended ",
+            b"04000308",
+            b"",
+        ),
+        (b"bytes 1 030004\n", b"conn 1 game ended ", b"04000300", b""),
+        (b"bytes 1 0200\n", b"conn 1 game ended ", b"04000304", b""),
+        (
+            b"bytes 1 1100023133\nbytes 1 2e34000d000000416e6e00ff1100023133\nbytes 1 2e34000d000000416e6e00ff\n",
+            b"conn 1 game ended ",
+            b"0e000c020000000000000074740004000300",
+            b"",
+        ),
+        (
+            b"bytes 1 1100023133\nbytes 1 2e34000d000000416e6e00ff0200\n",
+            b"conn 1 game ended ",
+            b"0e000c020000000000000074740004000304",
+            b"",
+        ),
+        (
+            b"bytes 2 00\nbytes 1 030004\nbytes 1 00\n",
+            b"conn 1 game ended ",
+            b"04000300",
+            b"refused 2\n",
+        ),
+        (b"tick 0", b"", b"", b""),
+    ];
+    for (lines, conn, told, refused) in trials {
+        let mut script = b"open\n".to_vec(alloc)?;
+        script.extend_from_slice(lines)?;
+        let trial = run(alloc, &script)?;
+        if conn.is_empty() {
+            assert_eq!(rt; trial.status, 3);
+        } else {
+            let mut end = b"\n".to_vec(alloc)?;
+            end.extend_from_slice(START)?;
+            end.extend_from_slice(refused)?;
+            assert_eq!(rt; trial.status, 0);
+            assert!(rt; is_report(&trial.written, conn, told, &end));
+        }
+    }
+    Ok(())
+}
+
+/// A script with a join in two pieces.
+const SHORT: &[u8] = b"open\nbytes 1 1100023133\nbytes 1 2e34000d000000416e6e00ff\n";
+
+#[test]
+fn a_fault_over_a_join_is_told(rt: HostRuntime) -> Result<(), Fail> {
+    let alloc = rt.alloc();
+    let whole = run(alloc, SHORT)?;
+    assert_eq!(rt; whole.status, 0);
+    for (read, _) in SHORT.iter().enumerate() {
+        let trial = call(alloc, b"run", SHORT, (Some(read as u64), None), 1)?;
+        assert_eq!(rt; trial.status, 4);
+        assert!(rt; trial.written.is_empty());
+    }
+    for (place, _) in whole.written.iter().enumerate() {
+        let trial = call(alloc, b"run", SHORT, (None, Some(place as u64)), 1)?;
+        assert_eq!(rt; trial.status, 5);
+        assert!(rt; trial.written.as_slice() == &whole.written[..place]);
     }
     Ok(())
 }

@@ -4,7 +4,7 @@ use Rattle.tt_hub.proofs.hub.Hub.new.Goals as goal
 
 pub invariant_of-result : goal.invariant_of-result
 invariant_of-result c = (
-  running-made c.args.setup.now c.copy.result c.new.result.events c.start.result c.new-2.result.items c.copy.ensures.setup c.new.ensures.events c.start.ensures.world c.new-2.ensures.items,
+  running-made c.args.setup.now c.copy.result c.new.result.events c.in_ok-world.world c.new-2.result.items c.copy.ensures.setup c.new.ensures.events c.in_ok-world.ensures.world c.new-2.ensures.items,
   sym (ap length c.new.ensures.events),
   omega arith,
 )

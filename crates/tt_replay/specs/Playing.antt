@@ -1,0 +1,23 @@
+-- What a play is behind some lines.
+use Rattle.std.specs.Prelude.{◌≡◌, true, []}
+use Rattle.tt_frame.specs.Packet.{IsBytes}
+use Rattle.tt_frame.specs.Stream.{rest_of}
+use Rattle.tt_frame.specs.StreamReading.{reading}
+use Rattle.tt_edge.specs.Event.{opens}
+use Rattle.tt_world.specs.Setup.{plain}
+use Rattle.tt_hub.specs.Table.{is_there}
+use Rattle.tt_hub.specs.Stepped.{table_of}
+use Rattle.tt_replay.specs.declared.play.Play.{Play}
+use Rattle.tt_replay.specs.Played.{Played, reader_limit}
+
+-- the hub has taken these events, nothing of what it tells was taken, and the rest of the stream is kept
+pub record IsAt (play : Play) (p : Played) : Type 0 where
+  pub setup : play.hub.setup ≡ plain
+  pub events : play.hub.events ≡ p.events
+  pub taken : play.hub.taken ≡ 0
+  pub refused : play.refused ≡ p.refused
+  pub bytes : IsBytes p.fed
+  pub kept : IsBytes play.rest.items
+  pub unfed : opens p.events ≡ 0 → p.fed ≡ []
+  pub unkept : opens p.events ≡ 0 → play.rest.items ≡ []
+  pub rest : is_there (table_of plain p.events).standing ≡ true → (reading reader_limit p.fed).1 ≡ rest_of play.rest.items
