@@ -1,0 +1,178 @@
+//! Each line says how much work was done, and with the word `time` how long that took.
+//!
+//! `tt_bench N` cuts a stream of N join packets into packets, decodes and encodes each, once from large pieces and once
+//! byte by byte, and runs N frames of a game. Then it puts N ticks into a bare hub, and into rooms over a hub by 1, 2 and 4
+//! threads, shared evenly among them; what is left over is not put. What it prints is the same at each run;
+//! `tt_bench N time` adds the times, which are not.
+#![tactic(auto)]
+
+mod rooms;
+mod work;
+
+use crate::rooms::ticks;
+use crate::work::{frames, joins, messages};
+use std::alloc::Global;
+use std::io::Print;
+use std::process::ExitCode;
+use std::rt::Env;
+use std::sync::Wait;
+use std::thread::Threads;
+use std::time::{Clock, Duration, Instant};
+use std::{env, io};
+use tt_frame::OutOfMemory;
+
+/// The most of each that are measured.
+const MOST: u32 = 10_000_000;
+
+/// The sizes of the pieces in which a stream is fed.
+const LARGE: usize = 1_700;
+
+const SINGLE: usize = 1;
+
+/// How it is used.
+const HELP: &str = "Measures packets, messages, frames and events.
+
+Use: tt_bench N [time]
+
+It does each kind of work N times, at most 10000000, and writes a line for each.
+With the word time each line tells how long that took. The exit status is 0 when all
+was done, 2 for unknown words, 5 when writing failed, and 6 when memory ran out.";
+
+/// Which version it is.
+const VERSION: &str = "tt_bench 0.1";
+
+/// What was asked for: a text, or work.
+#[derive(Clone, Copy)]
+enum Asked {
+    Text(&'static str),
+    Work(Words),
+}
+
+/// How much work is to be done, and whether its times are told.
+#[derive(Clone, Copy)]
+struct Words {
+    count: u32,
+    timed: bool,
+}
+
+fn main(rt: HostRuntime) -> ExitCode {
+    let done = match asked_by(&rt) {
+        None => return ExitCode::from(2),
+        Some(Asked::Text(text)) => say(&rt, text),
+        Some(Asked::Work(words)) => all_measured(&rt, rt.alloc(), &words),
+    };
+    match done {
+        Ok(true) => ExitCode::from(0),
+        Ok(false) => ExitCode::from(6),
+        Err(_) => ExitCode::from(5),
+    }
+}
+
+/// What the words ask for: a number, and perhaps `time` behind it, or a text.
+fn asked_by<R: Env + AllocGlobal>(rt: &R) -> Option<Asked> {
+    let mut words = env::args(rt).ok()?.skip(1);
+    let first = words.next()?;
+    if first.as_str() == "--help" {
+        return Some(Asked::Text(HELP));
+    }
+    if first.as_str() == "--version" {
+        return Some(Asked::Text(VERSION));
+    }
+    let count = first.as_str().parse::<u32>().ok()?;
+    let timed = match words.next() {
+        Some(word) => word.as_str() == "time",
+        None => false,
+    };
+    if count > MOST {
+        return None;
+    }
+    Some(Asked::Work(Words { count, timed }))
+}
+
+/// Writes a text; it needs no memory.
+fn say<R: Print>(rt: &R, text: &str) -> io::Result<bool> {
+    println!(rt; "{text}")?;
+    Ok(true)
+}
+
+/// Does all of the work and prints a line for each; false where memory ran out.
+fn all_measured<R: Threads + Wait + Clock + Print + Sync>(
+    rt: &R,
+    alloc: Global,
+    words: &Words,
+) -> io::Result<bool> {
+    Ok(measured(rt, alloc, words)? && rooms_measured(rt, alloc, words)?)
+}
+
+/// The ticks of a bare hub, and of rooms by 1, 2 and 4 threads.
+fn rooms_measured<R: Threads + Wait + Clock + Print + Sync>(
+    rt: &R,
+    alloc: Global,
+    words: &Words,
+) -> io::Result<bool> {
+    let before = Instant::now(rt)?;
+    let bare = frames(alloc, words.count);
+    let first = Instant::now(rt)?;
+    let by_one = ticks(rt, alloc, words.count, 1);
+    let second = Instant::now(rt)?;
+    let by_two = ticks(rt, alloc, words.count, 2);
+    let third = Instant::now(rt)?;
+    let by_four = ticks(rt, alloc, words.count, 4);
+    let last = Instant::now(rt)?;
+    let (Ok(bare), Ok(one), Ok(two), Ok(four)) = (bare, by_one, by_two, by_four) else {
+        return Ok(false);
+    };
+    let lines = [
+        ("events bare", bare, first.duration_since(before)),
+        ("events by 1 thread", one, second.duration_since(first)),
+        ("events by 2 threads", two, third.duration_since(second)),
+        ("events by 4 threads", four, last.duration_since(third)),
+    ];
+    for (what, count, time) in lines {
+        tell(rt, what, count, words.timed, time)?;
+    }
+    Ok(true)
+}
+
+/// The messages, from large pieces and byte by byte, and the frames.
+fn measured<R: Clock + Print>(rt: &R, alloc: Global, words: &Words) -> io::Result<bool> {
+    let Ok(stream) = joins(alloc, words.count) else {
+        return Ok(false);
+    };
+    let before = Instant::now(rt)?;
+    let whole = messages(alloc, &stream, LARGE);
+    let between = Instant::now(rt)?;
+    let single = messages(alloc, &stream, SINGLE);
+    let behind = Instant::now(rt)?;
+    let ran = frames(alloc, words.count);
+    let last = Instant::now(rt)?;
+    let (Ok(whole), Ok(single), Ok(ran)) = (whole, single, ran) else {
+        return Ok(false);
+    };
+    tell(
+        rt,
+        "messages",
+        whole,
+        words.timed,
+        between.duration_since(before),
+    )?;
+    tell(
+        rt,
+        "messages byte by byte",
+        single,
+        words.timed,
+        behind.duration_since(between),
+    )?;
+    tell(rt, "frames", ran, words.timed, last.duration_since(behind))?;
+    Ok(true)
+}
+
+/// Prints what was done, and where it is asked for how long it took.
+fn tell<R: Print>(rt: &R, what: &str, count: u64, timed: bool, time: Duration) -> io::Result<()> {
+    if timed {
+        let micros = time.as_micros();
+        println!(rt; "{what} {count} in {micros} microseconds")
+    } else {
+        println!(rt; "{what} {count}")
+    }
+}

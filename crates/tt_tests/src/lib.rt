@@ -1,0 +1,8 @@
+//! A room over a hub keeps every tick that two threads put into it: 100 from each leave the hub at frame 200.
+//!
+//! The tests that cross crates stand here, and nothing else does: each uses libraries of this repository together that
+//! know nothing of one another.
+#![tactic(auto)]
+
+#[cfg(test)]
+mod tests;
