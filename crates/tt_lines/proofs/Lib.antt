@@ -1,0 +1,4 @@
+pub mod Decimals
+pub mod Breaks
+pub mod HexDigits
+pub mod LineLaws
