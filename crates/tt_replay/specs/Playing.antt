@@ -12,7 +12,7 @@ use Rattle.tt_replay.specs.Played.{Played, reader_limit}
 
 -- the hub of a game with this setup has taken these events, nothing of what it tells was taken, and the rest of the stream is kept
 pub record IsAt (setup : Setup) (play : Play) (p : Played) : Type 0 where
-  pub setup : play.hub.setup ≡ setup
+  pub made : play.hub.setup ≡ setup
   pub events : play.hub.events ≡ p.events
   pub taken : play.hub.taken ≡ 0
   pub refused : play.refused ≡ p.refused

@@ -68,9 +68,13 @@ abbrev pub company_lines : WorldState → ℕ → List ℕ
 company_lines world zero = []
 company_lines world (suc n) = company_lines world n ++ place_line n (company_of world n)
 
--- a sign's line: its id, its owner, the tile, and its text
+-- a sign's id, its owner, and the tile
+abbrev pub sign_place : Sign → List ℕ
+sign_place g = decimal g.id ++ codes " " ++ decimal g.owner ++ codes " " ++ decimal g.tile
+
+-- a sign's line: where it stands, and its text
 abbrev pub sign_line : Sign → List ℕ
-sign_line g = codes "sign " ++ decimal g.id ++ codes " " ++ decimal g.owner ++ codes " " ++ decimal g.tile ++ codes " " ++ bytes_text g.text ++ codes "\n"
+sign_line g = codes "sign " ++ sign_place g ++ codes " " ++ bytes_text g.text ++ codes "\n"
 
 -- the server's line: the frame, the greatest permitted frame, and the world
 abbrev pub server_line : Table → WorldState → List ℕ

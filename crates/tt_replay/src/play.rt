@@ -85,7 +85,7 @@ fn do_line(alloc: Global, play: &mut Play, line: &ScriptLine) -> Result<(), OutO
     requires few { opens play.old.hub.events + openings_of line.now ≤ 1 }
     ensures at { (p : Played) → IsAt play.old.hub.setup play.old p → IsLine line.now → OnOk result (IsAt play.old.hub.setup play.new (done play.old.hub.setup p line.now)) }
     ensures setup { play.new.hub.setup ≡ play.old.hub.setup }
-    ensures frame { OnOk result ((table_of play.new.hub.setup play.new.hub.events).frame ≡ (table_of play.old.hub.setup play.old.hub.events).frame + ticks_of line.now) }
+    ensures frame { OnOk result ((table_of play.old.hub.setup play.new.hub.events).frame ≡ (table_of play.old.hub.setup play.old.hub.events).frame + ticks_of line.now) }
     ensures openings { OnOk result (opens play.new.hub.events ≡ opens play.old.hub.events + openings_of line.now) }
 {
     match line {
@@ -142,7 +142,7 @@ fn run_ticks(hub: &mut Hub, n: u32) -> Result<(), OutOfMemory>
     ensures events { OnOk result (hub.new.events ≡ hub.old.events ++ replicate n Event.Tick) }
     ensures setup { hub.new.setup ≡ hub.old.setup }
     ensures taken { hub.new.taken ≡ hub.old.taken }
-    ensures frame { OnOk result ((table_of hub.new.setup hub.new.events).frame ≡ (table_of hub.old.setup hub.old.events).frame + n) }
+    ensures frame { OnOk result ((table_of hub.old.setup hub.new.events).frame ≡ (table_of hub.old.setup hub.old.events).frame + n) }
 {
     for _ in 0..n {
         put(hub, Event::Tick)?;
@@ -155,7 +155,7 @@ fn feed(alloc: Global, play: &mut Play, conn: u32, piece: &[u8]) -> Result<(), O
     requires live { is_live play.old.hub.setup play.old.hub.events conn ≡ true }
     ensures at { (p : Played) → IsAt play.old.hub.setup play.old p → IsPiece piece.now → OnOk result (IsAt play.old.hub.setup play.new (with_piece play.old.hub.setup conn piece.now p)) }
     ensures setup { play.new.hub.setup ≡ play.old.hub.setup }
-    ensures frame { (table_of play.new.hub.setup play.new.hub.events).frame ≡ (table_of play.old.hub.setup play.old.hub.events).frame }
+    ensures frame { (table_of play.old.hub.setup play.new.hub.events).frame ≡ (table_of play.old.hub.setup play.old.hub.events).frame }
     ensures openings { opens play.new.hub.events ≡ opens play.old.hub.events }
 {
     play.rest.extend_from_slice(piece)?;
@@ -169,11 +169,11 @@ fn feed(alloc: Global, play: &mut Play, conn: u32, piece: &[u8]) -> Result<(), O
 fn take_packets(alloc: Global, hub: &mut Hub, conn: u32, bytes: &[u8]) -> Result<usize, OutOfMemory>
     requires live { is_live hub.old.setup hub.old.events conn ≡ true }
     ensures events { OnOk result (hub.new.events ≡ until_ended hub.old.setup conn hub.old.events (stream_events conn bytes.now)) }
-    ensures rest { IfOk result (λ end. is_there (table_of hub.new.setup hub.new.events).standing ≡ true → (reading reader_limit bytes.now).1 ≡ rest_of (drop end bytes.now)) }
+    ensures rest { IfOk result (λ end. is_there (table_of hub.old.setup hub.new.events).standing ≡ true → (reading reader_limit bytes.now).1 ≡ rest_of (drop end bytes.now)) }
     ensures within { IfOk result (λ end. end ≤ length bytes.now) }
     ensures setup { hub.new.setup ≡ hub.old.setup }
     ensures taken { hub.new.taken ≡ hub.old.taken }
-    ensures frame { (table_of hub.new.setup hub.new.events).frame ≡ (table_of hub.old.setup hub.old.events).frame }
+    ensures frame { (table_of hub.old.setup hub.new.events).frame ≡ (table_of hub.old.setup hub.old.events).frame }
     ensures openings { opens hub.new.events ≡ opens hub.old.events }
 {
     let mut end = 0;
@@ -206,9 +206,9 @@ fn put_packet(
     ensures events { OnOk result (hub.new.events ≡ hub.old.events ++ Event.Packet conn kind body.now ∷ []) }
     ensures setup { hub.new.setup ≡ hub.old.setup }
     ensures taken { hub.new.taken ≡ hub.old.taken }
-    ensures frame { (table_of hub.new.setup hub.new.events).frame ≡ (table_of hub.old.setup hub.old.events).frame }
+    ensures frame { (table_of hub.old.setup hub.new.events).frame ≡ (table_of hub.old.setup hub.old.events).frame }
     ensures openings { opens hub.new.events ≡ opens hub.old.events }
-    ensures conn { (table_of hub.new.setup hub.new.events).conn ≡ (table_of hub.old.setup hub.old.events).conn }
+    ensures conn { (table_of hub.old.setup hub.new.events).conn ≡ (table_of hub.old.setup hub.old.events).conn }
 {
     let body = Body::new(alloc, body)?;
     put(hub, Event::Packet { conn, kind, body })
@@ -220,9 +220,9 @@ fn put_broken(hub: &mut Hub, conn: u32) -> Result<(), OutOfMemory>
     ensures events { OnOk result (hub.new.events ≡ hub.old.events ++ Event.Broken conn ∷ []) }
     ensures setup { hub.new.setup ≡ hub.old.setup }
     ensures taken { hub.new.taken ≡ hub.old.taken }
-    ensures frame { (table_of hub.new.setup hub.new.events).frame ≡ (table_of hub.old.setup hub.old.events).frame }
+    ensures frame { (table_of hub.old.setup hub.new.events).frame ≡ (table_of hub.old.setup hub.old.events).frame }
     ensures openings { opens hub.new.events ≡ opens hub.old.events }
-    ensures ended { OnOk result (is_there (table_of hub.new.setup hub.new.events).standing ≡ false) }
+    ensures ended { OnOk result (is_there (table_of hub.old.setup hub.new.events).standing ≡ false) }
 {
     put(hub, Event::Broken { conn })?;
     Ok(())
