@@ -1,0 +1,155 @@
+//! The digest of a password, and a table of verdicts.
+use crate::*;
+use std::test::*;
+use tt_frame::{Line, Name, Short};
+use tt_game::GameMsg;
+
+#[test]
+fn a_password_is_digested(rt: HostRuntime) -> Result<(), Fail> {
+    let password = Line::new(b"tttttttttttttttttttttttttttttttt");
+    let id = Name::new(b"tt");
+    if let (Some(password), Some(id)) = (password, id) {
+        let digest = password_digest(&password, &id, 0);
+        assert_eq!(rt;
+            digest.as_slice(),
+            b"70bc8f4b72a86921468bf8e8441dce51".as_slice()
+        );
+    } else {
+        assert!(rt; false);
+    }
+    Ok(())
+}
+
+/// A member with this status, in company 3, which lives.
+fn standing(status: Status) -> Standing {
+    Standing {
+        status,
+        company: 3,
+        waiting: 15,
+        acked: 10,
+        told: 20,
+    }
+}
+
+/// The companies 0 to 3 live.
+fn live() -> Live {
+    let mut live = Live::none();
+    for _ in 0..4 {
+        let _ = live.add();
+    }
+    live
+}
+
+/// The ten statuses.
+fn statuses() -> [Status; 10] {
+    [
+        Status::Inactive,
+        Status::NewgrfsCheck,
+        Status::AuthGame,
+        Status::AuthCompany,
+        Status::Authorized,
+        Status::MapWait,
+        Status::Map,
+        Status::DoneMap,
+        Status::PreActive,
+        Status::Active,
+    ]
+}
+
+/// A message for each kind, and for each status whether it is permitted.
+fn permissions() -> [(GameMsg, [bool; 10]); 6] {
+    let never = [false; 10];
+    let mut inactive = never;
+    inactive[0] = true;
+    let mut authorized = never;
+    authorized[4] = true;
+    let mut done = never;
+    done[7] = true;
+    let mut playing = never;
+    playing[8] = true;
+    playing[9] = true;
+    [
+        (GameMsg::ClientGameInfo, inactive),
+        (GameMsg::ClientGetmap, authorized),
+        (GameMsg::ClientMapOk, done),
+        (GameMsg::ClientAck { frame: 15 }, playing),
+        (GameMsg::ClientQuit, [true; 10]),
+        (GameMsg::ServerShutdown, never),
+    ]
+}
+
+#[test]
+fn a_status_permits_or_not(rt: HostRuntime) -> Result<(), Fail> {
+    let live = live();
+    for (msg, permitted) in permissions() {
+        for (place, status) in statuses().into_iter().enumerate() {
+            let wanted = if permitted[place] {
+                Verdict::Allowed
+            } else {
+                Verdict::Ends(7)
+            };
+            assert_eq!(rt; verdict(&standing(status), &live, &msg), wanted);
+        }
+    }
+    Ok(())
+}
+
+/// A command for a company with a code.
+fn command(company: u8, code: u16) -> GameMsg {
+    let text = match Short::new(b"") {
+        Some(text) => text,
+        None => unreachable!(),
+    };
+    GameMsg::ClientCommand {
+        company,
+        code,
+        number: 0,
+        to: 0,
+        text,
+    }
+}
+
+#[test]
+fn refusals_stand_in_their_order(rt: HostRuntime) -> Result<(), Fail> {
+    let live = live();
+    let active = standing(Status::Active);
+    let mut busy = active;
+    busy.waiting = 16;
+    assert_eq!(rt; verdict(&busy, &live, &command(9, 9)), Verdict::Ends(15));
+    assert_eq!(rt; verdict(&active, &live, &command(9, 9)), Verdict::Ends(7));
+    assert_eq!(rt; verdict(&active, &live, &command(3, 7)), Verdict::Ends(12));
+    assert_eq!(rt; verdict(&active, &live, &command(4, 0)), Verdict::Ends(12));
+    assert_eq!(rt; verdict(&active, &live, &command(2, 0)), Verdict::Ends(11));
+    assert_eq!(rt; verdict(&active, &live, &command(3, 0)), Verdict::Allowed);
+    assert_eq!(rt;
+        verdict(&active, &live, &GameMsg::ClientAck { frame: 9 }),
+        Verdict::Ends(7)
+    );
+    assert_eq!(rt;
+        verdict(&active, &live, &GameMsg::ClientAck { frame: 21 }),
+        Verdict::Ends(7)
+    );
+    assert_eq!(rt;
+        verdict(
+            &active,
+            &live,
+            &GameMsg::ClientMove {
+                company: 4,
+                digest: None
+            }
+        ),
+        Verdict::Ends(11)
+    );
+    assert!(rt; command_of(9, 0, 0, &short()).is_none());
+    assert!(rt; command_of(8, 0, 0, &short()).is_some());
+    assert_eq!(rt; number_of(tt_world::Code::NewCompany), 8);
+    Ok(())
+}
+
+/// The empty text.
+fn short() -> Short {
+    match Short::new(b"") {
+        Some(text) => text,
+        None => unreachable!(),
+    }
+}
