@@ -1,0 +1,27 @@
+-- What a list of events makes of a game.
+use Rattle.std.specs.Prelude.{◌≡◌, true, List, [], ◌∷◌, fold}
+use Rattle.tt_edge.specs.declared.event.Event.{Event}
+use Rattle.tt_world.specs.declared.command.Entry.{Entry}
+use Rattle.tt_world.specs.World.{WorldState}
+use Rattle.tt_log.specs.Origin.{Origin}
+use Rattle.tt_log.specs.Table.{Table, first, world_of}
+use Rattle.tt_log.specs.Events.{takes, stepped}
+
+-- the table behind the events, from nobody being there on
+abbrev pub table_of : Origin → List Event → Table
+table_of o events = fold (stepped o) first events
+
+-- the journal behind the events, and the world
+abbrev pub journal_of : Origin → List Event → List Entry
+journal_of o events = (table_of o events).journal
+
+abbrev pub world_behind : Origin → List Event → WorldState
+world_behind o events = world_of o (table_of o events)
+
+-- each event can be taken where it stands
+abbrev pub AllTaken : Origin → Table → List Event → Type 0
+AllTaken o t [] = Unit {0}
+AllTaken o t (e ∷ events) = (takes t e ≡ true) × AllTaken o (stepped o t e) events
+
+abbrev pub IsHistory : Origin → List Event → Type 0
+IsHistory o events = AllTaken o first events

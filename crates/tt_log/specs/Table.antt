@@ -1,0 +1,88 @@
+-- The server's table: all that the rules speak of, but for the world and bytes.
+use Rattle.std.specs.Prelude.{ℕ, Bool, false, not, ◌==◌, cond, List, [], ◌∷◌, ◌++◌, map, filter, find, length, Option, is_some, option_map}
+use Rattle.tt_world.specs.declared.command.Command.{Command}
+use Rattle.tt_world.specs.declared.command.Entry.{Entry}
+use Rattle.tt_world.specs.World.{WorldState}
+use Rattle.tt_rules.specs.Companies.{living}
+use Rattle.tt_log.specs.Origin.{Origin, world_at}
+use Rattle.tt_rules.specs.declared.status.Status.{Status}
+use Rattle.tt_log.specs.Member.{Member, is_playing, is_welcomed}
+
+pub record Table : Type 0 where
+  -- in order of arrival
+  pub members : List Member
+  -- the connections that asked for the map, in order; the first one downloads
+  pub queue : List ℕ
+  -- the companies with a password, each with its digest
+  pub digests : List (ℕ × List ℕ)
+  -- the server's own list of commands that wait
+  pub own : List Command
+  pub journal : List Entry
+  pub frame : ℕ
+  -- the greatest permitted frame
+  pub top : ℕ
+  -- connections opened so far, and the last client number given
+  pub openings : ℕ
+  pub clients : ℕ
+  -- what the events so far cost
+  pub cost : ℕ
+  pub over : Bool
+
+-- nobody is there; the server itself is client 1
+abbrev pub first : Table
+first = record { members = []; queue = []; digests = []; own = []; journal = []; frame = 0; top = 0; openings = 0; clients = 1; cost = 0; over = false }
+
+-- the world: that of the journal at the table's frame
+abbrev pub world_of : Origin → Table → WorldState
+world_of o t = world_at o t.journal t.frame
+
+-- its live companies
+abbrev pub living_in : Origin → Table → List Bool
+living_in o t = living (world_of o t)
+
+-- how many companies live
+abbrev pub live_companies : Origin → Table → ℕ
+live_companies o t = length (filter (λ (lives : Bool). lives) (living_in o t))
+
+-- ---- members
+
+abbrev pub is_on : ℕ → Member → Bool
+is_on conn m = m.conn == conn
+
+abbrev pub member_of : Table → ℕ → Option Member
+member_of t conn = find (is_on conn) t.members
+
+abbrev pub is_live : Table → ℕ → Bool
+is_live t conn = is_some (member_of t conn)
+
+-- S: the connections of the members that play, in order of arrival
+abbrev pub playing : Table → List ℕ
+playing t = map (λ m. m.conn) (filter is_playing t.members)
+
+-- the welcomed members, in order of arrival
+abbrev pub welcomed : Table → List Member
+welcomed t = filter is_welcomed t.members
+
+-- the table with a member in the place of the one on its connection
+abbrev pub with_member : Member → Table → Table
+with_member m t = record t { members = map (λ n. cond (n.conn == m.conn) m n) t.members }
+
+abbrev pub without_member : ℕ → Table → Table
+without_member conn t = record t { members = filter (λ m. not (is_on conn m)) t.members }
+
+-- a member with a status that begins now
+abbrev pub now_in : Status → Table → Member → Member
+now_in status t m = record m { status = status; since = t.frame }
+
+-- ---- company passwords
+
+abbrev pub digest_of : Table → ℕ → Option (List ℕ)
+digest_of t company = option_map (λ (d : ℕ × List ℕ). d.1) (find (λ (d : ℕ × List ℕ). d.0 == company) t.digests)
+
+abbrev pub option_list : {A : Type 0} → Option A → List A
+option_list Option.None = []
+option_list (Option.Some x) = x ∷ []
+
+-- the table in which the company has this digest, or none
+abbrev pub with_digest : ℕ → Option (List ℕ) → Table → Table
+with_digest company digest t = record t { digests = filter (λ (d : ℕ × List ℕ). not (d.0 == company)) t.digests ++ option_list (option_map (λ (d : List ℕ). (company, d)) digest) }
