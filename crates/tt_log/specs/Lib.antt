@@ -14,3 +14,5 @@ pub mod History
 pub mod Steps
 pub mod Told
 pub mod Stamps
+pub mod NotYet
+pub mod Shown

@@ -2,6 +2,5 @@
 #![tactic(auto)]
 
 mod bad;
-mod numbers;
 
 pub use bad::MapBad;
