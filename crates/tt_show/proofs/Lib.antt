@@ -1,0 +1,4 @@
+pub mod ReadLaws
+pub mod TextLaws
+pub mod ShowLaws
+pub mod FamilyLaws
