@@ -1,5 +1,5 @@
 -- The families, one by one: each rule of a table is named, one refl for each, and so a packet's line is that of its row.
-use Rattle.std.proofs.Common.{◌≡◌, ℕ, List, None, Err, refl, sym, ap, subst}
+use Rattle.std.proofs.Common.{◌≡◌, List, None, Err, refl, sym, ap, subst}
 use Rattle.tt_frame.specs.Packet.{Packet}
 use Rattle.tt_frame.specs.Unread.{Unread, whole}
 use Rattle.tt_frame.specs.Rows.{Row, unknown, Maker, row_at}

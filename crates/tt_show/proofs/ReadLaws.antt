@@ -1,5 +1,5 @@
 -- Texts that are read and appended step by step.
-use Rattle.std.proofs.Common.{◌≡◌, ℕ, zero, suc, ◌+◌, ◌-◌, ◌<◌, ◌≤◌, true, false, eqb, eq-eqb, List, [], ◌∷◌, ◌++◌, length, get_or, drop, Result, Ok, Err, refl, sym, ap, subst, ◌∙◌, append_assoc, arith}
+use Rattle.std.proofs.Common.{◌≡◌, ℕ, suc, ◌+◌, ◌-◌, ◌<◌, ◌≤◌, true, false, eqb, eq-eqb, List, [], ◌∷◌, ◌++◌, length, get_or, drop, Result, Ok, Err, refl, sym, ap, subst, ◌∙◌, append_assoc, arith}
 use Rattle.std.specs.Result.{IsErrAnd}
 use Rattle.std.specs.Fmt.{decimal}
 use Rattle.tt_frame.specs.FieldForms.{CountWidth, Field, within, Value, field_at}
@@ -192,7 +192,14 @@ row_stops_as (Malformed at) name before between after other reading h = h
 
 pub row_done : (name before between later after : List ℕ) (reading : TextRead) → between ≡ before ++ name → WordsPut (Ok tt) between later reading → after ≡ later ++ 10 ∷ [] → RowPut (Ok tt) name before after reading
 row_done name before between later after reading named (t, h) ends =
-    let words = fronted_ok between later reading t h in
-    (words.0, (t, (words.1.0,
-    ends ∙ ap (λ (text : List ℕ). text ++ 10 ∷ []) (words.1.1 ∙ ap (λ (text : List ℕ). text ++ words.0) named ∙ append_assoc before name words.0)
-    ∙ append_assoc before (name ++ words.0) (10 ∷ []))))
+    let words = fronted_ok between later reading t h in (
+      words.0,
+      (
+        t,
+        (
+          words.1.0,
+          ends ∙ ap (λ (text : List ℕ). text ++ 10 ∷ []) (words.1.1 ∙ ap (λ (text : List ℕ). text ++ words.0) named ∙ append_assoc before name words.0)
+              ∙ append_assoc before (name ++ words.0) (10 ∷ []),
+        ),
+      ),
+    )

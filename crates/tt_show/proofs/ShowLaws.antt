@@ -2,14 +2,17 @@
 use Rattle.std.proofs.Common.{◌≡◌, ℕ, Bool, true, false, cond, eqb, List, [], ◌∷◌, ◌++◌, Option, Some, None, Result, Ok, Err, refl, sym, ap, ap₂, subst, ◌∙◌}
 use Rattle.std.specs.Prelude.{codes}
 use Rattle.std.proofs.lemmas.Bool.{eqb-true}
-use Rattle.tt_frame.specs.Unread.{Unread}
-use Rattle.tt_frame.specs.Tables.{Rule, rule_of}
+use Rattle.tt_frame.specs.Packet.{IsBytes}
+use Rattle.tt_frame.specs.Unread.{whole}
+use Rattle.tt_frame.specs.Tables.{Rule, rule_of, SpelledBy, read_by}
 use Rattle.tt_frame.specs.Apart.{Values, made_of}
 use Rattle.tt_frame.specs.declared.bad.Bad.{Bad}
 use Rattle.tt_frame.specs.declared.bad.Bad.TheVariants.{Memory, Malformed}
+use Rattle.tt_frame.proofs.RowLaws.{row_again}
+use Rattle.tt_frame.proofs.TableLaws.{is_found}
 use Rattle.tt_show.specs.Names.{name_of}
 use Rattle.tt_show.specs.Texts.{row_text}
-use Rattle.tt_show.specs.Packets.{Messages, message_text, text_of, Appends}
+use Rattle.tt_show.specs.Packets.{Messages, message_text, text_of, text_by, Appends}
 use Rattle.tt_show.specs.TextReading.{TextRead, RowPut}
 use Rattle.tt_show.proofs.TextLaws.{Linked}
 
@@ -61,3 +64,16 @@ line_told line name table none put old new reading tells named empty (words, (t,
     let whole : put ≡ line_of table words = is ∙ ap₂ (λ (front title : List ℕ). front ++ line_of title words) empty named in
     let Q : Option (List ℕ) → Type 0 = λ o. Appends o old new in
     subst Q (sym there) (appended ∙ ap (λ (text : List ℕ). old ++ text) whole)
+
+-- ---- the messages that are spelled
+
+pub spelled_line : (M : Type 0) (family : Messages M) (kind : ℕ) (body : List ℕ) (m : M) → SpelledBy family.table m kind body → text_by family (record { kind = kind; body = body }) ≡ Some (message_text family m)
+spelled_line M family kind body m spelled = let l = rule_of family.table kind in ap (text_of family) (row_again l.fields l.make m 0 body spelled)
+
+by_reading : (M : Type 0) (family : Messages M) (kind : ℕ) (body line : List ℕ) → IsBytes body → (z : Result M ℕ) → read_by family.table kind (whole body) ≡ z → text_of family z ≡ Some line
+    → (m : M) × SpelledBy family.table m kind body × (line ≡ message_text family m)
+by_reading M family kind body line fits (Ok m) read is = let same : message_text family m ≡ line = cc in (m, is_found family.table kind body (Ok m) fits read, sym same)
+by_reading M family kind body line fits (Err at) read is = absurd cc
+
+pub line_spelled : (M : Type 0) (family : Messages M) (kind : ℕ) (body line : List ℕ) → IsBytes body → text_by family (record { kind = kind; body = body }) ≡ Some line → (m : M) × SpelledBy family.table m kind body × (line ≡ message_text family m)
+line_spelled M family kind body line fits is = by_reading M family kind body line fits (read_by family.table kind (whole body)) refl is

@@ -7,7 +7,7 @@ use Rattle.tt_frame.specs.Unread.{Unread, skip}
 use Rattle.tt_frame.specs.Reading.{◌>>=◌, within_at, fixed_at}
 use Rattle.tt_frame.specs.FieldForms.{CountWidth, Field, within, Value, field_at}
 use Rattle.tt_frame.specs.ItemForms.{Item, item_at, items_at, marked_at}
-use Rattle.tt_frame.specs.Rows.{Row, unknown, end, rest, ◌▸◌, fixed, counted, marked, Maker, row_at, ended_at, rest_at}
+use Rattle.tt_frame.specs.Rows.{Row, end, rest, ◌▸◌, fixed, counted, marked, Maker, row_at}
 use Rattle.tt_frame.specs.Apart.{Values, made_of}
 use Rattle.tt_show.specs.Words.{word}
 use Rattle.tt_lines.specs.Digits.{bytes_text}
@@ -18,7 +18,7 @@ use Rattle.tt_show.specs.declared.forms.Part.TheVariants as part
 use Rattle.tt_show.specs.declared.forms.Tail.{Tail}
 use Rattle.tt_show.specs.declared.forms.Tail.TheVariants as tail
 use Rattle.tt_show.specs.Forms.{field_of, count_width_of, tail_of, with_part, row_of}
-use Rattle.tt_show.specs.TextReading.{TextRead, fronted, each_read, field_read, form_read, items_read, marked_read, part_read, tail_read, row_read}
+use Rattle.tt_show.specs.TextReading.{TextRead, fronted, each_read, form_read, items_read, marked_read, part_read, tail_read, row_read}
 use Rattle.tt_frame.proofs.FieldLaws.{ok_is}
 use Rattle.tt_show.proofs.ReadLaws.{fronted_step}
 

@@ -4,7 +4,6 @@ use Rattle.std.specs.List.{flat_map, AllByRecursion}
 use Rattle.hex.specs.Hex.{encode_lower}
 use Rattle.tt_lines.specs.Digits.{IsPiece}
 use Rattle.tt_lines.specs.Lines.{lines_of}
-use Rattle.tt_show.specs.declared.family.Family.{Family}
 use Rattle.tt_show.specs.ListLines.{ListLine}
 use Rattle.tt_show.specs.Packets.{family_word}
 use Rattle.tt_show.specs.Streams.{bytes_shown}

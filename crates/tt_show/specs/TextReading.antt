@@ -8,7 +8,7 @@ use Rattle.std.specs.Int.{w8}
 use Rattle.tt_frame.specs.Unread.{Unread, skip}
 use Rattle.tt_frame.specs.Reading.{◌>>=◌, within_at, fixed_at}
 use Rattle.tt_frame.specs.FieldForms.{CountWidth, Field, within, field_at}
-use Rattle.tt_frame.specs.Rows.{Row, unknown, end, rest, ◌▸◌, fixed, counted, marked, ended_at, rest_at}
+use Rattle.tt_frame.specs.Rows.{ended_at, rest_at}
 use Rattle.tt_lines.specs.Digits.{bytes_text}
 use Rattle.tt_show.specs.Words.{word}
 use Rattle.tt_show.specs.Texts.{field_text}

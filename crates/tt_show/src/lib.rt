@@ -10,6 +10,7 @@ mod family;
 mod fields;
 mod forms;
 mod game;
+mod laws;
 mod list;
 mod list_line;
 mod packet;
@@ -19,6 +20,10 @@ mod stream;
 mod values;
 
 pub use family::Family;
+pub use laws::one_line;
 pub use list::{ShowError, show};
 pub use packet::show_packet;
 pub use stream::show_bytes;
+
+#[cfg(test)]
+mod tests;

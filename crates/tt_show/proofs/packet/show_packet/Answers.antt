@@ -1,4 +1,4 @@
-use Rattle.std.proofs.Common.{◌≡◌, ◌++◌, List, ℕ, ap, ◌∙◌}
+use Rattle.std.proofs.Common.{◌++◌, List, ℕ, ap, ◌∙◌}
 use Rattle.tt_frame.specs.Unread.{whole}
 use Rattle.tt_show.specs.Packets.{packet_text}
 use Rattle.tt_show.specs.Forms.{table_name}

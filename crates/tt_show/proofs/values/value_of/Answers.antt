@@ -1,5 +1,5 @@
 -- One line for each form, and one for where it is not there.
-use Rattle.std.proofs.Common.{◌≡◌, ℕ, List, Bor, refl}
+use Rattle.std.proofs.Common.{ℕ, List, Bor, refl}
 use Rattle.tt_frame.specs.FieldForms.{u8, u16, u32, u64, up_to, truth, text, digest, optional_digest, raw}
 use Rattle.tt_show.specs.ValueWords.{value_word}
 use Rattle.tt_show.proofs.ReadLaws.{field_stops_as}
@@ -64,4 +64,3 @@ returns-in_err-raw_of-in-Raw c = rw c.in-Raw.is (field_stops_as _ _ (raw c.in-Ra
 
 pub returns-in_ok-raw_of-in-Raw : goal.returns-in_ok-raw_of-in-Raw
 returns-in_ok-raw_of-in-Raw c = rw (c.in-Raw.is, c.in_ok-raw_of-in-Raw.ensures) refl
-
