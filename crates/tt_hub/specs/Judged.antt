@@ -53,12 +53,13 @@ abbrev pub judged_join : Setup → Standing → List ℕ → ℕ → List ℕ �
 judged_join setup standing revision grf name company =
     if not (is_same_game setup revision grf) then Ends wrong_revision else if may_join standing name company then Welcome else Ends general
 
--- what a packet with the number of a request to join spells; where it spells nothing it is an illegal packet
+-- what a packet spells is judged; where it spells nothing it is an illegal packet, and no other message than a request
+-- to join is built yet
 abbrev pub judged_reading : Setup → Standing → Result GameMsg ℕ → Verdict
 judged_reading setup standing (Ok (ClientJoin revision grf name company)) = judged_join setup standing revision grf name company
 judged_reading setup standing (Ok other) = Ends general
 judged_reading setup standing (Err at) = Ends illegal_packet
 
--- a packet, by its number and body: all but requests to join are not built yet
+-- a packet, by its number and body
 abbrev pub judged : Setup → Standing → ℕ → List ℕ → Verdict
-judged setup standing kind body = if kind == 2 then judged_reading setup standing (read_by messages 2 (whole body)) else Ends general
+judged setup standing kind body = judged_reading setup standing (read_by messages kind (whole body))

@@ -9,9 +9,6 @@ use tt_frame::{Bad, OutOfMemory, UpTo};
 use tt_game::GameMsg;
 use tt_world::Setup;
 
-/// The number of a request to join.
-const JOIN: u8 = 2;
-
 /// The reason of what is not built yet.
 const GENERAL: u8 = 0;
 
@@ -46,17 +43,14 @@ pub fn judged(
 ) -> Result<Verdict, OutOfMemory>
     ensures verdict { IfOk result (λ verdict. verdict ≡ judged setup.now standing kind body.now) }
 {
-    if kind != JOIN {
-        return Ok(Verdict::Ends(code(GENERAL)));
-    }
-    match GameMsg::decode(alloc, JOIN, body) {
+    match GameMsg::decode(alloc, kind, body) {
         Ok(message) => Ok(judged_message(setup, standing, &message)),
         Err(Bad::Malformed { .. }) => Ok(Verdict::Ends(code(ILLEGAL_PACKET))),
         Err(Bad::Memory) => Err(OutOfMemory),
     }
 }
 
-/// What a message is judged: a request to join, since no other has its number.
+/// What a message is judged: all but a request to join are not built yet.
 fn judged_message(setup: &Setup, standing: Standing, message: &GameMsg) -> Verdict
     ensures verdict { result ≡ judged_reading setup.now standing (Ok message.now) }
 {

@@ -1,7 +1,6 @@
-pub mod Decimals
-pub mod Breaks
 pub mod Pieces
 pub mod Lines
 pub mod Streams
 pub mod Plays
 pub mod Reports
+pub mod Answering

@@ -1,4 +1,3 @@
-pub mod Numbers
 pub mod Script
 pub mod Played
 pub mod Report

@@ -7,10 +7,10 @@ use Rattle.tt_edge.specs.declared.event.Door.TheVariants.{Main}
 use Rattle.tt_edge.specs.declared.event.Peer.{Peer}
 use Rattle.tt_edge.specs.declared.event.Event.{Event}
 use Rattle.tt_edge.specs.declared.event.Event.TheVariants as event
-use Rattle.tt_world.specs.Setup.{plain}
+use Rattle.tt_world.specs.declared.setup.Setup.{Setup}
 use Rattle.tt_hub.specs.Hub.{is_live}
 use Rattle.tt_replay.specs.declared.script_line.ScriptLine.{ScriptLine}
-use Rattle.tt_replay.specs.declared.script_line.ScriptLine.TheVariants.{Open, Bytes, Tick}
+use Rattle.tt_replay.specs.declared.script_line.ScriptLine.TheVariants.{SetSeed, Open, Bytes, Tick}
 
 -- the events so far, all bytes that were fed to the one connection, and how many lines were refused
 pub record Played : Type 0 where
@@ -46,9 +46,9 @@ abbrev pub added : ℕ → List ℕ → List ℕ → List Event
 added conn fed piece = drop (length (stream_events conn fed)) (stream_events conn (fed ++ piece))
 
 -- more events, in order, until the connection has ended
-abbrev pub until_ended : ℕ → List Event → List Event → List Event
-until_ended conn events [] = events
-until_ended conn events (e ∷ more) = if is_live plain events conn then until_ended conn (events ++ e ∷ []) more else events
+abbrev pub until_ended : Setup → ℕ → List Event → List Event → List Event
+until_ended setup conn events [] = events
+until_ended setup conn events (e ∷ more) = if is_live setup events conn then until_ended setup conn (events ++ e ∷ []) more else events
 
 -- ---- the lines
 
@@ -56,17 +56,19 @@ until_ended conn events (e ∷ more) = if is_live plain events conn then until_e
 abbrev pub nobody : Peer
 nobody = record { host = 0 ∷ 0 ∷ 0 ∷ 0 ∷ []; port = 0 }
 
-abbrev pub with_piece : ℕ → List ℕ → Played → Played
-with_piece conn piece p = record p { events = until_ended conn p.events (added conn p.fed piece); fed = p.fed ++ piece }
+abbrev pub with_piece : Setup → ℕ → List ℕ → Played → Played
+with_piece setup conn piece p = record p { events = until_ended setup conn p.events (added conn p.fed piece); fed = p.fed ++ piece }
 
 abbrev pub one_refused : Played → Played
 one_refused p = record p { refused = p.refused + 1 }
 
--- a line; a piece of a connection that isn't live is refused, and changes nothing else
-abbrev pub done : Played → ScriptLine → Played
-done p Open = record p { events = p.events ++ event.Open Main nobody ∷ [] }
-done p (Bytes conn piece) = if is_live plain p.events conn then with_piece conn piece p else one_refused p
-done p (Tick n) = record p { events = p.events ++ replicate n event.Tick }
+-- a line of a game with this setup; what a line sets is in the setup already, and a piece of a connection that isn't
+-- live is refused, and changes nothing else
+abbrev pub done : Setup → Played → ScriptLine → Played
+done setup p (SetSeed seed) = p
+done setup p Open = record p { events = p.events ++ event.Open Main nobody ∷ [] }
+done setup p (Bytes conn piece) = if is_live setup p.events conn then with_piece setup conn piece p else one_refused p
+done setup p (Tick n) = record p { events = p.events ++ replicate n event.Tick }
 
-abbrev pub played : List ScriptLine → Played
-played lines = fold done nothing lines
+abbrev pub played : Setup → List ScriptLine → Played
+played setup lines = fold (done setup) nothing lines

@@ -4,15 +4,15 @@ use Rattle.tt_frame.specs.Packet.{IsBytes}
 use Rattle.tt_frame.specs.Stream.{rest_of}
 use Rattle.tt_frame.specs.StreamReading.{reading}
 use Rattle.tt_edge.specs.Event.{opens}
-use Rattle.tt_world.specs.Setup.{plain}
+use Rattle.tt_world.specs.declared.setup.Setup.{Setup}
 use Rattle.tt_hub.specs.Table.{is_there}
 use Rattle.tt_hub.specs.Stepped.{table_of}
 use Rattle.tt_replay.specs.declared.play.Play.{Play}
 use Rattle.tt_replay.specs.Played.{Played, reader_limit}
 
--- the hub has taken these events, nothing of what it tells was taken, and the rest of the stream is kept
-pub record IsAt (play : Play) (p : Played) : Type 0 where
-  pub setup : play.hub.setup ≡ plain
+-- the hub of a game with this setup has taken these events, nothing of what it tells was taken, and the rest of the stream is kept
+pub record IsAt (setup : Setup) (play : Play) (p : Played) : Type 0 where
+  pub made : play.hub.setup ≡ setup
   pub events : play.hub.events ≡ p.events
   pub taken : play.hub.taken ≡ 0
   pub refused : play.refused ≡ p.refused
@@ -20,4 +20,4 @@ pub record IsAt (play : Play) (p : Played) : Type 0 where
   pub kept : IsBytes play.rest.items
   pub unfed : opens p.events ≡ 0 → p.fed ≡ []
   pub unkept : opens p.events ≡ 0 → play.rest.items ≡ []
-  pub rest : is_there (table_of plain p.events).standing ≡ true → (reading reader_limit p.fed).1 ≡ rest_of play.rest.items
+  pub rest : is_there (table_of setup p.events).standing ≡ true → (reading reader_limit p.fed).1 ≡ rest_of play.rest.items

@@ -1,17 +1,21 @@
 -- The report of a game: its text.
-use Rattle.std.specs.Prelude.{ℕ, zero, suc, Bool, true, false, List, [], ◌∷◌, ◌++◌, codes}
+use Rattle.std.specs.Prelude.{ℕ, zero, suc, Bool, true, false, List, [], ◌++◌, codes, Option, None, Some}
 use Rattle.std.specs.Int.{w32, to_be_bytes}
-use Rattle.std.specs.Fmt.{decimal}
+use Rattle.std.specs.List.{flat_map}
+use Rattle.std.specs.Fmt.{decimal, signed_decimal}
 use Rattle.hex.specs.Hex.{encode_lower}
+use Rattle.tt_lines.specs.Digits.{bytes_text}
 use Rattle.tt_edge.specs.declared.event.Event.{Event}
 use Rattle.tt_edge.specs.Event.{opens}
 use Rattle.tt_world.specs.declared.setup.Setup.{Setup}
 use Rattle.tt_hub.specs.declared.table.Table.{Table}
-use Rattle.tt_world.specs.Setup.{plain}
-use Rattle.tt_world.specs.World.{WorldState}
+use Rattle.tt_world.specs.declared.company.Company.{Company}
+use Rattle.tt_world.specs.declared.sign.Sign.{Sign}
+use Rattle.tt_world.specs.World.{WorldState, company_of}
 use Rattle.tt_hub.specs.Stepped.{table_of}
 use Rattle.tt_hub.specs.Hub.{world_of, is_live, sent}
 use Rattle.tt_replay.specs.declared.script_line.ScriptLine.{ScriptLine}
+use Rattle.tt_replay.specs.Script.{setup_of}
 use Rattle.tt_replay.specs.Played.{Played, played}
 
 -- ---- a connection
@@ -19,11 +23,6 @@ use Rattle.tt_replay.specs.Played.{Played, played}
 abbrev pub life_text : Bool → List ℕ
 life_text true = codes "live"
 life_text false = codes "ended"
-
--- bytes in hexadecimal digits, or a dash for none
-abbrev pub bytes_text : List ℕ → List ℕ
-bytes_text [] = codes "-"
-bytes_text (b ∷ bytes) = encode_lower (b ∷ bytes)
 
 -- a connection's line: its number, its door, whether it is live, and all that it was told
 abbrev pub conn_line : Setup → List Event → ℕ → List ℕ
@@ -54,9 +53,36 @@ paused_text false = codes " 0"
 abbrev pub world_text : WorldState → List ℕ
 world_text world = words_text world.words ++ codes " " ++ decimal world.day ++ codes " " ++ decimal world.part ++ paused_text world.paused
 
+-- a live company's line: its number, its money, its loan, its name and its president's
+abbrev pub company_line : ℕ → Company → List ℕ
+company_line number c =
+    codes "company " ++ decimal number ++ codes " " ++ signed_decimal c.money ++ codes " " ++ decimal c.loan ++ codes " " ++ bytes_text c.name ++ codes " " ++ bytes_text c.president ++ codes "\n"
+
+-- a line for a company, where it is live
+abbrev pub place_line : ℕ → Option Company → List ℕ
+place_line number None = []
+place_line number (Some c) = company_line number c
+
+-- the lines of the live companies whose numbers are below this
+abbrev pub company_lines : WorldState → ℕ → List ℕ
+company_lines world zero = []
+company_lines world (suc n) = company_lines world n ++ place_line n (company_of world n)
+
+-- a sign's id, its owner, and the tile
+abbrev pub sign_place : Sign → List ℕ
+sign_place g = decimal g.id ++ codes " " ++ decimal g.owner ++ codes " " ++ decimal g.tile
+
+-- a sign's line: where it stands, and its text
+abbrev pub sign_line : Sign → List ℕ
+sign_line g = codes "sign " ++ sign_place g ++ codes " " ++ bytes_text g.text ++ codes "\n"
+
 -- the server's line: the frame, the greatest permitted frame, and the world
 abbrev pub server_line : Table → WorldState → List ℕ
 server_line table world = codes "server " ++ decimal table.frame ++ codes " " ++ decimal table.top ++ codes " " ++ world_text world ++ codes "\n"
+
+-- what a world holds: its companies by number, and its signs by id
+abbrev pub holding_lines : WorldState → List ℕ
+holding_lines world = company_lines world 15 ++ flat_map sign_line world.signs
 
 -- ---- the whole
 
@@ -65,10 +91,12 @@ abbrev pub refused_line : ℕ → List ℕ
 refused_line zero = []
 refused_line (suc k) = codes "refused " ++ decimal (suc k) ++ codes "\n"
 
--- the report of a game: the connections, the server, and how many lines were refused
+-- the report of a game: the connections, the server and its world, and how many lines were refused
 abbrev pub report_of : Setup → Played → List ℕ
-report_of setup p = conn_lines setup p.events (opens p.events) ++ server_line (table_of setup p.events) (world_of setup p.events) ++ refused_line p.refused
+report_of setup p =
+    conn_lines setup p.events (opens p.events) ++ server_line (table_of setup p.events) (world_of setup p.events) ++ holding_lines (world_of setup p.events)
+    ++ refused_line p.refused
 
 -- the report of a script
 abbrev pub report : List ScriptLine → List ℕ
-report lines = report_of plain (played lines)
+report lines = report_of (setup_of lines) (played (setup_of lines) lines)

@@ -1,37 +1,74 @@
 -- What the statuses of the replay program mean.
-use Rattle.std.specs.Prelude.{◌≤◌, ℕ, List, [], ◌∷◌, length, codes, Option, Bool, false}
+use Rattle.std.specs.Prelude.{◌≡◌, ◌⊎◌, ◌≤◌, ℕ, List, [], ◌∷◌, ◌++◌, length, codes, Option, Some, None, Bool, true, false}
 use Rattle.std.specs.Str.{bytes_eq}
+use Rattle.std.specs.Fmt.{decimal}
 use Rattle.std.specs.Io.KnownBytes.{Appends}
+use Rattle.tt_lines.specs.Lines.{lines_of, IsFirstBad}
 use Rattle.tt_edge.specs.Sink.{AppendsPart}
+use Rattle.tt_replay.specs.declared.form.Form.{Form}
+use Rattle.tt_replay.specs.declared.form.Form.TheVariants.{Run}
 use Rattle.tt_replay.specs.declared.script_line.ScriptLine.{ScriptLine}
-use Rattle.tt_replay.specs.Script.{Spells}
+use Rattle.tt_replay.specs.Script.{Spells, IsSpelled}
 use Rattle.tt_replay.specs.Report.{report}
 
--- the words ask for a run: the one word `run`
-abbrev pub is_run : List (List ℕ) → Bool
-is_run [] = false
-is_run (word ∷ []) = bytes_eq word (codes "run")
-is_run (word ∷ other ∷ words) = false
+-- ---- the words
+
+-- where the test holds
+abbrev pub when : Bool → Form → Option Form
+when true form = Some form
+when false form = None
+
+-- what the words ask for: the one word `run` asks for the report of a script
+abbrev pub form_of : List (List ℕ) → Option Form
+form_of [] = None
+form_of (word ∷ []) = when (bytes_eq word (codes "run")) Run
+form_of (word ∷ other ∷ words) = None
+
+-- ---- the input
 
 -- the most bytes that are read: 64 MiB
 abbrev pub input_limit : ℕ
 input_limit = 67108864
 
--- the input is within the limit, and it is no script
-pub record IsNoScript (input : List ℕ) : Type 0 where
-  pub within : length input ≤ input_limit
-  pub none : (lines : List ScriptLine) → Spells lines input → ⊥
+-- the lines of an input of this form
+abbrev pub IsOfForm : Form → List (List ℕ) → Type 0
+IsOfForm Run texts = IsSpelled texts
 
--- the input is a script, and its report was written, whole
-pub record IsReported (before after : Option (List ℕ)) (input : List ℕ) : Type 0 where
-  pub lines : List ScriptLine
-  pub within : length input ≤ input_limit
-  pub spelled : Spells lines input
-  pub written : Appends before after (report lines)
+-- the text that answers an input of this form
+abbrev pub IsAnswer : Form → List (List ℕ) → List ℕ → Type 0
+IsAnswer Run texts answer = (lines : List ScriptLine) × Spells lines texts × (answer ≡ report lines)
 
--- the input is a script, and its report was written in part: a front of it, and not the rest
-pub record IsPartlyReported (before after : Option (List ℕ)) (input : List ℕ) : Type 0 where
-  pub lines : List ScriptLine
+-- ---- what was written
+
+-- the input is of the form that the words ask for, and this is its answer
+pub record Answers (words : List (List ℕ)) (input answer : List ℕ) : Type 0 where
+  pub form : Form
+  pub asked : form_of words ≡ Some form
   pub within : length input ≤ input_limit
-  pub spelled : Spells lines input
-  pub written : AppendsPart before after (report lines)
+  pub is : IsAnswer form (lines_of input) answer
+
+-- the answer was written, whole
+pub record IsWritten (words : List (List ℕ)) (before after : Option (List ℕ)) (input : List ℕ) : Type 0 where
+  pub answer : List ℕ
+  pub answers : Answers words input answer
+  pub written : Appends before after answer
+
+-- the answer was written in part: a front of it, and not the rest
+pub record IsPartlyWritten (words : List (List ℕ)) (before after : Option (List ℕ)) (input : List ℕ) : Type 0 where
+  pub answer : List ℕ
+  pub answers : Answers words input answer
+  pub written : AppendsPart before after answer
+
+-- what is written of the first bad line
+abbrev pub bad_line_text : ℕ → List ℕ
+bad_line_text line = codes "script: line " ++ decimal line ++ codes "\n"
+
+-- The input is not of the form that the words ask for. Its first bad line was told, whole, or in part where the sink
+-- failed.
+pub record IsRefused (words : List (List ℕ)) (failed : Type 0) (before after : Option (List ℕ)) (input : List ℕ) : Type 0 where
+  pub form : Form
+  pub asked : form_of words ≡ Some form
+  pub within : length input ≤ input_limit
+  pub line : ℕ
+  pub bad : IsFirstBad (IsOfForm form) (lines_of input) line
+  pub written : Appends before after (bad_line_text line) ⊎ (failed × AppendsPart before after (bad_line_text line))

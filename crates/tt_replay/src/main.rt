@@ -4,8 +4,8 @@
 //! says how it went; docs/PROTOCOL.md tells scripts, reports and statuses.
 #![tactic(auto)]
 
+mod form;
 mod help;
-mod number;
 mod play;
 mod replay;
 mod report;

@@ -6,11 +6,13 @@ ghost use Rattle.tt_frame.specs.Packet.{IsBytes};
 ghost use Rattle.tt_frame.specs.Stream.{rest_of};
 ghost use Rattle.tt_frame.specs.StreamReading.{reading};
 ghost use Rattle.tt_edge.specs.Event.{opens};
-ghost use Rattle.tt_world.specs.Setup.{plain};
+ghost use Rattle.tt_world.specs.declared.setup.Setup.{Setup};
 ghost use Rattle.tt_hub.specs.Table.{is_taken, is_there};
 ghost use Rattle.tt_hub.specs.Stepped.{table_of};
 ghost use Rattle.tt_hub.specs.Hub.{is_live};
-ghost use Rattle.tt_replay.specs.Script.{IsScript, IsPiece, IsLine, ticks_of, openings_of};
+ghost use Rattle.std.specs.List.{AllByRecursion};
+ghost use Rattle.tt_lines.specs.Digits.{IsPiece};
+ghost use Rattle.tt_replay.specs.Script.{IsScript, IsLine, ticks_of, openings_of, setup_of};
 ghost use Rattle.tt_replay.specs.Played.{Played, nothing, reader_limit, stream_events, until_ended, with_piece, done, played};
 ghost use Rattle.tt_replay.specs.Playing.{IsAt};
 
@@ -44,21 +46,34 @@ pub struct Play {
 /// Does the lines of a script in order, on a hub that is made for it.
 pub fn play_lines(alloc: Global, lines: &[ScriptLine]) -> Result<Play, OutOfMemory>
     requires { IsScript lines.now }
-    ensures played { IfOk result (λ play. IsAt play (played lines.now)) }
+    ensures played { IfOk result (λ play. IsAt (setup_of lines.now) play (played (setup_of lines.now) lines.now)) }
 {
-    let mut play = begun(alloc)?;
+    let mut play = begun(alloc, &setup_of(lines))?;
     for line in lines {
         do_line(alloc, &mut play, line)?;
     }
     Ok(play)
 }
 
+/// The setup of the game: its first line may set the seed.
+fn setup_of(lines: &[ScriptLine]) -> Setup
+    requires each { AllByRecursion IsLine lines.now }
+    ensures setup { result ≡ setup_of lines.now }
+{
+    let mut setup = Setup::plain();
+    if let [ScriptLine::SetSeed(seed), ..] = lines {
+        setup.seed = *seed;
+    }
+    setup
+}
+
 /// A play of no lines yet.
-fn begun(alloc: Global) -> Result<Play, OutOfMemory>
-    ensures at { IfOk result (λ play. IsAt play nothing) }
+fn begun(alloc: Global, setup: &Setup) -> Result<Play, OutOfMemory>
+    ensures at { IfOk result (λ play. IsAt setup.now play nothing) }
+    ensures setup { IfOk result (λ play. play.hub.setup ≡ setup.now) }
 {
     Ok(Play {
-        hub: Hub::new(alloc, &Setup::plain())?,
+        hub: Hub::new(alloc, setup)?,
         rest: Vec::new(alloc),
         refused: 0,
     })
@@ -66,15 +81,15 @@ fn begun(alloc: Global) -> Result<Play, OutOfMemory>
 
 /// Does one line.
 fn do_line(alloc: Global, play: &mut Play, line: &ScriptLine) -> Result<(), OutOfMemory>
-    requires setup { play.old.hub.setup ≡ plain }
-    requires early { (table_of plain play.old.hub.events).frame + ticks_of line.now ≤ 100 }
+    requires early { (table_of play.old.hub.setup play.old.hub.events).frame + ticks_of line.now ≤ 100 }
     requires few { opens play.old.hub.events + openings_of line.now ≤ 1 }
-    ensures at { (p : Played) → IsAt play.old p → IsLine line.now → OnOk result (IsAt play.new (done p line.now)) }
-    ensures setup { play.new.hub.setup ≡ plain }
-    ensures frame { OnOk result ((table_of plain play.new.hub.events).frame ≡ (table_of plain play.old.hub.events).frame + ticks_of line.now) }
+    ensures at { (p : Played) → IsAt play.old.hub.setup play.old p → IsLine line.now → OnOk result (IsAt play.old.hub.setup play.new (done play.old.hub.setup p line.now)) }
+    ensures setup { play.new.hub.setup ≡ play.old.hub.setup }
+    ensures frame { OnOk result ((table_of play.old.hub.setup play.new.hub.events).frame ≡ (table_of play.old.hub.setup play.old.hub.events).frame + ticks_of line.now) }
     ensures openings { OnOk result (opens play.new.hub.events ≡ opens play.old.hub.events + openings_of line.now) }
 {
     match line {
+        ScriptLine::SetSeed(_) => Ok(()),
         ScriptLine::Open => {
             open(&mut play.hub)?;
             Ok(())
@@ -106,11 +121,10 @@ fn refuse(play: &mut Play) -> Result<(), OutOfMemory>
 
 /// The first opening.
 fn open(hub: &mut Hub) -> Result<(), OutOfMemory>
-    requires setup { hub.old.setup ≡ plain }
-    requires early { (table_of plain hub.old.events).frame ≤ 100 }
+    requires early { (table_of hub.old.setup hub.old.events).frame ≤ 100 }
     requires none { opens hub.old.events ≡ 0 }
     ensures events { OnOk result (hub.new.events ≡ hub.old.events ++ Event.Open Door.Main NOBODY ∷ []) }
-    ensures setup { hub.new.setup ≡ plain }
+    ensures setup { hub.new.setup ≡ hub.old.setup }
     ensures taken { hub.new.taken ≡ hub.old.taken }
 {
     put(
@@ -124,12 +138,11 @@ fn open(hub: &mut Hub) -> Result<(), OutOfMemory>
 
 /// So many ticks.
 fn run_ticks(hub: &mut Hub, n: u32) -> Result<(), OutOfMemory>
-    requires setup { hub.old.setup ≡ plain }
-    requires early { (table_of plain hub.old.events).frame + n ≤ 100 }
+    requires early { (table_of hub.old.setup hub.old.events).frame + n ≤ 100 }
     ensures events { OnOk result (hub.new.events ≡ hub.old.events ++ replicate n Event.Tick) }
-    ensures setup { hub.new.setup ≡ plain }
+    ensures setup { hub.new.setup ≡ hub.old.setup }
     ensures taken { hub.new.taken ≡ hub.old.taken }
-    ensures frame { OnOk result ((table_of plain hub.new.events).frame ≡ (table_of plain hub.old.events).frame + n) }
+    ensures frame { OnOk result ((table_of hub.old.setup hub.new.events).frame ≡ (table_of hub.old.setup hub.old.events).frame + n) }
 {
     for _ in 0..n {
         put(hub, Event::Tick)?;
@@ -139,11 +152,10 @@ fn run_ticks(hub: &mut Hub, n: u32) -> Result<(), OutOfMemory>
 
 /// Feeds a piece to a connection that is live.
 fn feed(alloc: Global, play: &mut Play, conn: u32, piece: &[u8]) -> Result<(), OutOfMemory>
-    requires setup { play.old.hub.setup ≡ plain }
-    requires live { is_live plain play.old.hub.events conn ≡ true }
-    ensures at { (p : Played) → IsAt play.old p → IsPiece piece.now → OnOk result (IsAt play.new (with_piece conn piece.now p)) }
-    ensures setup { play.new.hub.setup ≡ plain }
-    ensures frame { (table_of plain play.new.hub.events).frame ≡ (table_of plain play.old.hub.events).frame }
+    requires live { is_live play.old.hub.setup play.old.hub.events conn ≡ true }
+    ensures at { (p : Played) → IsAt play.old.hub.setup play.old p → IsPiece piece.now → OnOk result (IsAt play.old.hub.setup play.new (with_piece play.old.hub.setup conn piece.now p)) }
+    ensures setup { play.new.hub.setup ≡ play.old.hub.setup }
+    ensures frame { (table_of play.old.hub.setup play.new.hub.events).frame ≡ (table_of play.old.hub.setup play.old.hub.events).frame }
     ensures openings { opens play.new.hub.events ≡ opens play.old.hub.events }
 {
     play.rest.extend_from_slice(piece)?;
@@ -155,14 +167,13 @@ fn feed(alloc: Global, play: &mut Play, conn: u32, piece: &[u8]) -> Result<(), O
 
 /// Hands over the packets of the bytes until the connection has ended, and answers where they end.
 fn take_packets(alloc: Global, hub: &mut Hub, conn: u32, bytes: &[u8]) -> Result<usize, OutOfMemory>
-    requires setup { hub.old.setup ≡ plain }
-    requires live { is_live plain hub.old.events conn ≡ true }
-    ensures events { OnOk result (hub.new.events ≡ until_ended conn hub.old.events (stream_events conn bytes.now)) }
-    ensures rest { IfOk result (λ end. is_there (table_of plain hub.new.events).standing ≡ true → (reading reader_limit bytes.now).1 ≡ rest_of (drop end bytes.now)) }
+    requires live { is_live hub.old.setup hub.old.events conn ≡ true }
+    ensures events { OnOk result (hub.new.events ≡ until_ended hub.old.setup conn hub.old.events (stream_events conn bytes.now)) }
+    ensures rest { IfOk result (λ end. is_there (table_of hub.old.setup hub.new.events).standing ≡ true → (reading reader_limit bytes.now).1 ≡ rest_of (drop end bytes.now)) }
     ensures within { IfOk result (λ end. end ≤ length bytes.now) }
-    ensures setup { hub.new.setup ≡ plain }
+    ensures setup { hub.new.setup ≡ hub.old.setup }
     ensures taken { hub.new.taken ≡ hub.old.taken }
-    ensures frame { (table_of plain hub.new.events).frame ≡ (table_of plain hub.old.events).frame }
+    ensures frame { (table_of hub.old.setup hub.new.events).frame ≡ (table_of hub.old.setup hub.old.events).frame }
     ensures openings { opens hub.new.events ≡ opens hub.old.events }
 {
     let mut end = 0;
@@ -190,15 +201,14 @@ fn put_packet(
     kind: u8,
     body: &[u8],
 ) -> Result<(), OutOfMemory>
-    requires setup { hub.old.setup ≡ plain }
-    requires live { is_live plain hub.old.events conn ≡ true }
+    requires live { is_live hub.old.setup hub.old.events conn ≡ true }
     requires length { length body.now ≤ 32764 }
     ensures events { OnOk result (hub.new.events ≡ hub.old.events ++ Event.Packet conn kind body.now ∷ []) }
-    ensures setup { hub.new.setup ≡ plain }
+    ensures setup { hub.new.setup ≡ hub.old.setup }
     ensures taken { hub.new.taken ≡ hub.old.taken }
-    ensures frame { (table_of plain hub.new.events).frame ≡ (table_of plain hub.old.events).frame }
+    ensures frame { (table_of hub.old.setup hub.new.events).frame ≡ (table_of hub.old.setup hub.old.events).frame }
     ensures openings { opens hub.new.events ≡ opens hub.old.events }
-    ensures conn { (table_of plain hub.new.events).conn ≡ (table_of plain hub.old.events).conn }
+    ensures conn { (table_of hub.old.setup hub.new.events).conn ≡ (table_of hub.old.setup hub.old.events).conn }
 {
     let body = Body::new(alloc, body)?;
     put(hub, Event::Packet { conn, kind, body })
@@ -206,14 +216,13 @@ fn put_packet(
 
 /// A bad size in the stream of a connection that is live.
 fn put_broken(hub: &mut Hub, conn: u32) -> Result<(), OutOfMemory>
-    requires setup { hub.old.setup ≡ plain }
-    requires live { is_live plain hub.old.events conn ≡ true }
+    requires live { is_live hub.old.setup hub.old.events conn ≡ true }
     ensures events { OnOk result (hub.new.events ≡ hub.old.events ++ Event.Broken conn ∷ []) }
-    ensures setup { hub.new.setup ≡ plain }
+    ensures setup { hub.new.setup ≡ hub.old.setup }
     ensures taken { hub.new.taken ≡ hub.old.taken }
-    ensures frame { (table_of plain hub.new.events).frame ≡ (table_of plain hub.old.events).frame }
+    ensures frame { (table_of hub.old.setup hub.new.events).frame ≡ (table_of hub.old.setup hub.old.events).frame }
     ensures openings { opens hub.new.events ≡ opens hub.old.events }
-    ensures ended { OnOk result (is_there (table_of plain hub.new.events).standing ≡ false) }
+    ensures ended { OnOk result (is_there (table_of hub.old.setup hub.new.events).standing ≡ false) }
 {
     put(hub, Event::Broken { conn })?;
     Ok(())
@@ -221,11 +230,10 @@ fn put_broken(hub: &mut Hub, conn: u32) -> Result<(), OutOfMemory>
 
 /// One event that the hub takes now, unless memory runs out.
 fn put(hub: &mut Hub, event: Event) -> Result<(), OutOfMemory>
-    requires setup { hub.old.setup ≡ plain }
-    requires taken { is_taken (table_of plain hub.old.events) event ≡ true }
+    requires taken { is_taken (table_of hub.old.setup hub.old.events) event ≡ true }
     ensures ok { OnOk result (hub.new.events ≡ hub.old.events ++ event ∷ []) }
     ensures err { OnErr result (hub.new.events ≡ hub.old.events) }
-    ensures setup { hub.new.setup ≡ plain }
+    ensures setup { hub.new.setup ≡ hub.old.setup }
     ensures taken { hub.new.taken ≡ hub.old.taken }
 {
     match hub.event(event) {

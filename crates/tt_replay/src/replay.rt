@@ -1,13 +1,18 @@
 //! The replay program's top call: words, a source and a sink in, a status out.
-ghost use Rattle.std.specs.Prelude.{◌≡◌, ◌⊎◌, ◌≢◌, ◌<◌, ◌≤◌, ◌↔◌, ◌+◌, List, ℕ, Some, length, IfSome, IfOk, true, false};
-ghost use Rattle.std.specs.Io.KnownBytes.{Consumes, Keeps};
+ghost use Rattle.std.specs.Prelude.{◌≡◌, ◌⊎◌, ◌≢◌, ◌<◌, ◌≤◌, ◌↔◌, ◌+◌, List, ℕ, Some, None, Err, length, IfSome, IfOk};
+ghost use Rattle.std.specs.Io.KnownBytes.{Appends};
+ghost use Rattle.tt_lines.specs.Lines.{lines_of, IsFirstBad};
 ghost use Rattle.tt_edge.specs.Count.{Rose};
+ghost use Rattle.tt_edge.specs.Sink.{AppendsPart};
 ghost use Rattle.tt_edge.specs.Source.{ConsumesAtMost, ConsumesCount};
 ghost use Rattle.tt_replay.specs.declared.script_line.ScriptLine.{ScriptLine};
-ghost use Rattle.tt_replay.specs.Script.{IsScript, Spells};
+ghost use Rattle.tt_replay.specs.declared.form.Form.{Form};
+ghost use Rattle.tt_replay.specs.declared.script.ScriptError.TheVariants.{BadLine};
+ghost use Rattle.tt_replay.specs.Script.{IsScript};
 ghost use Rattle.tt_replay.specs.Report.{report};
-ghost use Rattle.tt_replay.specs.Statuses.{is_run, input_limit, IsNoScript, IsReported, IsPartlyReported};
+ghost use Rattle.tt_replay.specs.Statuses.{form_of, input_limit, IsOfForm, IsAnswer, IsWritten, IsPartlyWritten, IsRefused, bad_line_text};
 
+use crate::form::{Form, form_of};
 use crate::play::play_lines;
 use crate::report::report_of;
 use crate::script::{ScriptError, parse_script};
@@ -15,6 +20,7 @@ use crate::script_line::ScriptLine;
 use std::alloc::Global;
 use tt_edge::{ReadAllError, Sink, Source, read_all, write_all};
 use tt_frame::{Line, OutOfMemory};
+use tt_lines::{put, put_number};
 
 /// All was done as said.
 const DONE: u8 = 0;
@@ -22,8 +28,8 @@ const DONE: u8 = 0;
 /// The words are no form of the program's.
 const BAD_WORDS: u8 = 2;
 
-/// The input is no script.
-const BAD_SCRIPT: u8 = 3;
+/// The input is not of the form that the words ask for.
+const BAD_INPUT: u8 = 3;
 
 /// The source failed.
 const SOURCE_FAULT: u8 = 4;
@@ -40,7 +46,8 @@ const TOO_LONG: u8 = 7;
 /// The most bytes that are read: 64 MiB.
 const INPUT_LIMIT: u32 = 64 << 20;
 
-/// Runs the script that the source gives, and writes its report to the sink. Its one form of words is `run`.
+/// Answers the input that the source gives, as the words ask, and writes the answer to the sink: `run` reads a script
+/// and writes its report. Of an input that isn't of the form that is asked for the first bad line is told.
 ///
 /// It waits for nobody, and returns over every source that answers its calls: at most one byte past the limit is
 /// read, and each read takes at least one.
@@ -52,8 +59,8 @@ pub fn replay_main<S: Source, K: Sink>(
 ) -> u8
     ensures status { (result ≤ 7) × (result ≢ 1) }
 
-    // The words are looked at first. Where they aren't `run`, nothing was read.
-    ensures words { (result ≡ 2) ↔ (is_run args.now ≡ false) }
+    // The words are looked at first. Where they are no form, nothing was read.
+    ensures words { (result ≡ 2) ↔ (form_of args.now ≡ None) }
     ensures unread { result ≡ 2 → source.new ≡ source.old }
 
     // A fault is told only where it happened.
@@ -67,39 +74,62 @@ pub fn replay_main<S: Source, K: Sink>(
     ensures under { (result ≢ 7) × (result ≢ 6) → ConsumesAtMost input_limit (S.left source.old) (S.left source.new) }
     ensures at_most { ConsumesAtMost (input_limit + 1) (S.left source.old) (S.left source.new) }
 
-    // The source was read to its end, and its bytes are no script.
-    ensures script { result ≡ 3 → IfSome (S.left source.old) IsNoScript }
+    // The source was read to its end. Its bytes are not of the form, and the first bad line was told: whole, unless
+    // the sink failed.
+    ensures refused { result ≡ 3 → IfSome (S.left source.old) (IsRefused args.now (Rose (K.faults sink.old) (K.faults sink.new)) (K.held sink.old) (K.held sink.new)) }
     ensures ended { (result ≡ 0) ⊎ (result ≡ 3) ⊎ (result ≡ 5) → Rose (S.ends source.old) (S.ends source.new) }
 
-    // The report was written, whole or in part, and nothing else.
-    ensures done { result ≡ 0 → IfSome (S.left source.old) (IsReported (K.held sink.old) (K.held sink.new)) }
-    ensures partly { result ≡ 5 → IfSome (S.left source.old) (IsPartlyReported (K.held sink.old) (K.held sink.new)) }
-    ensures unwritten { (result ≢ 0) × (result ≢ 5) → sink.new ≡ sink.old }
+    // The answer was written, whole or in part, and nothing else.
+    ensures done { result ≡ 0 → IfSome (S.left source.old) (IsWritten args.now (K.held sink.old) (K.held sink.new)) }
+    ensures partly { result ≡ 5 → IfSome (S.left source.old) (IsPartlyWritten args.now (K.held sink.old) (K.held sink.new)) }
+    ensures unwritten { (result ≢ 0) × (result ≢ 3) × (result ≢ 5) → sink.new ≡ sink.old }
 
-    // Where nothing fails and the input is a script, it is done, unless memory runs out.
-    ensures complete { (input : List ℕ) (lines : List ScriptLine) → is_run args.now ≡ true → S.left source.old ≡ Some input → length input ≤ input_limit → Spells lines input
+    // Where nothing fails and the input is of the form, it is done, unless memory runs out.
+    ensures complete { (form : Form) (input : List ℕ) → form_of args.now ≡ Some form → S.left source.old ≡ Some input → length input ≤ input_limit → IsOfForm form (lines_of input)
         → (Rose (S.faults source.old) (S.faults source.new) → ⊥) → (Rose (K.faults sink.old) (K.faults sink.new) → ⊥) → (result ≡ 0) ⊎ (result ≡ 6) }
 {
-    if !is_run(args) {
+    let Some(form) = form_of(args) else {
         return BAD_WORDS;
-    }
+    };
     let input = match read_all(alloc, source, INPUT_LIMIT) {
         Ok(input) => input,
         Err(ReadAllError::Failed) => return SOURCE_FAULT,
         Err(ReadAllError::Memory) => return NO_MEMORY,
         Err(ReadAllError::TooLong) => return TOO_LONG,
     };
-    let lines = match parse_script(alloc, &input) {
-        Ok(lines) => lines,
-        Err(ScriptError::BadLine) => return BAD_SCRIPT,
+    let answer = match answer_of(alloc, form, &input) {
+        Ok(answer) => answer,
+        Err(ScriptError::BadLine(line)) => return refused(alloc, sink, line),
         Err(ScriptError::Memory) => return NO_MEMORY,
     };
-    let Ok(report) = report_of_script(alloc, &lines) else {
-        return NO_MEMORY;
-    };
-    match write_all(sink, &report) {
+    match write_all(sink, &answer) {
         Ok(()) => DONE,
         Err(_) => SINK_FAULT,
+    }
+}
+
+/// The text that answers an input of this form, or its first bad line.
+fn answer_of(alloc: Global, form: Form, input: &[u8]) -> Result<Vec<u8>, ScriptError>
+    ensures answer { IfOk result (λ answer. IsAnswer form (lines_of input.now) answer.items) }
+    ensures bad { (line : ℕ) → result ≡ Err (BadLine line) → IsFirstBad (IsOfForm form) (lines_of input.now) line }
+{
+    match form {
+        Form::Run => run(alloc, input),
+    }
+}
+
+/// The report of the script that the bytes spell, or its first bad line.
+fn run(alloc: Global, input: &[u8]) -> Result<Vec<u8>, ScriptError>
+    ensures answer { IfOk result (λ answer. IsAnswer Form.Run (lines_of input.now) answer.items) }
+    ensures bad { (line : ℕ) → result ≡ Err (BadLine line) → IsFirstBad (IsOfForm Form.Run) (lines_of input.now) line }
+{
+    let lines = match parse_script(alloc, input) {
+        Ok(lines) => lines,
+        Err(error) => return Err(error),
+    };
+    match report_of_script(alloc, &lines) {
+        Ok(report) => Ok(report),
+        Err(_) => Err(ScriptError::Memory),
     }
 }
 
@@ -112,12 +142,29 @@ fn report_of_script(alloc: Global, lines: &[ScriptLine]) -> Result<Vec<u8>, OutO
     report_of(alloc, &mut play)
 }
 
-/// Whether the words ask for a run.
-fn is_run(words: &[Line]) -> bool
-    ensures run { result ≡ is_run words.now }
+/// Tells the first bad line, and answers the status for it. A fault of the sink leaves that status.
+fn refused<K: Sink>(alloc: Global, sink: &mut K, line: u32) -> u8
+    ensures status { (result ≡ 3) ⊎ (result ≡ 6) }
+    ensures told { result ≡ 3 → Appends (K.held sink.old) (K.held sink.new) (bad_line_text line)
+        ⊎ (Rose (K.faults sink.old) (K.faults sink.new) × AppendsPart (K.held sink.old) (K.held sink.new) (bad_line_text line)) }
+    ensures unwritten { result ≡ 6 → sink.new ≡ sink.old }
 {
-    match words {
-        [word] => word.bytes() == b"run".as_slice(),
-        _ => false,
+    let Ok(text) = bad_line_text(alloc, line) else {
+        return NO_MEMORY;
+    };
+    match write_all(sink, &text) {
+        Ok(()) => BAD_INPUT,
+        Err(_) => BAD_INPUT,
     }
+}
+
+/// What is written of the first bad line.
+fn bad_line_text(alloc: Global, line: u32) -> Result<Vec<u8>, OutOfMemory>
+    ensures text { IfOk result (λ text. text.items ≡ bad_line_text line) }
+{
+    let mut text = Vec::new(alloc);
+    put(&mut text, b"script: line ")?;
+    put_number(&mut text, line)?;
+    put(&mut text, b"\n")?;
+    Ok(text)
 }

@@ -1,29 +1,32 @@
-//! The report of a game: a line for each connection, one for the server, and one where lines were refused.
-ghost use Rattle.std.specs.Prelude.{◌≡◌, ◌≢◌, ◌≤◌, ◌+◌, ◌++◌, ℕ, IfOk, OnOk, codes};
-ghost use Rattle.std.specs.Fmt.{decimal};
+//! The report of a game: a line for each connection, one for the server and those of its companies and signs, and one
+//! where lines were refused.
+ghost use Rattle.std.specs.Prelude.{◌≡◌, ◌≢◌, ◌+◌, ◌++◌, ℕ, IfOk, OnOk};
+ghost use Rattle.std.specs.List.{flat_map};
 ghost use Rattle.tt_edge.specs.Event.{opens};
-ghost use Rattle.tt_world.specs.Setup.{plain};
+ghost use Rattle.tt_world.specs.declared.setup.Setup.{Setup};
+ghost use Rattle.tt_world.specs.World.{company_of};
 ghost use Rattle.tt_hub.specs.Stepped.{table_of};
-ghost use Rattle.tt_hub.specs.Hub.{world_of, taken, sent, is_live};
+ghost use Rattle.tt_hub.specs.Hub.{world_of, taken};
 ghost use Rattle.tt_replay.specs.Played.{Played};
 ghost use Rattle.tt_replay.specs.Playing.{IsAt};
-ghost use Rattle.tt_replay.specs.Report.{report_of, conn_line, conn_lines, server_line, refused_line, life_text, bytes_text, word_text, words_text, world_text};
+ghost use Rattle.tt_replay.specs.Report.{report_of, conn_line, conn_lines, server_line, holding_lines, company_lines, place_line, company_line, sign_place, sign_line, refused_line, life_text, word_text, words_text, world_text};
 
 use crate::play::Play;
-use itoa::Buffer;
 use std::alloc::Global;
 use tt_edge::drain;
 use tt_frame::OutOfMemory;
 use tt_hub::Hub;
-use tt_world::{Random, World};
+use tt_lines::{put, put_bytes, put_number};
+use tt_world::{Company, Random, Sign, World};
 
 /// The report's text. What the connections were told is taken from the hub.
 pub fn report_of(alloc: Global, play: &mut Play) -> Result<Vec<u8>, OutOfMemory>
-    ensures text { (p : Played) → IsAt play.old p → IfOk result (λ text. text.items ≡ report_of plain p) }
+    ensures text { (setup : Setup) (p : Played) → IsAt setup play.old p → IfOk result (λ text. text.items ≡ report_of setup p) }
 {
     let mut text = Vec::new(alloc);
     put_connections(alloc, &mut text, &mut play.hub)?;
     put_server(&mut text, &play.hub)?;
+    put_holdings(alloc, &mut text, play.hub.world())?;
     put_refused(&mut text, play.refused)?;
     Ok(text)
 }
@@ -75,17 +78,6 @@ fn put_life(text: &mut Vec<u8>, live: bool) -> Result<(), OutOfMemory>
     }
 }
 
-/// Appends bytes in hexadecimal digits, or a dash for none.
-fn put_bytes(alloc: Global, text: &mut Vec<u8>, bytes: &[u8]) -> Result<(), OutOfMemory>
-    ensures text { OnOk result (text.new.items ≡ text.old.items ++ bytes_text bytes.now) }
-{
-    if bytes.is_empty() {
-        return put(text, b"-");
-    }
-    let digits = hex::encode(alloc, bytes)?;
-    put(text, digits.as_bytes())
-}
-
 /// Appends the server's line.
 fn put_server(text: &mut Vec<u8>, hub: &Hub) -> Result<(), OutOfMemory>
     ensures text { OnOk result (text.new.items ≡ text.old.items ++ server_line (table_of hub.now.setup hub.now.events) (world_of hub.now.setup hub.now.events)) }
@@ -97,6 +89,97 @@ fn put_server(text: &mut Vec<u8>, hub: &Hub) -> Result<(), OutOfMemory>
     put(text, b" ")?;
     put_world(text, hub.world())?;
     put(text, b"\n")?;
+    Ok(())
+}
+
+/// Appends what a world holds: its live companies by number, and its signs by id.
+fn put_holdings(alloc: Global, text: &mut Vec<u8>, world: &World) -> Result<(), OutOfMemory>
+    ensures text { OnOk result (text.new.items ≡ text.old.items ++ holding_lines world.now) }
+{
+    put_companies(alloc, text, world)?;
+    put_signs(alloc, text, world.signs())?;
+    Ok(())
+}
+
+/// Appends a line for each live company, in order.
+fn put_companies(alloc: Global, text: &mut Vec<u8>, world: &World) -> Result<(), OutOfMemory>
+    ensures text { OnOk result (text.new.items ≡ text.old.items ++ company_lines world.now 15) }
+{
+    for number in 0..15 {
+        put_place(alloc, text, world, number)?;
+    }
+    Ok(())
+}
+
+/// Appends the line of the company with a number, where it is live.
+fn put_place(
+    alloc: Global,
+    text: &mut Vec<u8>,
+    world: &World,
+    number: u8,
+) -> Result<(), OutOfMemory>
+    ensures text { OnOk result (text.new.items ≡ text.old.items ++ place_line number (company_of world.now number)) }
+{
+    match world.company(number) {
+        None => Ok(()),
+        Some(company) => put_company(alloc, text, number, company),
+    }
+}
+
+/// Appends a company's line.
+fn put_company(
+    alloc: Global,
+    text: &mut Vec<u8>,
+    number: u8,
+    company: &Company,
+) -> Result<(), OutOfMemory>
+    ensures text { OnOk result (text.new.items ≡ text.old.items ++ company_line number company.now) }
+{
+    put(text, b"company ")?;
+    put_number(text, number)?;
+    put(text, b" ")?;
+    put_number(text, company.money)?;
+    put(text, b" ")?;
+    put_number(text, company.loan)?;
+    put(text, b" ")?;
+    put_bytes(alloc, text, company.name.bytes())?;
+    put(text, b" ")?;
+    put_bytes(alloc, text, company.president.bytes())?;
+    put(text, b"\n")?;
+    Ok(())
+}
+
+/// Appends a line for each sign, in order.
+fn put_signs(alloc: Global, text: &mut Vec<u8>, signs: &[Sign]) -> Result<(), OutOfMemory>
+    ensures text { OnOk result (text.new.items ≡ text.old.items ++ flat_map sign_line signs.now) }
+{
+    for sign in signs {
+        put_sign(alloc, text, sign)?;
+    }
+    Ok(())
+}
+
+/// Appends a sign's line.
+fn put_sign(alloc: Global, text: &mut Vec<u8>, sign: &Sign) -> Result<(), OutOfMemory>
+    ensures text { OnOk result (text.new.items ≡ text.old.items ++ sign_line sign.now) }
+{
+    put(text, b"sign ")?;
+    put_sign_place(text, sign)?;
+    put(text, b" ")?;
+    put_bytes(alloc, text, sign.text.bytes())?;
+    put(text, b"\n")?;
+    Ok(())
+}
+
+/// Appends a sign's id, its owner, and the tile.
+fn put_sign_place(text: &mut Vec<u8>, sign: &Sign) -> Result<(), OutOfMemory>
+    ensures text { OnOk result (text.new.items ≡ text.old.items ++ sign_place sign.now) }
+{
+    put_number(text, sign.id)?;
+    put(text, b" ")?;
+    put_number(text, sign.owner)?;
+    put(text, b" ")?;
+    put_number(text, sign.tile)?;
     Ok(())
 }
 
@@ -135,22 +218,6 @@ fn put_words(text: &mut Vec<u8>, random: &Random) -> Result<(), OutOfMemory>
     put(text, b" ")?;
     put_word(text, second)?;
     Ok(())
-}
-
-/// Appends bytes.
-fn put(text: &mut Vec<u8>, bytes: &[u8]) -> Result<(), OutOfMemory>
-    ensures text { OnOk result (text.new.items ≡ text.old.items ++ bytes.now) }
-{
-    text.extend_from_slice(bytes)?;
-    Ok(())
-}
-
-/// Appends a number in decimal.
-fn put_number(text: &mut Vec<u8>, number: u32) -> Result<(), OutOfMemory>
-    ensures text { OnOk result (text.new.items ≡ text.old.items ++ decimal number) }
-{
-    let mut buffer = Buffer::new();
-    put(text, buffer.format(number).as_bytes())
 }
 
 /// Appends a word in eight hexadecimal digits.

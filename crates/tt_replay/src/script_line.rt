@@ -1,16 +1,13 @@
 //! The lines of a script, and the text that spells each.
-ghost use Rattle.std.specs.Prelude.{◌≡◌, ◌≢◌, ◌<◌, ◌≤◌, ◌^◌, ◌++◌, ◌∷◌, ℕ, List, IfOk, IfSome, IfNone, MatchOption, codes};
+ghost use Rattle.std.specs.Prelude.{◌≡◌, ◌≢◌, ◌<◌, ◌≤◌, ◌^◌, ◌++◌, ℕ, List, IfOk, IfSome, IfNone, codes};
 ghost use Rattle.std.specs.Fmt.{decimal};
-ghost use Rattle.std.specs.List.{list_all};
-ghost use Rattle.hex.specs.Hex.{encode_lower};
-ghost use Rattle.tt_frame.specs.Text.{is_hex_digit};
-ghost use Rattle.tt_replay.specs.Script.{body_of, piece_text, IsPiece, IsLine, HasNoBlank};
+ghost use Rattle.tt_lines.specs.Digits.{IsPiece};
+ghost use Rattle.tt_replay.specs.Script.{body_of, piece_text, IsLine};
 
-use crate::number::number_of;
-use hex::FromHexError;
 use std::alloc::Global;
 use std::marker::Model;
 use tt_frame::OutOfMemory;
+use tt_lines::{behind, first_word, number_of, piece_of};
 
 /// The most ticks that a line may ask for.
 const MOST_OF_LINE: u32 = 1_000_000;
@@ -41,6 +38,8 @@ impl Piece {
 /// One line of a script.
 #[derive(Debug, Drop)]
 pub enum ScriptLine {
+    /// `set seed N`: the seed of the game, 0 where no line says it. It may stand first alone.
+    SetSeed(u32),
     /// `open`: a connection at the main door.
     Open,
     /// `bytes C HEX`: a piece of connection C.
@@ -51,7 +50,7 @@ pub enum ScriptLine {
 
 impl ScriptLine {
     ghost use Rattle.std.specs.Prelude.{◌≡◌, ◌≤◌};
-    ghost use Rattle.tt_replay.specs.Script.{ticks_of, openings_of, IsLine};
+    ghost use Rattle.tt_replay.specs.Script.{ticks_of, openings_of, settings_of, IsLine};
 
     /// How many ticks it asks for.
     pub fn ticks(&self) -> u32
@@ -60,7 +59,7 @@ impl ScriptLine {
     {
         match self {
             ScriptLine::Tick(n) => *n,
-            ScriptLine::Open | ScriptLine::Bytes(_, _) => 0,
+            ScriptLine::SetSeed(_) | ScriptLine::Open | ScriptLine::Bytes(_, _) => 0,
         }
     }
 
@@ -71,7 +70,17 @@ impl ScriptLine {
     {
         match self {
             ScriptLine::Open => 1,
-            ScriptLine::Bytes(_, _) | ScriptLine::Tick(_) => 0,
+            ScriptLine::SetSeed(_) | ScriptLine::Bytes(_, _) | ScriptLine::Tick(_) => 0,
+        }
+    }
+
+    /// How many things of the game it sets.
+    pub fn settings(&self) -> u32
+        ensures settings { result ≡ settings_of self.now }
+    {
+        match self {
+            ScriptLine::SetSeed(_) => 1,
+            ScriptLine::Open | ScriptLine::Bytes(_, _) | ScriptLine::Tick(_) => 0,
         }
     }
 }
@@ -87,17 +96,13 @@ pub fn line_of(alloc: Global, text: &[u8]) -> Result<Option<ScriptLine>, OutOfMe
     if let Some(digits) = behind(text, b"tick ") {
         return Ok(ticks_line(digits));
     }
+    if let Some(digits) = behind(text, b"set seed ") {
+        return Ok(seed_line(digits));
+    }
     match behind(text, b"bytes ") {
         Some(words) => bytes_line(alloc, words),
         None => Ok(None),
     }
-}
-
-/// What stands behind a front of the text, where it begins so.
-fn behind<'a>(text: &'a [u8], front: &[u8]) -> Option<&'a [u8]>
-    ensures cases { MatchOption result ((rest : List ℕ) → text.now ≢ front.now ++ rest) (λ rest. text.now ≡ front.now ++ rest.now) }
-{
-    text.strip_prefix(front)
 }
 
 /// The line with a number of ticks.
@@ -112,6 +117,15 @@ fn ticks_line(digits: &[u8]) -> Option<ScriptLine>
     Some(ScriptLine::Tick(n))
 }
 
+/// The line with a seed.
+fn seed_line(digits: &[u8]) -> Option<ScriptLine>
+    ensures found { IfSome result (λ line. IsLine line × (codes "set seed " ++ digits.now ≡ body_of line)) }
+    ensures none { IfNone result ((seed : ℕ) → seed < 2 ^ 32 → digits.now ≢ decimal seed) }
+{
+    let seed = number_of(digits)?;
+    Some(ScriptLine::SetSeed(seed))
+}
+
 /// The line with a connection and a piece.
 fn bytes_line(alloc: Global, words: &[u8]) -> Result<Option<ScriptLine>, OutOfMemory>
     ensures found { IfOk result (λ found. IfSome found (λ line. IsLine line × (codes "bytes " ++ words.now ≡ body_of line))) }
@@ -123,51 +137,8 @@ fn bytes_line(alloc: Global, words: &[u8]) -> Result<Option<ScriptLine>, OutOfMe
     let Some(conn) = number_of(front) else {
         return Ok(None);
     };
-    let Some(piece) = piece_of(alloc, digits)? else {
+    let Some(content) = piece_of(alloc, digits)? else {
         return Ok(None);
     };
-    Ok(Some(ScriptLine::Bytes(conn, piece)))
-}
-
-/// What stands before the first blank, and what stands behind it.
-fn first_word(text: &[u8]) -> Option<(&[u8], &[u8])>
-    ensures word { IfSome result (λ parts. text.now ≡ parts.0.now ++ 32 ∷ parts.1.now) }
-    ensures one { IfSome result (λ parts. HasNoBlank parts.0.now) }
-    ensures none { IfNone result (HasNoBlank text.now) }
-{
-    for (i, byte) in text.iter().enumerate() {
-        if *byte == b' ' {
-            return Some((&text[..i], &text[i + 1..]));
-        }
-    }
-    None
-}
-
-/// The piece that pairs of lower-case digits spell.
-fn piece_of(alloc: Global, digits: &[u8]) -> Result<Option<Piece>, OutOfMemory>
-    ensures found { IfOk result (λ found. IfSome found (λ piece. IsPiece piece × (digits.now ≡ encode_lower piece))) }
-    ensures none { IfOk result (λ found. IfNone found ((piece : List ℕ) → IsPiece piece → digits.now ≢ encode_lower piece)) }
-{
-    if digits.is_empty() {
-        return Ok(None);
-    }
-    if !are_lower_digits(digits) {
-        return Ok(None);
-    }
-    match hex::decode(alloc, digits) {
-        Ok(content) => Ok(Some(Piece { content })),
-        Err(FromHexError::OutOfMemory) => Err(OutOfMemory),
-        Err(FromHexError::OddLength) => Ok(None),
-        Err(FromHexError::InvalidStringLength) => Ok(None),
-        Err(FromHexError::InvalidHexCharacter { .. }) => Ok(None),
-    }
-}
-
-/// Whether each byte is a digit or a lower-case letter from a to f.
-fn are_lower_digits(digits: &[u8]) -> bool
-    ensures digits { result ≡ list_all is_hex_digit digits.now }
-{
-    digits
-        .iter()
-        .all(|b| (*b >= 48 && *b <= 57) || (*b >= 97 && *b <= 102))
+    Ok(Some(ScriptLine::Bytes(conn, Piece { content })))
 }

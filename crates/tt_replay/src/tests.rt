@@ -71,39 +71,86 @@ fn a_script_is_reported(rt: HostRuntime) -> Result<(), Fail> {
 }
 
 #[test]
-fn what_is_no_script_is_refused(rt: HostRuntime) -> Result<(), Fail> {
+fn a_seed_is_set(rt: HostRuntime) -> Result<(), Fail> {
     let alloc = rt.alloc();
-    let inputs: [&[u8]; 25] = [
-        b"tick 0\n",
-        b"tick 01\n",
-        b"tick  1\n",
-        b"tick\t1\n",
-        b"tick 1000001\n",
-        b"tick 4294967297\n",
-        b"tick 60\ntick 41\n",
-        b"tick \xff\n",
-        b"tick 1\r\n",
-        b"tick 1\n\n",
-        b"\n",
-        b" tick 1\n",
-        b"tick\n",
-        b"tick \n",
-        b"tick +1\n",
-        b"tick 1 \n",
-        b"open\nopen\n",
-        b"bytes 1 0\n",
-        b"bytes 1 \n",
-        b"bytes 1 0A\n",
-        b"bytes 01 00\n",
-        b"bytes 4294967296 00\n",
-        b"bytes 1\n",
-        b"bytes  1 00\n",
-        b"open \n",
+    let reports: [(&[u8], &[u8]); 3] = [
+        (
+            b"set seed 1\ntick 1\n",
+            b"server 1 1 fc2468ae 1fffffff 0 1 0\n",
+        ),
+        (b"set seed 0\n", START),
+        (
+            b"set seed 4294967295",
+            b"server 0 0 ffffffff ffffffff 0 0 0\n",
+        ),
     ];
-    for input in inputs {
+    for (script, report) in reports {
+        let trial = run(alloc, script)?;
+        assert_eq!(rt; trial.status, 0);
+        assert_eq!(rt; trial.written.as_slice(), report);
+    }
+    Ok(())
+}
+
+/// Inputs that are no script, and the number of the first bad line of each, as a digit.
+fn bad_scripts() -> [(&'static [u8], u8); 31] {
+    [
+        (b"tick 0\n", b'1'),
+        (b"tick 01\n", b'1'),
+        (b"tick  1\n", b'1'),
+        (b"tick\t1\n", b'1'),
+        (b"tick 1000001\n", b'1'),
+        (b"tick 4294967297\n", b'1'),
+        (b"tick 60\ntick 41\n", b'2'),
+        (b"tick \xff\n", b'1'),
+        (b"tick 1\r\n", b'1'),
+        (b"tick 1\n\n", b'2'),
+        (b"\n", b'1'),
+        (b" tick 1\n", b'1'),
+        (b"tick\n", b'1'),
+        (b"tick \n", b'1'),
+        (b"tick +1\n", b'1'),
+        (b"tick 1 \n", b'1'),
+        (b"open\nopen\n", b'2'),
+        (b"bytes 1 0\n", b'1'),
+        (b"bytes 1 \n", b'1'),
+        (b"bytes 1 0A\n", b'1'),
+        (b"bytes 01 00\n", b'1'),
+        (b"bytes 4294967296 00\n", b'1'),
+        (b"bytes 1\n", b'1'),
+        (b"bytes  1 00\n", b'1'),
+        (b"open \n", b'1'),
+        (b"set seed 1\nset seed 1\n", b'2'),
+        (b"tick 1\nset seed 1\n", b'2'),
+        (b"set seed 4294967296\n", b'1'),
+        (b"set seed\n", b'1'),
+        (b"set seeds 1\n", b'1'),
+        (b"set seed 1\nopen\ntick 1\nopen", b'4'),
+    ]
+}
+
+#[test]
+fn the_first_bad_line_is_told(rt: HostRuntime) -> Result<(), Fail> {
+    let alloc = rt.alloc();
+    for (input, line) in bad_scripts() {
         let trial = run(alloc, input)?;
+        let mut told = b"script: line ".to_vec(alloc)?;
+        told.push(line)?;
+        told.push(b'\n')?;
         assert_eq!(rt; trial.status, 3);
-        assert!(rt; trial.written.is_empty());
+        assert_eq!(rt; trial.written.as_slice(), told.as_slice());
+    }
+    Ok(())
+}
+
+#[test]
+fn a_sink_that_fails_leaves_status_3(rt: HostRuntime) -> Result<(), Fail> {
+    let alloc = rt.alloc();
+    let told = b"script: line 1\n";
+    for place in 0..15usize {
+        let trial = call(alloc, b"run", b"tick 0", (None, Some(place as u64)), 1)?;
+        assert_eq!(rt; trial.status, 3);
+        assert_eq!(rt; trial.written.as_slice(), &told[..place]);
     }
     Ok(())
 }
@@ -146,7 +193,7 @@ fn a_join_in_single_bytes_is_welcomed(rt: HostRuntime) -> Result<(), Fail> {
 fn a_join_is_judged(rt: HostRuntime) -> Result<(), Fail> {
     let alloc = rt.alloc();
     // What stands behind the opening, how the connection stands, what it was told, and what stands behind the server.
-    let trials: [(&[u8], &[u8], &[u8], &[u8]); 7] = [
+    let trials: [(&[u8], &[u8], &[u8], &[u8]); 8] = [
         (
             b"bytes 1 11000231332e33000d000000416e6e00ff\n",
             b"conn 1 game ended ",
@@ -155,6 +202,12 @@ fn a_join_is_judged(rt: HostRuntime) -> Result<(), Fail> {
         ),
         (b"bytes 1 030004\n", b"conn 1 game ended ", b"04000300", b""),
         (b"bytes 1 0200\n", b"conn 1 game ended ", b"04000304", b""),
+        (
+            b"bytes 1 0400150f\n",
+            b"conn 1 game ended ",
+            b"04000304",
+            b"",
+        ),
         (
             b"bytes 1 1100023133\nbytes 1 2e34000d000000416e6e00ff1100023133\nbytes 1 2e34000d000000416e6e00ff\n",
             b"conn 1 game ended ",

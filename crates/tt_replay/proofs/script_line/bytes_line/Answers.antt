@@ -8,4 +8,4 @@ pub returns-in_default-number_of-clause-none : goal.returns-in_default-number_of
 returns-in_default-number_of-clause-none c = other_front_none c.args.words.now c.in-Some.front.now c.in-Some.digits.now c.in-Some.ensures.word c.in-Some.ensures.one c.in_default-number_of.ensures.none
 
 pub returns-in_default-2-clause-none : goal.returns-in_default-2-clause-none
-returns-in_default-2-clause-none c = other_piece_none c.args.words.now c.in-Some.front.now c.in-Some.digits.now c.in-Some.ensures.word c.in-Some.ensures.one (rw c.in_default-2.is at c.in_ok-piece.ensures.none)
+returns-in_default-2-clause-none c = other_piece_none c.args.words.now c.in-Some.front.now c.in-Some.digits.now c.in-Some.ensures.word c.in-Some.ensures.one (rw c.in_default-2.is at c.in_ok-content.ensures.none)

@@ -1,5 +1,5 @@
 use Rattle.std.proofs.Common.{arith, ⊎_elim}
-use Rattle.tt_replay.proofs.Decimals.{ticks_out}
+use Rattle.tt_replay.proofs.Pieces.{ticks_out}
 use Rattle.tt_replay.proofs.script_line.ticks_line.Goals as goal
 
 pub returns-then-n-lt1-clause-none : goal.returns-then-n-lt1-clause-none
