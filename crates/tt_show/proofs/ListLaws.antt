@@ -1,12 +1,13 @@
 -- Lists, line by line.
-use Rattle.std.proofs.Common.{◌≡◌, ◌≢◌, ℕ, ◌+◌, ◌-◌, List, [], ◌∷◌, ◌++◌, length, take, refl, sym, ap, ◌∙◌, append_assoc, arith}
+use Rattle.std.proofs.Common.{◌≡◌, ◌≢◌, ℕ, ◌+◌, ◌-◌, List, [], ◌∷◌, ◌++◌, length, take, refl, sym, ap, ap₂, ◌∙◌, append_assoc, arith}
 use Rattle.std.specs.Prelude.{map, codes}
 use Rattle.std.specs.List.{AllByRecursion}
 use Rattle.std.proofs.lemmas.List.{append-nil, map-append, take_at, length-map, length-append, nil_from_length}
 use Rattle.std.proofs.lemmas.Grind.{flat_map-append}
 use Rattle.hex.specs.Hex.{encode_lower}
+use Rattle.tt_lines.specs.Digits.{IsPiece}
 use Rattle.tt_lines.specs.Lines.{HasNo, lines_of, IsFirstBad}
-use Rattle.tt_lines.proofs.Breaks.{has_no-test, first_is}
+use Rattle.tt_lines.proofs.Breaks.{has_no-test, first_is, no_sides}
 use Rattle.tt_show.specs.declared.family.Family.{Family}
 use Rattle.tt_show.specs.declared.family.Family.TheVariants.{Game}
 use Rattle.tt_show.specs.ListLines.{ListLine}
@@ -25,6 +26,20 @@ line_cut Game bytes = refl
 pub other_word : (text word digits : List ℕ) → text ≡ word ++ 32 ∷ digits → HasNo 32 word → ((family : Family) → word ≢ family_word family) → (line : ListLine) → IsLine line → text ≢ line_text line
 other_word text word digits cut one none line is e =
     none line.family (first_is 32 word (family_word line.family) digits (encode_lower line.bytes) one (word_one line.family) (sym cut ∙ e ∙ line_cut line.family line.bytes)).0
+
+-- what has no blank is no line
+pub no_word : (text : List ℕ) → HasNo 32 text → (line : ListLine) → IsLine line → text ≢ line_text line
+no_word text none line is e = no_sides 32 text (family_word line.family) (encode_lower line.bytes) none (e ∙ line_cut line.family line.bytes)
+
+-- nor is what has other digits behind the blank
+pub other_digits : (text word digits : List ℕ) → text ≡ word ++ 32 ∷ digits → HasNo 32 word → ((piece : List ℕ) → IsPiece piece → digits ≢ encode_lower piece) → (line : ListLine) → IsLine line → text ≢ line_text line
+other_digits text word digits cut one none line is e =
+    none line.bytes is (first_is 32 word (family_word line.family) digits (encode_lower line.bytes) one (word_one line.family) (sym cut ∙ e ∙ line_cut line.family line.bytes)).1
+
+-- a word, a blank and digits are a line
+pub line_found : (text word digits bytes : List ℕ) (family : Family) → text ≡ word ++ 32 ∷ digits → word ≡ family_word family → IsPiece bytes × (digits ≡ encode_lower bytes)
+    → IsLine (record { family = family; bytes = bytes }) × (text ≡ line_text (record { family = family; bytes = bytes }))
+line_found text word digits bytes family cut is spelled = (spelled.0, cut ∙ ap₂ (λ (front rest : List ℕ). front ++ 32 ∷ rest) is spelled.1 ∙ sym (line_cut family bytes))
 
 -- ---- the lines so far
 

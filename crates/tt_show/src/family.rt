@@ -2,7 +2,6 @@
 ghost use Rattle.std.specs.Prelude.{◌≡◌, MatchOption};
 ghost use Rattle.tt_frame.specs.Rows.{unknown};
 ghost use Rattle.tt_show.specs.Forms.{row_of, table_row, table_name};
-ghost use Rattle.tt_show.specs.Packets.{family_word};
 
 use crate::forms::Row;
 use crate::game::game_row;
@@ -21,14 +20,5 @@ pub(crate) fn row_by(family: Family, kind: u8) -> Option<Row>
 {
     match family {
         Family::Game => game_row(kind),
-    }
-}
-
-/// The word that a line of a list begins with.
-pub(crate) fn word_of(family: Family) -> &'static [u8]
-    ensures word { result.now ≡ family_word family }
-{
-    match family {
-        Family::Game => b"game",
     }
 }
