@@ -15,6 +15,11 @@ pub record WorldState : Type 0 where
   pub companies : List (Option Company)
   pub signs : List Sign
 
+-- the world of these parts
+abbrev pub world_of_parts : ℕ × ℕ → ℕ → ℕ → Bool → List (Option Company) → List Sign → WorldState
+world_of_parts words day part paused companies signs =
+    record { words = words; day = day; part = part; paused = paused; companies = companies; signs = signs }
+
 -- the world that a game starts with: both words are the seed, it is the first part of the first day, and nobody is there
 abbrev pub start : Setup → WorldState
 start setup = record { words = (setup.seed, setup.seed); day = 0; part = 0; paused = false; companies = replicate 15 None; signs = [] }

@@ -1,10 +1,11 @@
 //! What a world does, in numbers from outside.
-ghost use Rattle.std.specs.Prelude.{◌≡◌, ◌%◌, ◌≤◌, pos, ◌≤ℤ◌};
+ghost use Rattle.std.specs.Prelude.{◌≡◌, ◌%◌, ◌≤◌, pos, neg_ℤ, ◌≤ℤ◌, codes};
 ghost use Rattle.tt_world.specs.Sound.{IsCompany, most_money};
 
 use super::*;
+use std::alloc::Global;
 use std::test::Fail;
-use tt_frame::Short;
+use tt_frame::{OutOfMemory, Short};
 
 /// An entry of a company.
 fn entry(company: u8, code: Code, number: u32, to: u8, text: &[u8]) -> Result<Entry, Fail> {
@@ -311,11 +312,12 @@ fn a_paused_world_draws_nothing(rt: HostRuntime) -> Result<(), Fail> {
 
 /// A company in no world.
 fn company(money: i64, loan: u32) -> Company
-    requires least { pos 0 ≤ℤ money }
+    requires least { neg_ℤ (pos most_money) ≤ℤ money }
     requires most { money ≤ℤ pos most_money }
     requires loan { loan ≤ 300000 }
     requires steps { loan % 10000 ≡ 0 }
     ensures money { result.money ≡ money }
+    ensures name { result.name ≡ codes "A" }
     ensures sound { IsCompany result }
 {
     Company {
@@ -379,4 +381,159 @@ fn companies_earn_before_they_pay(rt: HostRuntime) {
     economy::begin_day(31, &mut random, &mut companies);
     assert_eq!(rt; companies, [Some(company(9_000_000_000_000_000, 0))]);
     assert_eq!(rt; economy::next_day(u32::MAX), u32::MAX);
+}
+
+/// The same company with another name.
+fn renamed(company: Company) -> Company
+    requires { IsCompany company }
+    ensures name { result.name ≡ codes "B" }
+    ensures sound { IsCompany result }
+{
+    Company {
+        money: company.money,
+        loan: company.loan,
+        name: founding::name_of(b"B"),
+        president: company.president,
+    }
+}
+
+/// A world in the last part of a day, with these companies as 0 and 1.
+fn at_end_of(
+    alloc: Global,
+    day: u32,
+    random: Random,
+    first: Company,
+    second: Company,
+) -> Result<World, OutOfMemory>
+    requires first { IsCompany first }
+    requires second { IsCompany second }
+    requires first_name { first.name ≡ codes "A" }
+    requires second_name { second.name ≡ codes "B" }
+{
+    let signs = Vec::with_capacity(alloc, 1_000)?;
+    let companies = [
+        Some(first),
+        Some(second),
+        None,
+        None,
+        None,
+        None,
+        None,
+        None,
+        None,
+        None,
+        None,
+        None,
+        None,
+        None,
+        None,
+    ];
+    Ok(World::from_parts(random, day, 73, false, companies, signs))
+}
+
+#[test]
+fn money_is_borrowed_and_given_up_to_the_most(rt: HostRuntime) -> Result<(), Fail> {
+    let rich = company(8_999_999_999_980_000, 0);
+    let giver = renamed(company(150_000, 100_000));
+    let mut world = at_end_of(rt.alloc(), 0, Random::seeded(0), rich, giver)?;
+    let rows = [
+        (0, Code::IncreaseLoan, 10_000, 0, Effect::Done),
+        (1, Code::Give, 10_001, 0, Effect::Refused(Why::Money)),
+        (1, Code::Give, 10_000, 0, Effect::Done),
+        (1, Code::Give, 1, 0, Effect::Refused(Why::Money)),
+        (
+            0,
+            Code::IncreaseLoan,
+            10_000,
+            0,
+            Effect::Refused(Why::Money),
+        ),
+    ];
+    for (company, code, number, to, wanted) in rows {
+        let asked = entry(company, code, number, to, b"")?;
+        assert_eq!(rt; world.apply(&asked), wanted);
+    }
+    let rich = world.company(0).ok_or("a company")?;
+    assert_eq!(rt; (rich.money, rich.loan), (9_000_000_000_000_000, 10_000));
+    Ok(())
+}
+
+#[test]
+fn a_loan_is_not_paid_back_with_money_that_is_not_there(rt: HostRuntime) -> Result<(), Fail> {
+    let poor = company(9_999, 20_000);
+    let able = renamed(company(10_000, 20_000));
+    let mut world = at_end_of(rt.alloc(), 0, Random::seeded(0), poor, able)?;
+    let refused = entry(0, Code::DecreaseLoan, 10_000, 0, b"")?;
+    let done = entry(1, Code::DecreaseLoan, 10_000, 0, b"")?;
+    assert_eq!(rt; world.apply(&refused), Effect::Refused(Why::Money));
+    assert_eq!(rt; world.apply(&done), Effect::Done);
+    let poor = world.company(0).ok_or("a company")?;
+    assert_eq!(rt; (poor.money, poor.loan), (9_999, 20_000));
+    let able = world.company(1).ok_or("a company")?;
+    assert_eq!(rt; (able.money, able.loan), (0, 10_000));
+    Ok(())
+}
+
+#[test]
+fn interest_is_paid_behind_the_last_frame_of_a_month(rt: HostRuntime) -> Result<(), Fail> {
+    let debtor = company(0, 300_000);
+    let free = renamed(company(0, 0));
+    let mut world = at_end_of(rt.alloc(), 29, Random::seeded(0), debtor, free)?;
+    world.run_frame();
+    assert_eq!(rt; (world.day(), world.part()), (30, 0));
+    // The second draw is for company 0, which earns 749 and pays 500; the third is for company 1, which earns 125.
+    assert_eq!(rt; world.random().words(), (0xD75B_E1B8, 0x1FFF_FFFF));
+    let debtor = world.company(0).ok_or("a company")?;
+    assert_eq!(rt; (debtor.money, debtor.loan), (249, 300_000));
+    let free = world.company(1).ok_or("a company")?;
+    assert_eq!(rt; (free.money, free.loan), (125, 0));
+    Ok(())
+}
+
+/// The money of the companies 0 and 1 behind the last frame of day 29, where the first earns 0 and the second 501.
+fn month_ends(alloc: Global, first: Company, second: Company) -> Result<(i64, i64), Fail>
+    requires first { IsCompany first }
+    requires second { IsCompany second }
+    requires first_name { first.name ≡ codes "A" }
+    requires second_name { second.name ≡ codes "B" }
+{
+    let random = Random::of(7, 0x1234_567F);
+    let mut world = at_end_of(alloc, 29, random, first, second)?;
+    world.run_frame();
+    let first = world.company(0).ok_or("a company")?.money;
+    let second = world.company(1).ok_or("a company")?.money;
+    Ok((first, second))
+}
+
+#[test]
+fn money_stays_within_its_bounds(rt: HostRuntime) -> Result<(), Fail> {
+    let least = -9_000_000_000_000_000;
+    let most = 9_000_000_000_000_000;
+    // Interest is 500. Just at the bounds:
+    let poor = company(-8_999_999_999_999_500, 300_000);
+    let rich = renamed(company(8_999_999_999_999_499, 0));
+    assert_eq!(rt; month_ends(rt.alloc(), poor, rich)?, (least, most));
+    // One step past them:
+    let poor = company(-8_999_999_999_999_501, 300_000);
+    let rich = renamed(company(8_999_999_999_999_500, 0));
+    assert_eq!(rt; month_ends(rt.alloc(), poor, rich)?, (least, most));
+    // What is earned past the bound is lost before interest is paid.
+    let poor = company(least, 300_000);
+    let rich = renamed(company(most, 300_000));
+    assert_eq!(rt; month_ends(rt.alloc(), poor, rich)?, (least, most - 500));
+    Ok(())
+}
+
+#[test]
+fn the_last_day_stays(rt: HostRuntime) -> Result<(), Fail> {
+    let first = company(0, 0);
+    let second = renamed(company(0, 0));
+    let mut world = at_end_of(rt.alloc(), u32::MAX - 1, Random::seeded(0), first, second)?;
+    world.run_frame();
+    assert_eq!(rt; (world.day(), world.part()), (4_294_967_295, 0));
+    for _ in 0..74 {
+        world.run_frame();
+    }
+    assert_eq!(rt; (world.day(), world.part()), (4_294_967_295, 0));
+    Ok(())
 }

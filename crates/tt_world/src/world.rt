@@ -1,7 +1,7 @@
 //! The world of a game: what every end of it holds alike at each frame.
 ghost use Rattle.std.specs.Prelude.{◌≡◌, ◌<◌, ◌≤◌, IfOk, IfSome, IsSome, option_copied, replicate, vec_capacity};
-ghost use Rattle.tt_world.specs.World.{start, company_of};
-ghost use Rattle.tt_world.specs.Sound.{IsCompany};
+ghost use Rattle.tt_world.specs.World.{start, company_of, world_of_parts};
+ghost use Rattle.tt_world.specs.Sound.{IsCompany, IsSound};
 ghost use Rattle.tt_world.specs.Economy.{framed};
 
 use crate::company::Company;
@@ -25,7 +25,7 @@ const PARTS_OF_DAY: u8 = 74;
 /// A world: random words, the day and its part, whether it is paused, companies by number, and signs.
 ///
 /// Contracts see it as a `WorldState`, and every value is sound: `every_world_is_sound` says so. `start` and `copy` alone
-/// take memory, room for 1,000 signs. `apply` does a command and `run_frame` runs a frame; both always answer. A game does
+/// take memory, room for 1,000 signs; `from_parts` is given it. `apply` does a command and `run_frame` runs a frame; both always answer. A game does
 /// in each frame first its entries, in order, and then `run_frame`.
 #[derive(Debug, Drop)]
 pub struct World {
@@ -65,6 +65,30 @@ impl World {
             companies: no_companies(),
             signs,
         })
+    }
+
+    /// The world of these parts: the companies stand by their numbers, and `signs` has room for 1,000. Whoever reads a
+    /// world has looked at each rule already, so nothing is looked at once more. It takes no memory.
+    pub fn from_parts(
+        random: Random,
+        day: u32,
+        part: u8,
+        paused: bool,
+        companies: [Option<Company>; 15],
+        signs: Vec<Sign>,
+    ) -> World
+        requires sound { IsSound (world_of_parts random day part paused companies signs.items) }
+        requires room { 1000 ≤ vec_capacity signs }
+        ensures world { result ≡ world_of_parts random day part paused companies signs.items }
+    {
+        World {
+            random,
+            day,
+            part,
+            paused,
+            companies,
+            signs,
+        }
     }
 
     /// The same world once more, with room for 1,000 signs. Where memory runs out, nothing was changed.
