@@ -1,0 +1,4 @@
+pub mod Layout
+pub mod Maps
+pub mod Faults
+pub mod Reading
