@@ -2,6 +2,10 @@
 #![tactic(auto)]
 
 mod bad;
-mod numbers;
+mod chunks;
+mod companies;
+mod reading;
+mod signs;
+mod values;
 
 pub use bad::MapBad;
