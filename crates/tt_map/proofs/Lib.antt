@@ -1,1 +1,4 @@
 pub mod Loops
+pub mod ValueLaws
+pub mod CompanyLaws
+pub mod PlaceLaws
