@@ -55,7 +55,7 @@ padded_has name front k e = or_false (list_any (has_name name) front) (list_any 
 padded_lacks : (name : List ℕ) (front : List (Option Company)) (k : ℕ) → list_any (has_name name) front ≡ false → list_any (has_name name) (padded front k) ≡ false
 padded_lacks name front k e = list_any-append (has_name name) front (replicate k nobody) ∙ rw (e, nobody_has name k) refl
 
-one_more : (front : List (Option Company)) (o : Option Company) (rest : List (Option Company)) → front ++ o ∷ rest ≡ (front ++ one o) ++ rest
+pub one_more : (front : List (Option Company)) (o : Option Company) (rest : List (Option Company)) → front ++ o ∷ rest ≡ (front ++ one o) ++ rest
 one_more front o rest = sym (append_assoc front (one o) rest)
 
 length_more : (front : List (Option Company)) (o : Option Company) (n : ℕ) → n ≡ length front → n + 1 ≡ length (front ++ one o)
