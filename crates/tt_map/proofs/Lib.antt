@@ -4,3 +4,4 @@ pub mod CompanyLaws
 pub mod PlaceLaws
 pub mod FreshLaws
 pub mod SignLaws
+pub mod BodyLaws
