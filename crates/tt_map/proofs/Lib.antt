@@ -5,3 +5,5 @@ pub mod PlaceLaws
 pub mod FreshLaws
 pub mod SignLaws
 pub mod BodyLaws
+pub mod ChunkLaws
+pub mod MapLaws
