@@ -50,7 +50,7 @@ Begins-then s x t y u p q = record {
 Begins-front : (n : ℕ) (s : List ℕ) → IsBytes s → Begins s (take n s) (drop n s)
 Begins-front n s fits = record { parts = sym (take-append-drop n s); fits = IsBytes-drop n s fits }
 
-IsBytes-take : (n : ℕ) (bytes : List ℕ) → IsBytes bytes → IsBytes (take n bytes)
+pub IsBytes-take : (n : ℕ) (bytes : List ℕ) → IsBytes bytes → IsBytes (take n bytes)
 IsBytes-take n bytes h i =
     elim (cases_lt i n) [
       | inl lt ↦ rw (get_or-take n bytes i 0 lt) (h i)
