@@ -137,7 +137,7 @@ companies_again w v h =
     let fifteen : replicate 15 nobody ≡ replicate (length v) nobody = ap (λ (k : ℕ). replicate k nobody) (sym h.places) in
     let read = places_again v 0 0 [] (replicate 15 nobody) [] (omega arith) refl fifteen (fresh_from_AreCompanies v h) in
     let places : places_here (length live) 0 (replicate 15 nobody) (flat_map company_bytes live) ≡ Some (v, []) =
-        ap (λ (s : List ℕ). places_here (length live) 0 (replicate 15 nobody) s) (sym (append-nil (flat_map company_bytes live))) ∙ read in
+    ap (λ (s : List ℕ). places_here (length live) 0 (replicate 15 nobody) s) (sym (append-nil (flat_map company_bytes live))) ∙ read in
     rw (count, places) refl
 
 -- ---- SIGN
@@ -173,7 +173,7 @@ signs_are_read w v h =
     let few = h.few in
     let count = number_again w16 (2 ^ 16) wide16 (length v) (flat_map sign_bytes v) (omega arith) in
     let signs : signs_here w.companies (length v) 0 (flat_map sign_bytes v) ≡ Some (v, []) =
-        ap (λ (s : List ℕ). signs_here w.companies (length v) 0 s) (sym (append-nil (flat_map sign_bytes v))) ∙ signs_again w.companies v 0 [] h.rising h.each in
+    ap (λ (s : List ℕ). signs_here w.companies (length v) 0 s) (sym (append-nil (flat_map sign_bytes v))) ∙ signs_again w.companies v 0 [] h.rising h.each in
     rw (count, signs) refl
 
 -- ---- all five

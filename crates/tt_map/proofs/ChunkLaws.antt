@@ -48,7 +48,7 @@ body_begins tag most s body t four fits e =
     let whole = bytes_begin n.0.0 n.0.1 b.0.0 b.0.1 size.0.fits read_body in
     let joined = Begins-then s.rest (x.0.0 ++ u32 n.0.0) n.0.1 b.0.0 b.0.1 (Begins-then s.rest x.0.0 x.0.1 (u32 n.0.0) n.0.1 found.0 size.0) whole.0 in
     let spelled : x.0.0 ++ u32 n.0.0 ++ b.0.0 ≡ framed tag b.0.0 =
-        ap (λ (z : List ℕ). z ++ u32 n.0.0 ++ b.0.0) same ∙ ap (λ (k : ℕ). tag ++ u32 k ++ b.0.0) (sym whole.1) in
+    ap (λ (z : List ℕ). z ++ u32 n.0.0 ++ b.0.0) same ∙ ap (λ (k : ℕ). tag ++ u32 k ++ b.0.0) (sym whole.1) in
     let count : m.0.0 ≡ n.0.0 = ap (λ (p : ℕ × List ℕ). p.0) (sym small.1) in
     let result = some_is (b.0.0, record { at = s.at + 8 + m.0.0; rest = b.0.1 }) (body, t) b.2 in
     subst (λ (p : List ℕ × Unread). BodyBegins tag s p.0 p.1) result (record {
@@ -65,14 +65,14 @@ unfolding body_here
 body_again tag most s body t four few small over =
     let parts : s.rest ≡ tag ++ (u32 (length body) ++ (body ++ t.rest)) = over.parts ∙ append_assoc (tag ++ u32 (length body)) body t.rest ∙ append_assoc tag (u32 (length body)) (body ++ t.rest) in
     let found : bytes_here 4 (tag ++ (u32 (length body) ++ (body ++ t.rest))) ≡ Some (tag, u32 (length body) ++ (body ++ t.rest)) =
-        ap (λ (n : ℕ). bytes_here n (tag ++ (u32 (length body) ++ (body ++ t.rest)))) (sym four) ∙ bytes_again tag (u32 (length body) ++ (body ++ t.rest)) in
+    ap (λ (n : ℕ). bytes_here n (tag ++ (u32 (length body) ++ (body ++ t.rest)))) (sym four) ∙ bytes_again tag (u32 (length body) ++ (body ++ t.rest)) in
     let right : bytes_eq tag tag ≡ true = (bytes_eq-Decides tag tag).1 refl in
     let size = number_again w32 (2 ^ 32) wide32 (length body) (body ++ t.rest) (omega arith) in
     let fits : nat_le (length body) most ≡ true = grind arith in
     let whole = bytes_again body t.rest in
     let place : s.at + 8 + length body ≡ t.at = let p = over.place in omega (arith, four, length-append (tag ++ u32 (length body)) body, length-append tag (u32 (length body))) in
     let read : (bytes_here 4 (tag ++ (u32 (length body) ++ (body ++ t.rest))) >>= λ x. passed (bytes_eq x.0 tag) x >>= λ x. number_here w32 x.1 >>= λ n. passed (nat_le n.0 most) n >>= λ n. bytes_here n.0 n.1 >>= λ b. some (b.0, unread (s.at + 8 + n.0) b.1)) ≡ Some (body, t) =
-        rw (found, right, size, fits, whole, place) refl in
+    rw (found, right, size, fits, whole, place) refl in
     ap (λ (r : List ℕ). bytes_here 4 r >>= λ x. passed (bytes_eq x.0 tag) x >>= λ x. number_here w32 x.1 >>= λ n. passed (nat_le n.0 most) n >>= λ n. bytes_here n.0 n.1 >>= λ b. some (b.0, unread (s.at + 8 + n.0) b.1)) parts ∙ read
 
 -- ---- a chunk
@@ -181,9 +181,9 @@ chunks_stop [] w s at fits e = ends_err w at s e
 chunks_stop (c ∷ cs) w s at fits e =
     elim (inspect (part_here c w s)) [
       | inl none ↦ inl (
-          err_is at s.at (sym e ∙ no_part c cs w s none),
-          λ v t stands. nowhere (part_here c w s) (v, t) none (part_is_read c w v s t stands)
-        )
+        err_is at s.at (sym e ∙ no_part c cs w s none),
+        λ v t stands. nowhere (part_here c w s) (v, t) none (part_is_read c w v s t stands),
+      )
       | inr found ↦
           let stands = part_stands c w s found.0.0 found.0.1 fits found.1 in
           inr (found.0.0, found.0.1, stands.0, chunks_stop cs (with_part c found.0.0 w) found.0.1 at stands.1 (sym (one_part c cs w s found.0.0 found.0.1 found.1) ∙ e))

@@ -69,7 +69,7 @@ company_begins others s c t fits e =
       president = president.1;
     } in
     let all = Begins-then s (i64 m.0.0 ++ u32 l.0.0 ++ words n.0.0) n.0.1 (words p.0.0) p.0.1
-        (Begins-then s (i64 m.0.0 ++ u32 l.0.0) l.0.1 (words n.0.0) n.0.1 (Begins-then s (i64 m.0.0) m.0.1 (u32 l.0.0) l.0.1 money loan.0) name.0) president.0 in
+    (Begins-then s (i64 m.0.0 ++ u32 l.0.0) l.0.1 (words n.0.0) n.0.1 (Begins-then s (i64 m.0.0) m.0.1 (u32 l.0.0) l.0.1 money loan.0) name.0) president.0 in
     subst (λ (x : Company × List ℕ). Begins s (rest_of x.0) x.1 × IsCompany x.0 × (list_any (has_name x.0.name) others ≡ false)) good.1
     (all, sound, not_false _ tests.1)
 

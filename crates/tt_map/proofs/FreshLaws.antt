@@ -105,7 +105,7 @@ name_is_free front c places names =
       | inl taken ↦ absurd (
           let h = holder c.name front taken in
           let place : h.place ≡ length front =
-              names h.place (length front) h.company c (get_or_append_left front (Some c ∷ places) None h.place h.within ∙ h.there) (get_or-append_seam front (Some c) places None) h.same in
+          names h.place (length front) h.company c (get_or_append_left front (Some c ∷ places) None h.place h.within ∙ h.there) (get_or-append_seam front (Some c) places None) h.same in
           let within = h.within in omega arith)
       | inr free ↦ free
     ]
@@ -116,7 +116,7 @@ fresh_from front (None ∷ places) each names = fresh_from (front ++ one None) p
 fresh_from front (Some c ∷ places) each names = (
   each 0 c refl,
   name_is_free front c places names,
-  fresh_from (front ++ one (Some c)) places (λ n d e. each (suc n) d e) (subst HasDistinctNames (one_more front (Some c) places) names)
+  fresh_from (front ++ one (Some c)) places (λ n d e. each (suc n) d e) (subst HasDistinctNames (one_more front (Some c) places) names),
 )
 
 pub fresh_from_AreCompanies : (places : List (Option Company)) → AreCompanies places → FreshBehind [] places

@@ -7,3 +7,4 @@ pub mod SignLaws
 pub mod BodyLaws
 pub mod ChunkLaws
 pub mod MapLaws
+pub mod WritingLaws

@@ -203,13 +203,13 @@ places_again (Some c ∷ tail) least n front places t le len is fresh =
     let live = live_from (n + 1) tail in
     let after = flat_map company_bytes live ++ t in
     let parts : flat_map company_bytes ((n, c) ∷ live) ++ t ≡ n ∷ (rest_of c ++ after) =
-        ap (λ (r : List ℕ). r ++ t) (flat_map-cons company_bytes (n, c) live) ∙ append_assoc (company_bytes (n, c)) (flat_map company_bytes live) t in
+    ap (λ (r : List ℕ). r ++ t) (flat_map-cons company_bytes (n, c) live) ∙ append_assoc (company_bytes (n, c)) (flat_map company_bytes live) t in
     let number = byte_again n (rest_of c ++ after) in
     let inside : n < length places = omega (arith, ap length is, length-append front (replicate (suc (length tail)) nobody)) in
     let test = within_test least n (length places) le inside in
     let free : list_any (has_name c.name) places ≡ false = ap (λ (q : List (Option Company)). list_any (has_name c.name) q) is ∙ padded_lacks c.name front (suc (length tail)) fresh.1 in
     let company = company_again places c after fresh.0 free in
     let then = places_again tail (n + 1) (n + 1) (front ++ one (Some c)) (slice_set places n (Some c)) t (omega arith) (length_more front (Some c) n len)
-        (ap (λ (q : List (Option Company)). slice_set q n (Some c)) is ∙ put_at_front front (length tail) n (Some c) len) fresh.2 in
+    (ap (λ (q : List (Option Company)). slice_set q n (Some c)) is ∙ put_at_front front (length tail) n (Some c) len) fresh.2 in
     ap (λ (s : List ℕ). places_here (suc (length live)) least places s) parts
     ∙ rw (number, test, company) (then ∙ ap (λ (p : List (Option Company)). Some (p, t)) (sym (one_more front (Some c) tail)))

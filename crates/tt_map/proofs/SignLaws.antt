@@ -52,7 +52,7 @@ sign_begins companies least s g t fits e =
       text = text.1;
     } in
     let bytes = Begins-then s (u16 i.0.0 ++ o.0.0 ∷ [] ++ u32 n.0.0) n.0.1 (words x.0.0) x.0.1
-        (Begins-then s (u16 i.0.0 ++ o.0.0 ∷ []) o.0.1 (u32 n.0.0) n.0.1 (Begins-then s (u16 i.0.0) i.0.1 (o.0.0 ∷ []) o.0.1 id.0 owner.0) tile.0) text.0 in
+    (Begins-then s (u16 i.0.0 ++ o.0.0 ∷ []) o.0.1 (u32 n.0.0) n.0.1 (Begins-then s (u16 i.0.0) i.0.1 (o.0.0 ∷ []) o.0.1 id.0 owner.0) tile.0) text.0 in
     subst (λ (p : Sign × List ℕ). Begins s (sign_bytes p.0) p.1 × IsSign companies p.0 × (least ≤ p.0.id)) good.1 (bytes, right, le_of_test least i.0.0 two.0)
 
 sign_tests : (least : ℕ) (companies : List (Option Company)) (g : Sign) → least ≤ g.id → IsSign companies g → nat_le least g.id && nat_lt g.id 1000 && is_live companies g.owner && nat_lt g.tile 1048576 ≡ true
@@ -94,7 +94,7 @@ signs_begin companies (suc more) least s signs t fits e =
     let gs = bind_some (signs_here companies more (g.0.0.id + 1) g.0.1) _ (signs, t) g.2 in
     let later = signs_begin companies more (g.0.0.id + 1) g.0.1 gs.0.0 gs.0.1 first.0.fits gs.1 in
     let joined : Begins s (flat_map sign_bytes (g.0.0 ∷ gs.0.0)) gs.0.1 =
-        rw (flat_map-cons sign_bytes g.0.0 gs.0.0) (Begins-then s (sign_bytes g.0.0) g.0.1 (flat_map sign_bytes gs.0.0) gs.0.1 first.0 later.bytes) in
+    rw (flat_map-cons sign_bytes g.0.0 gs.0.0) (Begins-then s (sign_bytes g.0.0) g.0.1 (flat_map sign_bytes gs.0.0) gs.0.1 first.0 later.bytes) in
     subst (λ (p : List Sign × List ℕ). SignsBegin companies (suc more) least s p.0 p.1) (some_is (g.0.0 ∷ gs.0.0, gs.0.1) (signs, t) gs.2)
     (record {
       count = ap suc later.count;

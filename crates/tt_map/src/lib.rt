@@ -4,8 +4,13 @@
 mod bad;
 mod chunks;
 mod companies;
+mod decoding;
+mod encoding;
+mod reader;
 mod reading;
 mod signs;
 mod values;
 
 pub use bad::MapBad;
+pub use decoding::decode_map;
+pub use reader::MapReader;

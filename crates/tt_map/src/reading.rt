@@ -56,3 +56,29 @@ fn read_chunks(f: &mut Fields, empty: Vec<Sign>) -> Result<World, MapBad>
     }
     Ok(World::from_parts(random, day, part, paused, companies, signs))
 }
+
+/// The world that the bytes tell, with its signs in a vector that has the room for them.
+#[tactic(auto, unfolding(crate::specs::Reading::map_in, tt_frame::specs::Reading::raw_at))]
+pub(crate) fn read(bytes: &[u8], empty: Vec<Sign>) -> Result<World, MapBad>
+    requires empty { empty.items ≡ [] }
+    requires room { 1000 ≤ vec_capacity empty }
+    ensures { result ≡ map_in bytes.now }
+{
+    if bytes.len() < 4 {
+        return Err(MapBad::Chunk { at: 0 });
+    }
+    let tag = [bytes[0], bytes[1], bytes[2], bytes[3]];
+    if tag != TAG {
+        return Err(MapBad::Tag(tag));
+    }
+    if bytes.len() < 8 {
+        return Err(MapBad::Chunk { at: 0 });
+    }
+    let version = u32::from_be_bytes([bytes[4], bytes[5], bytes[6], bytes[7]]);
+    if version != VERSION {
+        return Err(MapBad::Version(version));
+    }
+    let mut f = Fields::new(bytes);
+    let Some(_) = f.raw(8) else { unreachable!() };
+    read_chunks(&mut f, empty)
+}

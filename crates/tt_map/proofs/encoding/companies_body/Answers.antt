@@ -1,0 +1,5 @@
+use Rattle.tt_map.proofs.WritingLaws.{none_more, one_more, few_live}
+use Rattle.tt_map.proofs.encoding.companies_body.Goals as goal
+
+pub loop-number-preserved : goal.loop-number-preserved
+loop-number-preserved c = ?

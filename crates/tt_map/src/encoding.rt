@@ -1,0 +1,128 @@
+//! The encoding of a world as its map.
+ghost use Rattle.std.specs.Prelude.{◌≡◌, ◌≤◌, ◌<◌, ◌^◌, ◌++◌, ◌∷◌, length, IfOk, OnOk, vec_len};
+ghost use Rattle.std.specs.List.{flat_map};
+ghost use Rattle.tt_world.specs.Sound.{IsSound};
+ghost use Rattle.tt_map.specs.Layout.{words, i64, live_from, company_bytes, sign_bytes, u32, GAME, RAND, CMPY, SIGN, ENDC, body_of, part_of, chunk, head, map_of};
+ghost use Rattle.tt_map.specs.Maps.{IsMap};
+
+use std::alloc::Global;
+use tt_frame::{Name, OutOfMemory, Put, Short};
+use tt_world::{Code, Command, Company, Entry, Sign, World, every_world_is_sound};
+
+/// How many companies a world has places for.
+const COMPANIES: u8 = 15;
+
+/// The greatest map has so many bytes.
+const GREATEST: usize = 40_220;
+
+/// A text behind its length.
+fn put_name(out: &mut Vec<u8>, name: &Name) -> Result<(), OutOfMemory>
+    ensures { OnOk result (out.new.items ≡ out.old.items ++ words name.now) }
+{
+    let text = name.bytes();
+    Put::raw(out, &[text.len() as u8])?;
+    Put::raw(out, text)
+}
+
+/// The number of a company, its money and its loan.
+fn put_sums(out: &mut Vec<u8>, number: u8, company: &Company) -> Result<(), OutOfMemory>
+    ensures { OnOk result (out.new.items ≡ out.old.items ++ (number ∷ i64 company.now.money ++ u32 company.now.loan)) }
+{
+    Put::raw(out, &[number])?;
+    Put::raw(out, &company.money.to_be_bytes())?;
+    Put::raw(out, &company.loan.to_be_bytes())
+}
+
+/// A company behind its number.
+fn put_company(out: &mut Vec<u8>, number: u8, company: &Company) -> Result<(), OutOfMemory>
+    ensures { OnOk result (out.new.items ≡ out.old.items ++ company_bytes (number, company.now)) }
+{
+    put_sums(out, number, company)?;
+    put_name(out, &company.name)?;
+    put_name(out, &company.president)
+}
+
+/// A sign.
+fn put_sign(out: &mut Vec<u8>, sign: &Sign) -> Result<(), OutOfMemory>
+    ensures { OnOk result (out.new.items ≡ out.old.items ++ sign_bytes sign.now) }
+{
+    Put::raw(out, &sign.id.to_be_bytes())?;
+    Put::raw(out, &[sign.owner])?;
+    Put::raw(out, &sign.tile.to_be_bytes())?;
+    put_name(out, &sign.text)
+}
+
+/// The day, its part, and whether the world is paused.
+fn game_body(world: &World) -> [u8; 6]
+    ensures { result ≡ body_of GAME (part_of GAME world.now) }
+{
+    let day = world.day().to_be_bytes();
+    let paused = if world.paused() { 1 } else { 0 };
+    [day[0], day[1], day[2], day[3], world.part(), paused]
+}
+
+/// The random words.
+fn words_body(world: &World) -> [u8; 8]
+    ensures { result ≡ body_of RAND (part_of RAND world.now) }
+{
+    let (first, second) = world.random().words();
+    let first = first.to_be_bytes();
+    let second = second.to_be_bytes();
+    [
+        first[0], first[1], first[2], first[3], second[0], second[1], second[2], second[3],
+    ]
+}
+
+/// How many companies are live.
+fn live_count(world: &World) -> u8
+    requires { IsSound world.now }
+    ensures { result ≡ length (live_from 0 world.now.companies) }
+{
+    let mut count = 0;
+    for number in 0..COMPANIES {
+        if world.company(number).is_some() {
+            count += 1;
+        }
+    }
+    count
+}
+
+/// The companies, each behind its number.
+fn companies_body(alloc: Global, world: &World) -> Result<Vec<u8>, OutOfMemory>
+    requires { IsSound world.now }
+    ensures { IfOk result (λ body. body.items ≡ body_of CMPY (part_of CMPY world.now)) }
+{
+    let mut body = Vec::new(alloc);
+    Put::raw(&mut body, &[live_count(world)])?;
+    for number in 0..COMPANIES {
+        if let Some(company) = world.company(number) {
+            put_company(&mut body, number, company)?;
+        }
+    }
+    Ok(body)
+}
+
+/// The signs.
+fn signs_body(alloc: Global, signs: &[Sign]) -> Result<Vec<u8>, OutOfMemory>
+    requires { length signs.now ≤ 1000 }
+    ensures { IfOk result (λ body. body.items ≡ body_of SIGN signs.now) }
+{
+    let mut body = Vec::new(alloc);
+    let count = signs.len() as u16;
+    Put::raw(&mut body, &count.to_be_bytes())?;
+    for sign in signs {
+        put_sign(&mut body, sign)?;
+    }
+    Ok(body)
+}
+
+/// A chunk: its tag, the length of its body, and the body.
+fn put_chunk(out: &mut Vec<u8>, tag: &[u8; 4], body: &[u8]) -> Result<(), OutOfMemory>
+    requires { length body.now < 2 ^ 32 }
+    ensures { OnOk result (out.new.items ≡ out.old.items ++ (tag.now ++ u32 (length body.now) ++ body.now)) }
+{
+    Put::raw(out, tag)?;
+    let length = body.len() as u32;
+    Put::raw(out, &length.to_be_bytes())?;
+    Put::raw(out, body)
+}
