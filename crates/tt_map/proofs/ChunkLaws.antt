@@ -77,7 +77,7 @@ body_again tag most s body t four few small over =
 
 -- ---- a chunk
 
-four_of : (c : Chunk) → length (tag_of c) ≡ 4
+pub four_of : (c : Chunk) → length (tag_of c) ≡ 4
 four_of GAME = refl
 four_of RAND = refl
 four_of CMPY = refl

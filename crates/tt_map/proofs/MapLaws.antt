@@ -261,6 +261,26 @@ exactly bytes result answer fits is = (
   λ h. is ∙ answer_is_read bytes answer fits h,
 )
 
+-- no two answers are both so
+pub same_answer : (bytes : List ℕ) (r q : Result WorldState MapBad) → IsBytes bytes → Answers bytes r → Answers bytes q → r ≡ q
+same_answer bytes r q fits a b = sym (answer_is_read bytes r fits a) ∙ answer_is_read bytes q fits b
+
+ok_is : (w v : WorldState) → Ok {E = MapBad} w ≡ Ok v → w ≡ v
+ok_is w v e = cc
+
+pub one_world : (bytes : List ℕ) (w v : WorldState) → IsMap bytes w → IsMap bytes v → w ≡ v
+one_world bytes w v a b =
+    ok_is w v (sym (map_is_read w a.told) ∙ ap (λ (x : List ℕ). map_in x) (sym a.whole ∙ b.whole) ∙ map_is_read v b.told)
+
+chunk_is : (m n : ℕ) → Err {A = WorldState} (bad.Chunk m) ≡ Err (bad.Chunk n) → m ≡ n
+chunk_is m n e = cc
+
+pub one_place : (bytes : List ℕ) (m n : ℕ) → IsBytes bytes → IsFault bytes m → IsFault bytes n → m ≡ n
+one_place bytes m n fits a b = chunk_is m n (same_answer bytes (Err (bad.Chunk m)) (Err (bad.Chunk n)) fits a b)
+
+pub not_both : (bytes : List ℕ) (r : Result WorldState MapBad) (at : ℕ) → IsBytes bytes → Answers bytes r → IsFault bytes at → (r ≡ Err (bad.Chunk at) → ⊥) → ⊥
+not_both bytes r at fits a b differs = differs (same_answer bytes r (Err (bad.Chunk at)) fits a b)
+
 -- ---- the parts of a world that was read
 
 pub parts_are_sound : (s0 s1 s2 s3 s4 : Unread) (day part : ℕ) (paused : Bool) (words : ℕ × ℕ) (companies : List (Option Company)) (signs : List Sign) → IsBytes s0.rest

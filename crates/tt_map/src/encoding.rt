@@ -1,5 +1,5 @@
 //! The encoding of a world as its map.
-ghost use Rattle.std.specs.Prelude.{◌≡◌, ◌≤◌, ◌<◌, ◌^◌, ◌++◌, ◌∷◌, length, IfOk, OnOk, vec_len};
+ghost use Rattle.std.specs.Prelude.{◌≡◌, ◌≤◌, ◌<◌, ◌^◌, ◌++◌, ◌∷◌, length, IfOk, OnOk, option_copied, []};
 ghost use Rattle.std.specs.List.{flat_map};
 ghost use Rattle.tt_world.specs.Sound.{IsSound};
 ghost use Rattle.tt_map.specs.Layout.{words, i64, live_from, company_bytes, sign_bytes, u32, GAME, RAND, CMPY, SIGN, ENDC, body_of, part_of, chunk, head, map_of};
@@ -11,6 +11,9 @@ use tt_world::{Code, Command, Company, Entry, Sign, World, every_world_is_sound}
 
 /// How many companies a world has places for.
 const COMPANIES: u8 = 15;
+
+/// What stands behind the tag.
+const VERSION: u32 = 0x0001_0000;
 
 /// The greatest map has so many bytes.
 const GREATEST: usize = 40_220;
@@ -40,6 +43,16 @@ fn put_company(out: &mut Vec<u8>, number: u8, company: &Company) -> Result<(), O
     put_sums(out, number, company)?;
     put_name(out, &company.name)?;
     put_name(out, &company.president)
+}
+
+/// The company at a place, where there is one.
+fn put_place(out: &mut Vec<u8>, number: u8, company: Option<&Company>) -> Result<(), OutOfMemory>
+    ensures { OnOk result (out.new.items ≡ out.old.items ++ flat_map company_bytes (live_from number (option_copied company.entry ∷ []))) }
+{
+    match company {
+        Some(company) => put_company(out, number, company),
+        None => Ok(()),
+    }
 }
 
 /// A sign.
@@ -95,9 +108,7 @@ fn companies_body(alloc: Global, world: &World) -> Result<Vec<u8>, OutOfMemory>
     let mut body = Vec::new(alloc);
     Put::raw(&mut body, &[live_count(world)])?;
     for number in 0..COMPANIES {
-        if let Some(company) = world.company(number) {
-            put_company(&mut body, number, company)?;
-        }
+        put_place(&mut body, number, world.company(number))?;
     }
     Ok(body)
 }
@@ -125,4 +136,65 @@ fn put_chunk(out: &mut Vec<u8>, tag: &[u8; 4], body: &[u8]) -> Result<(), OutOfM
     let length = body.len() as u32;
     Put::raw(out, &length.to_be_bytes())?;
     Put::raw(out, body)
+}
+
+/// Tag and version, and the chunks with these bodies for companies and signs.
+fn put_chunks(
+    out: &mut Vec<u8>,
+    world: &World,
+    companies: &[u8],
+    signs: &[u8],
+) -> Result<(), OutOfMemory>
+    requires sound { IsSound world.now }
+    requires empty { out.old.items ≡ [] }
+    requires companies { companies.now ≡ body_of CMPY (part_of CMPY world.now) }
+    requires signs { signs.now ≡ body_of SIGN (part_of SIGN world.now) }
+    ensures { OnOk result (out.new.items ≡ map_of world.now) }
+{
+    Put::raw(out, b"OTTN")?;
+    Put::raw(out, &VERSION.to_be_bytes())?;
+    put_chunk(out, b"GAME", &game_body(world))?;
+    put_chunk(out, b"RAND", &words_body(world))?;
+    put_chunk(out, b"CMPY", companies)?;
+    put_chunk(out, b"SIGN", signs)?;
+    put_chunk(out, b"ENDC", &[])?;
+    Ok(())
+}
+
+/// What is true of every world, for the proof of `encode_map`: nothing is looked at.
+fn recall_soundness(world: &World)
+    ensures sound { IsSound world.now }
+    ensures words { (world.now.words.0 < 2 ^ 32) × (world.now.words.1 < 2 ^ 32) }
+{
+    let Some(text) = Short::new(b"") else {
+        unreachable!()
+    };
+    let any = Entry {
+        frame: 0,
+        sender: 0,
+        company: 0,
+        command: Command {
+            code: Code::Pause,
+            number: 0,
+            to: 0,
+            text,
+        },
+    };
+    every_world_is_sound(world, &any);
+    let _words = world.random().words();
+}
+
+/// The map of a world, of at most 40,220 bytes. Where its day is at most 1,000,000,000, `decode_map` gives it back; no
+/// game comes to a later one.
+pub fn encode_map(alloc: Global, world: &World) -> Result<Vec<u8>, OutOfMemory>
+    ensures map { IfOk result (λ bytes. bytes.items ≡ map_of world.now) }
+    ensures fits { IfOk result (λ bytes. length bytes.items ≤ 40220) }
+    ensures told { world.now.day ≤ 1000000000 → IfOk result (λ bytes. IsMap bytes.items world.now) }
+{
+    recall_soundness(world);
+    let companies = companies_body(alloc, world)?;
+    let signs = signs_body(alloc, world.signs())?;
+    let mut out = Vec::with_capacity(alloc, GREATEST)?;
+    put_chunks(&mut out, world, companies.as_slice(), signs.as_slice())?;
+    Ok(out)
 }

@@ -6,6 +6,7 @@ mod chunks;
 mod companies;
 mod decoding;
 mod encoding;
+mod laws;
 mod reader;
 mod reading;
 mod signs;
@@ -13,4 +14,6 @@ mod values;
 
 pub use bad::MapBad;
 pub use decoding::decode_map;
+pub use encoding::encode_map;
+pub use laws::{one_fault, one_map};
 pub use reader::MapReader;

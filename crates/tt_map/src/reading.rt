@@ -62,7 +62,8 @@ fn read_chunks(f: &mut Fields, empty: Vec<Sign>) -> Result<World, MapBad>
 pub(crate) fn read(bytes: &[u8], empty: Vec<Sign>) -> Result<World, MapBad>
     requires empty { empty.items ≡ [] }
     requires room { 1000 ≤ vec_capacity empty }
-    ensures { result ≡ map_in bytes.now }
+    ensures read { result ≡ map_in bytes.now }
+    ensures bytes { IsBytes bytes.now }
 {
     if bytes.len() < 4 {
         return Err(MapBad::Chunk { at: 0 });
