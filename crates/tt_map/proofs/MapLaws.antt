@@ -265,14 +265,20 @@ exactly bytes result answer fits is = (
 pub same_answer : (bytes : List ℕ) (r q : Result WorldState MapBad) → IsBytes bytes → Answers bytes r → Answers bytes q → r ≡ q
 same_answer bytes r q fits a b = sym (answer_is_read bytes r fits a) ∙ answer_is_read bytes q fits b
 
-ok_is : (w v : WorldState) → Ok {E = MapBad} w ≡ Ok v → w ≡ v
+abbrev told : WorldState → Result WorldState MapBad
+told w = Ok w
+
+abbrev broken : ℕ → Result WorldState MapBad
+broken at = Err (bad.Chunk at)
+
+ok_is : (w v : WorldState) → told w ≡ told v → w ≡ v
 ok_is w v e = cc
 
 pub one_world : (bytes : List ℕ) (w v : WorldState) → IsMap bytes w → IsMap bytes v → w ≡ v
 one_world bytes w v a b =
     ok_is w v (sym (map_is_read w a.told) ∙ ap (λ (x : List ℕ). map_in x) (sym a.whole ∙ b.whole) ∙ map_is_read v b.told)
 
-chunk_is : (m n : ℕ) → Err {A = WorldState} (bad.Chunk m) ≡ Err (bad.Chunk n) → m ≡ n
+chunk_is : (m n : ℕ) → broken m ≡ broken n → m ≡ n
 chunk_is m n e = cc
 
 pub one_place : (bytes : List ℕ) (m n : ℕ) → IsBytes bytes → IsFault bytes m → IsFault bytes n → m ≡ n

@@ -1,6 +1,6 @@
 -- The companies that are written one after another.
 use Rattle.std.proofs.Common.{◌≡◌, ℕ, suc, ◌+◌, ◌<◌, ◌≤◌, true, false, List, [], ◌∷◌, ◌++◌, length, take, get_or, refl, sym, ap, ◌∙◌, append_assoc, arith}
-use Rattle.std.specs.Prelude.{Option, Some, None, Result, Ok, Err, OnOk}
+use Rattle.std.specs.Prelude.{Option, Some, None}
 use Rattle.std.specs.Option.{is_some}
 use Rattle.std.proofs.lemmas.Bool.{false≢true}
 use Rattle.std.specs.List.{flat_map}
@@ -83,9 +83,8 @@ map_length w h =
 -- ---- what writers in order wrote
 
 -- three of them
-pub three_wrote : {E : Type 0} (r : Result (Unit {0}) E) (x o p q a b c : List ℕ) → o ≡ x ++ a → p ≡ o ++ b → OnOk r (q ≡ p ++ c) → OnOk r (q ≡ x ++ (a ++ b ++ c))
-three_wrote (Ok u) x o p q a b c f g h = h ∙ ap (λ (y : List ℕ). y ++ c) (g ∙ ap (λ (y : List ℕ). y ++ b) f) ∙ simp append_assoc
-three_wrote (Err e) x o p q a b c f g h = tt
+pub three_wrote : (x o p q a b c : List ℕ) → o ≡ x ++ a → p ≡ o ++ b → q ≡ p ++ c → q ≡ x ++ (a ++ b ++ c)
+three_wrote x o p q a b c f g h = h ∙ ap (λ (y : List ℕ). y ++ c) (g ∙ ap (λ (y : List ℕ). y ++ b) f) ∙ simp append_assoc
 
 pub with_bytes : (o : List ℕ) {a b : List ℕ} → a ≡ b → o ++ a ≡ o ++ b
 with_bytes o e = ap (λ (y : List ℕ). o ++ y) e

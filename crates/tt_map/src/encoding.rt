@@ -33,7 +33,8 @@ fn put_sums(out: &mut Vec<u8>, number: u8, company: &Company) -> Result<(), OutO
 {
     Put::raw(out, &[number])?;
     Put::raw(out, &company.money.to_be_bytes())?;
-    Put::raw(out, &company.loan.to_be_bytes())
+    Put::raw(out, &company.loan.to_be_bytes())?;
+    Ok(())
 }
 
 /// A company behind its number.

@@ -17,3 +17,6 @@ pub use decoding::decode_map;
 pub use encoding::encode_map;
 pub use laws::{one_fault, one_map};
 pub use reader::MapReader;
+
+#[cfg(test)]
+mod tests;
