@@ -1,5 +1,5 @@
 -- What a body tells is by the rules, and is what it was spelled from; and what is spelled is read again.
-use Rattle.std.proofs.Common.{◌≡◌, ℕ, zero, suc, ◌+◌, ◌*◌, ◌^◌, ◌<◌, ◌≤◌, Bool, true, false, eqb, List, [], ◌∷◌, ◌++◌, length, replicate, refl, sym, ap, subst, ◌∙◌, append_assoc, arith}
+use Rattle.std.proofs.Common.{◌≡◌, ℕ, zero, suc, ◌+◌, ◌*◌, ◌^◌, ◌<◌, ◌≤◌, Bool, true, false, List, [], ◌∷◌, ◌++◌, length, replicate, refl, sym, ap, subst, ◌∙◌, arith}
 use Rattle.std.specs.Prelude.{Option, Some, None, ◌&&◌, ◌==◌, nat_le, nat_lt, All}
 use Rattle.std.specs.List.{flat_map}
 use Rattle.std.specs.Int.{w16, w32}
@@ -16,9 +16,9 @@ use Rattle.tt_world.specs.declared.company.Company.{Company}
 use Rattle.tt_world.specs.declared.sign.Sign.{Sign}
 use Rattle.tt_map.specs.Layout.{u16, u32, i64, flag, words, live_from, company_bytes, sign_bytes, Chunk, GAME, RAND, CMPY, SIGN, ENDC, Part, body_of}
 use Rattle.tt_map.specs.Maps.{last_day}
-use Rattle.tt_map.specs.Faults.{AreCompanies, AreSigns, IsRight}
-use Rattle.tt_map.specs.Reading.{◌>>=◌, passed, byte_here, number_here, places_here, signs_here, is_empty, game_in, words_in, companies_in, signs_in, nothing_in, part_in, most_of}
-use Rattle.tt_map.proofs.ValueLaws.{Begins, Begins-then, bind_some, passed_some, some_is, byte_begins, byte_again, number_begins, number_again, wide16, wide32}
+use Rattle.tt_map.specs.Faults.{IsRight}
+use Rattle.tt_map.specs.Reading.{byte_here, number_here, places_here, signs_here, is_empty, game_in, words_in, companies_in, signs_in, nothing_in, part_in, most_of}
+use Rattle.tt_map.proofs.ValueLaws.{Begins, Begins-then, bind_some, passed_some, byte_begins, byte_again, number_begins, number_again, wide16, wide32}
 use Rattle.tt_map.proofs.PlaceLaws.{nobody, FreshBehind, places_begin, places_again}
 use Rattle.tt_map.proofs.FreshLaws.{AreCompanies-from_fresh, fresh_from_AreCompanies}
 use Rattle.tt_map.proofs.SignLaws.{signs_begin, signs_again}

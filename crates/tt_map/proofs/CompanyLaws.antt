@@ -1,8 +1,8 @@
 -- A company that is read is the company that was spelled, and what is spelled is read again, whatever follows.
-use Rattle.std.proofs.Common.{◌≡◌, ℕ, suc, ◌+◌, ◌%◌, ◌^◌, ◌<◌, ◌≤◌, Bool, true, false, List, [], ◌∷◌, ◌++◌, length, refl, sym, ap, subst, ◌∙◌, append_assoc, arith}
-use Rattle.std.specs.Prelude.{Option, Some, None, ◌&&◌, ◌==◌, not, nat_le, nat_lt, ℤ, pos, negsuc, neg_ℤ, ◌≤ℤ◌, int_lt, unsigned_abs, FitsSigned}
+use Rattle.std.proofs.Common.{◌≡◌, ℕ, ◌%◌, ◌^◌, ◌<◌, ◌≤◌, Bool, true, false, List, ◌++◌, refl, sym, ap, subst, ◌∙◌, append_assoc, arith}
+use Rattle.std.specs.Prelude.{Option, Some, ◌&&◌, ◌==◌, not, nat_le, ℤ, pos, negsuc, neg_ℤ, ◌≤ℤ◌, int_lt, unsigned_abs}
 use Rattle.std.specs.List.{list_any}
-use Rattle.std.specs.Int.{w16, w32, w64}
+use Rattle.std.specs.Int.{w32, w64}
 use Rattle.std.proofs.lemmas.Bool.Decides.{nat_tests}
 use Rattle.std.proofs.lemmas.Int.{fits_signed_from_abs, ints}
 use Rattle.tt_frame.specs.Packet.{IsBytes}
@@ -12,7 +12,7 @@ use Rattle.tt_world.specs.Commands.{has_name}
 use Rattle.tt_world.specs.declared.company.Company.{Company}
 use Rattle.tt_map.specs.Layout.{u32, i64, words}
 use Rattle.tt_map.specs.Reading.{◌>>=◌, passed, number_here, signed_here, name_here, is_money, is_loan, company_here}
-use Rattle.tt_map.proofs.ValueLaws.{Begins, Begins-then, bind_some, passed_some, some_is, signed_begins, signed_again, number_begins, number_again, wide32, name_begins, name_again}
+use Rattle.tt_map.proofs.ValueLaws.{Begins, Begins-then, bind_some, passed_some, signed_begins, signed_again, number_begins, number_again, wide32, name_begins, name_again}
 
 -- a company behind its number
 abbrev pub rest_of : Company → List ℕ

@@ -1,11 +1,10 @@
 -- The loops that read lists: what one more step leaves to be read.
-use Rattle.std.proofs.Common.{◌≡◌, ℕ, suc, ◌+◌, ◌-◌, ◌<◌, ◌≤◌, ◌⊎◌, Bool, true, false, List, [], ◌∷◌, ◌++◌, length, refl, sym, ap, ◌∙◌, append_assoc, arith}
+use Rattle.std.proofs.Common.{◌≡◌, ℕ, suc, ◌+◌, ◌-◌, ◌<◌, ◌≤◌, true, List, [], ◌∷◌, ◌++◌, length, refl, sym, ap, ◌∙◌, append_assoc, arith}
 use Rattle.std.specs.Prelude.{Option, Some, None, ◌&&◌, nat_le, nat_lt, slice_set}
 use Rattle.std.proofs.lemmas.Bool.Decides.{nat_tests}
-use Rattle.std.proofs.lemmas.List.{append-nil}
 use Rattle.tt_world.specs.declared.company.Company.{Company}
 use Rattle.tt_world.specs.declared.sign.Sign.{Sign}
-use Rattle.tt_map.specs.Reading.{◌>>=◌, passed, byte_here, company_here, places_here, sign_here, signs_here}
+use Rattle.tt_map.specs.Reading.{◌>>=◌, byte_here, company_here, places_here, sign_here, signs_here}
 
 is_within : (least n most : ℕ) → least ≤ n → n < most → nat_le least n && nat_lt n most ≡ true
 is_within least n most low high = grind (arith, nat_tests)

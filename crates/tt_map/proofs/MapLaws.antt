@@ -1,21 +1,20 @@
 -- Reading a map is exact: it gives the world whose map the bytes are, and else the one fault that they have.
-use Rattle.std.proofs.Common.{◌≡◌, ◌≢◌, ℕ, suc, ◌+◌, ◌^◌, ◌<◌, ◌≤◌, ◌↔◌, ◌⊎◌, Bool, true, false, List, [], ◌∷◌, ◌++◌, length, take, drop, refl, sym, ap, subst, ◌∙◌, append_assoc, arith, inl, inr, cond, ltb, eqb, eq-eqb, length-drop}
-use Rattle.std.specs.Prelude.{Option, Some, None, Result, Ok, Err, nat_lt, bytes_eq, not, ◌==◌}
-use Rattle.std.specs.Int.{w32, from_be_bytes}
-use Rattle.std.proofs.lemmas.Bool.{cases_lt, ltb-false, le-ltb, eqb-true, false≢true}
+use Rattle.std.proofs.Common.{◌≡◌, ◌≢◌, ℕ, ◌+◌, ◌<◌, ◌≤◌, ◌↔◌, ◌⊎◌, Bool, true, false, List, [], ◌++◌, length, take, drop, refl, sym, ap, subst, ◌∙◌, append_assoc, arith, inl, inr, eq-eqb, length-drop}
+use Rattle.std.specs.Prelude.{Option, Some, Result, Ok, Err, nat_lt, bytes_eq, ◌==◌}
+use Rattle.std.proofs.lemmas.Bool.{cases_lt, eqb-true, false≢true}
 use Rattle.std.proofs.lemmas.Bool.Decides.{nat_tests}
 use Rattle.std.proofs.lemmas.List.{append-nil, length-append, length-take, take-append-drop, drop-drop}
 use Rattle.std.proofs.lemmas.Slice.Eq.{bytes_eq-Decides}
 use Rattle.tt_frame.specs.Packet.{IsBytes}
-use Rattle.tt_frame.specs.Unread.{Unread, GoesOver}
+use Rattle.tt_frame.specs.Unread.{Unread}
 use Rattle.tt_frame.proofs.FieldLaws.{IsBytes-drop}
 use Rattle.tt_world.specs.World.{WorldState, world_of_parts}
 use Rattle.tt_world.specs.Sound.{IsSound}
 use Rattle.tt_world.specs.declared.company.Company.{Company}
 use Rattle.tt_world.specs.declared.sign.Sign.{Sign}
-use Rattle.tt_map.specs.Layout.{u32, Chunk, GAME, RAND, CMPY, SIGN, ENDC, Part, part_of, chunk, head, map_tag, map_version, map_of}
-use Rattle.tt_map.specs.Maps.{last_day, IsTold, IsMap}
-use Rattle.tt_map.specs.Faults.{IsWrongTag, IsWrongVersion, IsRight, Stands, with_part, ChunksStop, chunks, untold, IsShort, IsStopped, IsFault}
+use Rattle.tt_map.specs.Layout.{u32, Chunk, GAME, RAND, CMPY, SIGN, ENDC, part_of, chunk, head, map_tag, map_version, map_of}
+use Rattle.tt_map.specs.Maps.{IsTold, IsMap}
+use Rattle.tt_map.specs.Faults.{IsWrongTag, IsWrongVersion, IsRight, Stands, with_part, chunks, untold, IsFault}
 use Rattle.tt_map.specs.Reading.{part_here, world_here, placed, version_of, map_in}
 use Rattle.tt_map.specs.declared.bad.MapBad.{MapBad}
 use Rattle.tt_map.specs.declared.bad.MapBad.TheVariants as bad

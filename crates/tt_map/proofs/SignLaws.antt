@@ -1,5 +1,5 @@
 -- The signs that are read are those that were spelled, and what is spelled is read again.
-use Rattle.std.proofs.Common.{◌≡◌, ℕ, zero, suc, ◌+◌, ◌^◌, ◌<◌, ◌≤◌, Bool, true, false, List, [], ◌∷◌, ◌++◌, length, get_or, refl, sym, ap, subst, ◌∙◌, append_assoc, arith}
+use Rattle.std.proofs.Common.{◌≡◌, ℕ, zero, suc, ◌+◌, ◌^◌, ◌<◌, ◌≤◌, true, List, [], ◌∷◌, ◌++◌, length, refl, ap, subst, ◌∙◌, append_assoc, arith}
 use Rattle.std.specs.Prelude.{Option, Some, None, IsSome, is_none, ◌&&◌, not, nat_le, nat_lt, All}
 use Rattle.std.specs.List.{flat_map}
 use Rattle.std.specs.Int.{w16, w32}
@@ -13,7 +13,7 @@ use Rattle.tt_world.specs.Sound.{IsSign, RiseFrom}
 use Rattle.tt_world.specs.declared.company.Company.{Company}
 use Rattle.tt_world.specs.declared.sign.Sign.{Sign}
 use Rattle.tt_map.specs.Layout.{u16, u32, words, sign_bytes}
-use Rattle.tt_map.specs.Reading.{◌>>=◌, passed, byte_here, number_here, name_here, is_live, sign_here, signs_here}
+use Rattle.tt_map.specs.Reading.{byte_here, number_here, name_here, is_live, sign_here, signs_here}
 use Rattle.tt_map.proofs.ValueLaws.{Begins, Begins-then, bind_some, passed_some, some_is, byte_begins, byte_again, number_begins, number_again, wide16, wide32, name_begins, name_again}
 
 lt_of_test : (a b : ℕ) → nat_lt a b ≡ true → a < b

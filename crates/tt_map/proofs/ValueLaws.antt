@@ -1,9 +1,9 @@
 -- A value that is read is the value that was spelled, and what is spelled is read again, whatever follows.
-use Rattle.std.proofs.Common.{◌≡◌, ℕ, suc, ◌+◌, ◌^◌, ◌<◌, ◌≤◌, Bool, true, false, cond, ltb, eqb, List, [], ◌∷◌, ◌++◌, length, take, drop, refl, sym, ap, subst, ◌∙◌, append_assoc, arith, inl, inr}
-use Rattle.std.specs.Prelude.{Option, Some, None, ◌&&◌, not, nat_le, ℤ, pos, neg_ℤ, ◌≤ℤ◌, int_lt, FitsSigned}
+use Rattle.std.proofs.Common.{◌≡◌, ℕ, suc, ◌^◌, ◌<◌, ◌≤◌, Bool, true, false, cond, ltb, List, [], ◌∷◌, ◌++◌, length, take, drop, refl, sym, ap, subst, ◌∙◌, append_assoc, arith, inl, inr}
+use Rattle.std.specs.Prelude.{Option, Some, None, nat_le, ℤ, FitsSigned}
 use Rattle.std.specs.Int.{Width, w16, w32, w64, byte_len, from_be_bytes, to_be_bytes, cast_signed, cast_unsigned}
 use Rattle.std.proofs.lemmas.Bool.{cases_lt, ltb-false, le-ltb}
-use Rattle.std.proofs.lemmas.List.{take_at, drop_at, take-append-drop, length-append, length-take, get_or-drop, get_or-take, get_or_past}
+use Rattle.std.proofs.lemmas.List.{take_at, drop_at, take-append-drop, length-append, length-take, get_or-take, get_or_past}
 use Rattle.std.proofs.lemmas.Nat.{be_bytes_2, be_bytes_4, be_bytes_8, from_be_bytes-to_be_bytes_2, from_be_bytes-to_be_bytes_4, from_be_bytes-to_be_bytes_8}
 use Rattle.std.proofs.lemmas.Int.{of_z-to_z}
 use mir.Facts.{to_z-of_z, Fits-of_z}
@@ -12,7 +12,7 @@ use Rattle.tt_frame.specs.Text.{is_text}
 use Rattle.tt_frame.proofs.FieldLaws.{IsBytes-drop}
 use Rattle.tt_frame.proofs.TextLaws.{and_both, le_of_test, IsText-from_is_text, length_of_text, is_text-from_IsText}
 use Rattle.tt_world.specs.Sound.{IsName}
-use Rattle.tt_map.specs.Layout.{u16, u32, i64, words}
+use Rattle.tt_map.specs.Layout.{i64, words}
 use Rattle.tt_map.specs.Reading.{◌>>=◌, passed, bytes_here, byte_here, number_here, signed_here, is_name, name_here}
 
 -- ---- steps of reading

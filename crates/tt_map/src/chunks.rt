@@ -22,15 +22,11 @@ pub(crate) fn body<'a>(f: &mut Fields<'a>, tag: &[u8; 4], most: u32) -> Option<&
     ensures read { TakenTo (λ body. body.now) result f.new (body_here tag.now most f.old) }
     ensures place { IfSome result (λ _. f.new.at ≤ f.old.at + 8 + most) }
 {
-    let Some(found) = bytes(f, 4) else {
-        return None;
-    };
+    let found = bytes(f, 4)?;
     if found != tag.as_slice() {
         return None;
     }
-    let Some(length) = number32(f) else {
-        return None;
-    };
+    let length = number32(f)?;
     if length > most {
         return None;
     }
@@ -43,15 +39,9 @@ pub(crate) fn game_in(body: &[u8]) -> Option<(u32, u8, bool)>
     ensures { result ≡ game_in body.now }
 {
     let mut f = Fields::new(body);
-    let Some(day) = number32(&mut f) else {
-        return None;
-    };
-    let Some(part) = number8(&mut f) else {
-        return None;
-    };
-    let Some(paused) = number8(&mut f) else {
-        return None;
-    };
+    let day = number32(&mut f)?;
+    let part = number8(&mut f)?;
+    let paused = number8(&mut f)?;
     if day <= LAST_DAY && part < PARTS_OF_DAY && paused <= 1 && f.done() {
         return Some((day, part, paused == 1));
     }
@@ -64,12 +54,8 @@ pub(crate) fn words_in(body: &[u8]) -> Option<Random>
     ensures { result ≡ words_in body.now }
 {
     let mut f = Fields::new(body);
-    let Some(first) = number32(&mut f) else {
-        return None;
-    };
-    let Some(second) = number32(&mut f) else {
-        return None;
-    };
+    let first = number32(&mut f)?;
+    let second = number32(&mut f)?;
     if f.done() {
         return Some(Random::of(first, second));
     }
@@ -82,9 +68,7 @@ pub(crate) fn game(f: &mut Fields) -> Option<(u32, u8, bool)>
     ensures read { (w : WorldState) → TakenTo (λ told. told) result f.new (part_here GAME w f.old) }
     ensures place { IfSome result (λ _. f.new.at ≤ f.old.at + 14) }
 {
-    let Some(body) = body(f, b"GAME", 6) else {
-        return None;
-    };
+    let body = body(f, b"GAME", 6)?;
     game_in(body)
 }
 
@@ -94,9 +78,7 @@ pub(crate) fn words(f: &mut Fields) -> Option<Random>
     ensures read { (w : WorldState) → TakenTo (λ told. told) result f.new (part_here RAND w f.old) }
     ensures place { IfSome result (λ _. f.new.at ≤ f.old.at + 16) }
 {
-    let Some(body) = body(f, b"RAND", 8) else {
-        return None;
-    };
+    let body = body(f, b"RAND", 8)?;
     words_in(body)
 }
 
@@ -106,9 +88,7 @@ pub(crate) fn companies(f: &mut Fields) -> Option<[Option<Company>; 15]>
     ensures read { (w : WorldState) → TakenTo (λ told. told) result f.new (part_here CMPY w f.old) }
     ensures place { IfSome result (λ _. f.new.at ≤ f.old.at + 1164) }
 {
-    let Some(body) = body(f, b"CMPY", 1_156) else {
-        return None;
-    };
+    let body = body(f, b"CMPY", 1_156)?;
     companies_in(body)
 }
 
@@ -125,9 +105,7 @@ pub(crate) fn signs(
     ensures room { IfSome result (λ signs. 1000 ≤ vec_capacity signs) }
     ensures place { IfSome result (λ _. f.new.at ≤ f.old.at + 39010) }
 {
-    let Some(body) = body(f, b"SIGN", 39_002) else {
-        return None;
-    };
+    let body = body(f, b"SIGN", 39_002)?;
     signs_in(body, companies, empty)
 }
 
@@ -137,8 +115,6 @@ pub(crate) fn end(f: &mut Fields) -> Option<()>
     ensures read { (w : WorldState) → TakenTo (λ _. tt) result f.new (part_here ENDC w f.old) }
     ensures place { IfSome result (λ _. f.new.at ≤ f.old.at + 8) }
 {
-    let Some(body) = body(f, b"ENDC", 0) else {
-        return None;
-    };
+    let body = body(f, b"ENDC", 0)?;
     if body.is_empty() { Some(()) } else { None }
 }

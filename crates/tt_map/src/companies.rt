@@ -53,18 +53,10 @@ fn is_taken(name: &Name, companies: &[Option<Company>]) -> bool
 fn company(f: &mut Fields, others: &[Option<Company>]) -> Option<Company>
     ensures { Taken (λ company. company) result f.new.rest (company_here others.now f.old.rest) }
 {
-    let Some(money) = signed64(f) else {
-        return None;
-    };
-    let Some(loan) = number32(f) else {
-        return None;
-    };
-    let Some(own) = name(f) else {
-        return None;
-    };
-    let Some(president) = name(f) else {
-        return None;
-    };
+    let money = signed64(f)?;
+    let loan = number32(f)?;
+    let own = name(f)?;
+    let president = name(f)?;
     if is_money(money) && is_loan(loan) && !is_taken(&own, others) {
         return Some(Company {
             money,
@@ -115,11 +107,7 @@ pub(crate) fn companies_in(body: &[u8]) -> Option<[Option<Company>; 15]>
     ensures { result ≡ companies_in body.now }
 {
     let mut f = Fields::new(body);
-    let Some(count) = number8(&mut f) else {
-        return None;
-    };
-    let Some(places) = places(&mut f, count) else {
-        return None;
-    };
+    let count = number8(&mut f)?;
+    let places = places(&mut f, count)?;
     if f.done() { Some(places) } else { None }
 }

@@ -26,18 +26,10 @@ fn sign(f: &mut Fields, least: usize, companies: &[Option<Company>]) -> Option<S
     ensures read { Taken (λ sign. sign) result f.new.rest (sign_here companies.now least f.old.rest) }
     ensures id { IfSome result (λ sign. (least ≤ sign.id) × (sign.id < 1000)) }
 {
-    let Some(id) = number16(f) else {
-        return None;
-    };
-    let Some(owner) = number8(f) else {
-        return None;
-    };
-    let Some(tile) = number32(f) else {
-        return None;
-    };
-    let Some(text) = name(f) else {
-        return None;
-    };
+    let id = number16(f)?;
+    let owner = number8(f)?;
+    let tile = number32(f)?;
+    let text = name(f)?;
     let place = usize::from(id);
     if place >= least && place < SIGNS && is_live(owner, companies) && tile < TILES {
         return Some(Sign {
@@ -87,11 +79,7 @@ pub(crate) fn signs_in(
     ensures room { IfSome result (λ signs. 1000 ≤ vec_capacity signs) }
 {
     let mut f = Fields::new(body);
-    let Some(count) = number16(&mut f) else {
-        return None;
-    };
-    let Some(signs) = signs(&mut f, count, companies, empty) else {
-        return None;
-    };
+    let count = number16(&mut f)?;
+    let signs = signs(&mut f, count, companies, empty)?;
     if f.done() { Some(signs) } else { None }
 }

@@ -1,6 +1,5 @@
-use Rattle.std.proofs.Common.{arith, List, ℕ, ◌∙◌, sym, ap, length-set}
-use Rattle.std.specs.Prelude.{Option, Some}
-use Rattle.tt_world.specs.declared.company.Company.{Company}
+use Rattle.std.proofs.Common.{arith, ℕ, ◌∙◌, sym, ap, length-set}
+use Rattle.std.specs.Prelude.{Some}
 use Rattle.tt_map.proofs.Loops.{places_go_on}
 use Rattle.tt_map.proofs.companies.places.Goals as goal
 

@@ -1,5 +1,4 @@
-use Rattle.std.proofs.Common.{◌∙◌, List, ℕ, ap, length, refl, arith}
-use Rattle.std.specs.Prelude.{[]}
+use Rattle.std.proofs.Common.{◌∙◌, ap, length, arith}
 use Rattle.tt_map.proofs.WritingLaws.{companies_fit, signs_fit, map_wrote, with_bytes}
 use Rattle.tt_map.proofs.encoding.put_chunks.Goals as goal
 
