@@ -1,0 +1,5 @@
+pub mod Layout
+pub mod Maps
+pub mod Faults
+pub mod Reading
+pub mod Coming
