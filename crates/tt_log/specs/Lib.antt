@@ -1,0 +1,9 @@
+pub mod Texts
+pub mod Forms
+pub mod Settings
+pub mod Orders
+pub mod Lines
+pub mod Steps
+pub mod Rows
+pub mod Reading
+pub mod Numbers

@@ -1,0 +1,31 @@
+//! What a `set` line says.
+use tt_frame::Line;
+
+/// One setting of the game, as a `set` line says it. The variants are in the order in which such lines may stand.
+#[derive(Debug, Drop)]
+pub enum Setting {
+    /// `set seed N`: both random words at the start.
+    Seed(u32),
+    /// `set frame_freq N`: by how many frames the greatest permitted frame runs ahead, 0 to 64.
+    FrameFreq(u8),
+    /// `set sync_freq N`: each so many frames the random word is told, 1 to 1,000.
+    SyncFreq(u16),
+    /// `set clients N`: how many clients may be there at once, 1 to 255.
+    Clients(u8),
+    /// `set init N`: the ticks until a client has to ask to join, at least 1.
+    Init(u16),
+    /// `set password N`: the ticks for a password, at least 1.
+    PassLimit(u16),
+    /// `set download N`: the ticks for the map, at least 1.
+    Download(u16),
+    /// `set join N`: the ticks from the map to the server's frame, at least 1.
+    Join(u16),
+    /// `set lag N`: how far a client that plays may fall behind, at least 1.
+    Lag(u16),
+    /// `set cost N`: what the record of events may cost, 64 to 1,073,741,824.
+    Cost(u32),
+    /// `set pw TEXT`: what a client has to know, at most 32 bytes.
+    Pw(Line),
+    /// `set admin TEXT`: what an admin has to know, at most 32 bytes.
+    Admin(Line),
+}
