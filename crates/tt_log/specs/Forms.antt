@@ -1,5 +1,5 @@
 -- The forms of a word of a line: what its value is, which values it has, and how they are spelled.
-use Rattle.std.specs.Prelude.{◌≡◌, ◌≢◌, ℕ, ◌≤◌, ◌<◌, true, List, [], ◌∷◌, ◌++◌, codes, length, slice_index, EachIndex}
+use Rattle.std.specs.Prelude.{◌≡◌, ◌≢◌, ℕ, ◌^◌, ◌≤◌, ◌<◌, true, List, [], ◌∷◌, ◌++◌, codes, length, slice_index, EachIndex}
 use Rattle.std.specs.Fmt.{decimal}
 use Rattle.hex.specs.Hex.{encode_lower}
 use Rattle.tt_frame.specs.Packet.{IsBytes}
@@ -52,7 +52,7 @@ HasNoBlank word = EachIndex word (λ i. slice_index word i ≢ 32)
 
 -- the values that a word has
 abbrev pub Fits : (f : Form) → Value f → Type 0
-Fits (number least most) n = (least ≤ n) × (n ≤ most)
+Fits (number least most) n = (least ≤ n) × (n ≤ most) × (n < 2 ^ 32)
 Fits (text least most) bytes = IsTextFrom least most bytes
 Fits hex bytes = IsPiece bytes
 Fits key word = HasNoBlank word

@@ -3,4 +3,4 @@
 
 pub mod script;
 
-pub use script::{Bytes, Line1, ScriptBad, Setting, Step};
+pub use script::{Bytes, Line1, ScriptBad, Setting, Step, one_line};

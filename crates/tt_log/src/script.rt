@@ -2,6 +2,7 @@
 mod bad;
 mod bytes;
 mod digits;
+mod laws;
 mod line;
 mod line_reading;
 mod numbers;
@@ -14,6 +15,7 @@ mod words;
 
 pub use bad::ScriptBad;
 pub use bytes::Bytes;
+pub use laws::one_line;
 pub use line::Line1;
 pub use setting::Setting;
 pub use step::Step;
