@@ -51,3 +51,10 @@ pub cut_at : (byte : ℕ) (text : List ℕ) (i : ℕ) → i < length text → ge
 cut_at byte text i within is =
     let rest : drop i text ≡ byte ∷ drop (i + 1) text = drop_more text i 0 within ∙ ap (λ (b : ℕ). b ∷ drop (i + 1) text) is in
     rw take_rest (sym (take-append-drop i text) ∙ ap (λ (t : List ℕ). take i text ++ t) rest)
+
+-- what stands before a place has none, where none stands before it
+pub has_no-take : (byte : ℕ) (text : List ℕ) (i : ℕ) → ((k : ℕ) → k < i → get_or text k 0 ≡ byte → ⊥) → HasNo byte (take i text)
+has_no-take byte [] zero none = λ k lt. absurd (omega (arith, lt))
+has_no-take byte [] (suc i) none = λ k lt. absurd (omega (arith, lt))
+has_no-take byte (b ∷ text) zero none = λ k lt. absurd (omega (arith, lt))
+has_no-take byte (b ∷ text) (suc i) none = has_no-cons byte b (take i text) (none 0 (omega arith)) (has_no-take byte text i (λ k less. none (suc k) (omega arith)))

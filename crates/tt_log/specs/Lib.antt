@@ -7,3 +7,7 @@ pub mod Steps
 pub mod Rows
 pub mod Reading
 pub mod Numbers
+pub mod Contents
+pub mod Script
+pub mod Standing
+pub mod Reader

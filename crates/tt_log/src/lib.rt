@@ -3,4 +3,6 @@
 
 pub mod script;
 
-pub use script::{Bytes, Line1, ScriptBad, Setting, Step, one_line};
+pub use script::{
+    Bytes, Line1, Script, ScriptBad, ScriptReader, Setting, Step, one_line, parse_script,
+};

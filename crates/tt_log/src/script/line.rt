@@ -36,3 +36,21 @@ pub enum Line1 {
     /// `= LINE`: a line that the report is to have.
     Expect(Bytes),
 }
+
+impl Line1 {
+    ghost use Rattle.std.specs.Prelude.{◌≡◌, ◌≤◌};
+    ghost use Rattle.tt_log.specs.Lines.{openings_of};
+
+    /// How many connections it opens.
+    pub fn openings(&self) -> u32
+        ensures openings { result ≡ openings_of self.now }
+        ensures few { result ≤ 1 }
+    {
+        match self {
+            Line1::Open | Line1::Side | Line1::Join(_, _, _, _) => 1,
+            Line1::Bytes(_, _) | Line1::Shut(_) | Line1::Tick(_) | Line1::Stop => 0,
+            Line1::Up(_, _) | Line1::Down(_, _) | Line1::Run(_, _) | Line1::Pump(_) => 0,
+            Line1::Do(_, _) | Line1::Forge(_, _) | Line1::Expect(_) => 0,
+        }
+    }
+}

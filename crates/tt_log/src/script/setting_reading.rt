@@ -58,7 +58,7 @@ pub fn setting_of(alloc: Global, word: &[u8], words: &mut Words) -> Result<Step,
         return words.ended(Step::Set(setting));
     }
     if word == b"cost".as_slice() {
-        let setting = Setting::Cost(number(words, 64, 1_073_741_824)?);
+        let setting = Setting::Cost(number(words, 64, 1_073_741_824)? as u64);
         return words.ended(Step::Set(setting));
     }
     if word == b"pw".as_slice() {
