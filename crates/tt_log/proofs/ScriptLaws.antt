@@ -1,8 +1,9 @@
 -- Scripts, step by step: what goes on, what doesn't, and that the bytes spell one script alone.
-use Rattle.std.proofs.Common.{◌≡◌, ◌≢◌, ℕ, zero, suc, ◌+◌, ◌-◌, ◌<◌, ◌≤◌, List, [], ◌∷◌, ◌++◌, length, take, map, Option, Some, None, refl, sym, ap, subst, ◌∙◌, append_assoc, arith}
-use Rattle.std.specs.Prelude.{sum_by, ◌↔◌, fold}
+use Rattle.std.proofs.Common.{◌≡◌, ◌≢◌, ◌⊎◌, inl, inr, Result, Ok, Err, ℕ, zero, suc, ◌+◌, ◌-◌, ◌<◌, ◌≤◌, List, [], ◌∷◌, ◌++◌, length, take, map, Option, Some, None, refl, sym, ap, subst, ◌∙◌, append_assoc, arith}
+use Rattle.std.specs.Prelude.{sum_by, ◌↔◌, fold, IfOk}
 use Rattle.std.specs.List.{AllByRecursion, flat_map}
 use Rattle.std.proofs.lemmas.List.{map-append, length-map, length-append}
+use Rattle.std.proofs.lemmas.Bool.{cases_lt}
 use Rattle.std.proofs.lemmas.List.Sums.{sum_by-append, sum_by-cons}
 use Rattle.std.proofs.Math.Seq.{take-append_seam, take-append-add}
 use Rattle.tt_log.specs.Texts.{HasNoBreak, lines_of, first_lines, IsFirstBad}
@@ -13,6 +14,8 @@ use Rattle.tt_log.specs.Script.{InOrder, IsSteps, contents_of, Spells, IsScriptT
 use Rattle.tt_log.specs.Standing.{Standing}
 use Rattle.tt_log.specs.Reader.{IsAt, MayFollow}
 use Rattle.tt_log.specs.Reading.{step_at}
+use Rattle.tt_log.specs.declared.script.bad.ScriptBad.{ScriptBad}
+use Rattle.tt_log.specs.declared.script.bad.ScriptBad.TheVariants.{Line as BadLine, Memory}
 use Rattle.tt_log.specs.declared.script.line.Line1.{Line1}
 use Rattle.tt_log.specs.declared.script.setting.Setting.{Setting}
 use Rattle.tt_log.specs.declared.script.step.Step.{Step}
@@ -236,3 +239,45 @@ first_bad r bytes line rest steps l at cut misfits is =
       before = (contents_of steps, record { steps = steps; is = at.is; text = fewer; makes = refl });
       through = λ spelled. never_through r bytes line (first_lines l bytes) steps spelled.0 at misfits through spelled.1;
     }
+
+-- ---- the answers of a parser
+
+take_fewer : {A : Type 0} (n m : ℕ) (xs : List A) → n ≤ m → take n (take m xs) ≡ take n xs
+take_fewer zero m [] le = refl
+take_fewer zero m (x ∷ xs) le = refl
+take_fewer (suc n) zero xs le = absurd (omega (arith, le))
+take_fewer (suc n) (suc m) [] le = refl
+take_fewer (suc n) (suc m) (x ∷ xs) le = ap (λ t. x ∷ t) (take_fewer n m xs (omega (arith, le)))
+
+-- fewer lines of a script are one
+pub fewer_lines : (bytes : List ℕ) (n m : ℕ) → n ≤ m → IsScriptText (first_lines m bytes) → IsScriptText (first_lines n bytes)
+fewer_lines bytes n m le spelled =
+    let spells = spelled.1 in
+    let texts : lines_of (first_lines n bytes) ≡ map step_text (take n spells.steps) =
+    lines-first n bytes ∙ sym (take_fewer n m (lines_of bytes) le) ∙ ap (take n) (sym (lines-first m bytes)) ∙ ap (take n) spells.text ∙ map_take step_text n spells.steps in
+    (contents_of (take n spells.steps), record { steps = take n spells.steps; is = steps_take n spells.steps spells.is; text = texts; makes = refl })
+
+one_first : (bytes : List ℕ) (k l : ℕ) → IsFirstBad IsScriptText bytes k → IsFirstBad IsScriptText bytes l → k < l → ⊥
+one_first bytes k l first other lt = first.through (fewer_lines bytes k (l - 1) (omega (arith, lt)) other.before)
+
+-- there is one first bad line
+pub same_first : (bytes : List ℕ) (k l : ℕ) → IsFirstBad IsScriptText bytes k → IsFirstBad IsScriptText bytes l → k ≡ l
+same_first bytes k l first other = elim (cases_lt k l) [
+  | inl less ↦ absurd (one_first bytes k l first other less)
+  | inr most ↦ elim (cases_lt l k) [
+    | inl less ↦ absurd (one_first bytes l k other first less)
+    | inr least ↦ omega (arith, most, least)
+  ]
+]
+
+pub parsed_only : (r : Result Contents ScriptBad) (bytes : List ℕ) → IfOk r (λ script. Spells script bytes) → ((l : ℕ) → r ≡ Err (BadLine l) → IsFirstBad IsScriptText bytes l)
+    → (script : Contents) → Spells script bytes → (r ≡ Ok script) ⊎ (r ≡ Err Memory)
+parsed_only (Ok own) bytes found first script spelled = inl (ap Ok (one_of own script bytes found spelled))
+parsed_only (Err (BadLine l)) bytes found first script spelled = absurd ((first l refl).through (first_of_script script bytes l spelled))
+parsed_only (Err Memory) bytes found first script spelled = inr refl
+
+pub parsed_refused : (r : Result Contents ScriptBad) (bytes : List ℕ) → IfOk r (λ script. Spells script bytes) → ((l : ℕ) → r ≡ Err (BadLine l) → IsFirstBad IsScriptText bytes l)
+    → (l : ℕ) → IsFirstBad IsScriptText bytes l → (r ≡ Err (BadLine l)) ⊎ (r ≡ Err Memory)
+parsed_refused (Ok own) bytes found first l bad = absurd (bad.through (first_of_script own bytes l found))
+parsed_refused (Err (BadLine k)) bytes found first l bad = inl (ap (λ (n : ℕ). Err (BadLine n)) (same_first bytes k l (first k refl) bad))
+parsed_refused (Err Memory) bytes found first l bad = inr refl

@@ -11,3 +11,5 @@ pub mod Contents
 pub mod Script
 pub mod Standing
 pub mod Reader
+pub mod Printing
+pub mod Written

@@ -23,6 +23,7 @@ mod setting_reading;
 mod step;
 mod values;
 mod words;
+mod writing;
 
 pub use bad::ScriptBad;
 pub use bytes::Bytes;
