@@ -4,5 +4,5 @@
 pub mod script;
 
 pub use script::{
-    Bytes, Line1, Script, ScriptBad, ScriptReader, Setting, Step, one_line, parse_script,
+    Bytes, Line1, Script, ScriptBad, ScriptReader, Setting, Step, one_line, parse_script, print_script,
 };

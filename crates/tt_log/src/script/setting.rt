@@ -33,7 +33,7 @@ pub enum Setting {
 
 impl Setting {
     ghost use Rattle.std.specs.Prelude.{◌≡◌, ◌≤◌};
-    ghost use Rattle.tt_log.specs.Settings.{with_setting, place_of};
+    ghost use Rattle.tt_log.specs.Settings.{with_setting, place_of, is_plain};
 
     /// Puts what it says into a setup.
     pub fn apply(self, setup: &mut Setup)
@@ -73,6 +73,26 @@ impl Setting {
             Setting::Cost(_) => 9,
             Setting::Pw(_) => 10,
             Setting::Admin(_) => 11,
+        }
+    }
+
+    /// Whether it says what stands in the plain setup.
+    pub fn is_plain(&self) -> bool
+        ensures plain { result ≡ is_plain self.now }
+    {
+        match self {
+            Setting::Seed(n) => *n == 0,
+            Setting::FrameFreq(n) => *n == 0,
+            Setting::SyncFreq(n) => *n == 100,
+            Setting::Clients(n) => *n == 25,
+            Setting::Init(n) => *n == 100,
+            Setting::PassLimit(n) => *n == 65_535,
+            Setting::Download(n) => *n == 1_000,
+            Setting::Join(n) => *n == 500,
+            Setting::Lag(n) => *n == 500,
+            Setting::Cost(n) => *n == 1 << 30,
+            Setting::Pw(password) => password.bytes().is_empty(),
+            Setting::Admin(password) => password.bytes().is_empty(),
         }
     }
 }

@@ -3,7 +3,7 @@ ghost use Rattle.std.specs.Prelude.{◌≡◌, ◌++◌, ◌∷◌, [], OnOk};
 ghost use Rattle.std.specs.Fmt.{decimal};
 ghost use Rattle.hex.specs.Hex.{encode_lower};
 ghost use Rattle.tt_log.specs.Forms.{text_spelled};
-ghost use Rattle.tt_log.specs.Written.{part_text, parts_text};
+ghost use Rattle.tt_log.specs.Written.{part_text, behind_blank, parts_text};
 
 use itoa::Buffer;
 use std::alloc::Global;
@@ -19,7 +19,7 @@ pub enum Part<'a> {
     /// Bytes in hexadecimal digits.
     Hex(&'a [u8]),
     /// Bytes as they are.
-    Rest(&'a [u8]),
+    Plain(&'a [u8]),
 }
 
 /// Appends a number in decimal.
@@ -59,11 +59,19 @@ fn put_part(alloc: Global, out: &mut Vec<u8>, part: &Part) -> Result<(), OutOfMe
         Part::Number(n) => put_number(out, *n),
         Part::Words(bytes) => put_text(alloc, out, bytes),
         Part::Hex(bytes) => put_hex(alloc, out, bytes),
-        Part::Rest(bytes) => {
+        Part::Plain(bytes) => {
             out.extend_from_slice(bytes)?;
             Ok(())
         }
     }
+}
+
+/// Appends a blank and a part.
+fn put_behind(alloc: Global, out: &mut Vec<u8>, part: &Part) -> Result<(), OutOfMemory>
+    ensures ok { OnOk result (out.new.items ≡ out.old.items ++ behind_blank part.now) }
+{
+    out.push(b' ')?;
+    put_part(alloc, out, part)
 }
 
 /// Appends parts, each behind a blank.
@@ -71,8 +79,9 @@ fn put_parts(alloc: Global, out: &mut Vec<u8>, parts: &[Part]) -> Result<(), Out
     ensures ok { OnOk result (out.new.items ≡ out.old.items ++ parts_text parts.now) }
 {
     for part in parts {
-        out.push(b' ')?;
-        put_part(alloc, out, part)?;
+        if let Err(e) = put_behind(alloc, out, part) {
+            return Err(e);
+        }
     }
     Ok(())
 }
