@@ -60,7 +60,7 @@ pub bind_some : {A B : Type 0} (o : Option A) (f : A → Option B) (y : B) → o
 bind_some None f y e = absurd cc
 bind_some (Some x) f y e = (x, refl, e)
 
-text_one : (byte : ℕ) (content : List ℕ) (least most : ℕ) → byte < 45 → IsTextFrom least most content → HasNo byte (text_spelled content)
+pub text_one : (byte : ℕ) (content : List ℕ) (least most : ℕ) → byte < 45 → IsTextFrom least most content → HasNo byte (text_spelled content)
 text_one byte [] least most low fits = has_no-cons byte 45 [] (λ is. omega (arith, is, low)) (λ i lt. absurd (omega (arith, lt)))
 text_one byte (b ∷ content) least most low fits = lower_one byte (b ∷ content) (omega (arith, low)) fits.bytes
 
