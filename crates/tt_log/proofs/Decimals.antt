@@ -1,11 +1,11 @@
 -- Numbers that are spelled in digits.
 use Rattle.std.proofs.Common.{◌≡◌, ◌≢◌, ℕ, zero, suc, ◌<◌, ◌^◌, List, get_or, Result, Ok, Err, refl, sym, ap, ◌∙◌, arith}
 use Rattle.std.specs.Fmt.{decimal}
-use Rattle.std.specs.Prelude.{IfSome, IfNone, ◌≤◌}
+use Rattle.std.specs.Prelude.{IfSome, IfNone}
 use Rattle.std.specs.Result.{result_ok}
 use Rattle.std.specs.Str.{IsUtf8}
 use Rattle.std.specs.Str.Parse.{AllDigits, ParsesUnsigned, digits_value}
-use Rattle.std.proofs.lemmas.Fmt.{decimal_digit, decimal_nonempty, first_decimal, decimal-digits_value, parse-decimal, IsAscii-decimal, decimal_injective}
+use Rattle.std.proofs.lemmas.Fmt.{decimal_digit, decimal_nonempty, first_decimal, decimal-digits_value, parse-decimal, IsAscii-decimal}
 use Rattle.std.proofs.lemmas.Str.{IsUtf8-from_ascii}
 use Rattle.std.proofs.lemmas.Str.Parse.{IsNumeralModel, numerals_by_value, tells_digits, parse_plain}
 use Rattle.tt_log.specs.Numbers.{StartsPlain}

@@ -1,15 +1,15 @@
 -- Reading is the inverse of spelling: for each form of a word, and then for each row of a table.
-use Rattle.std.proofs.Common.{◌≡◌, ◌≢◌, ℕ, zero, suc, ◌+◌, ◌^◌, ◌<◌, ◌≤◌, List, [], ◌∷◌, ◌++◌, length, Bool, true, false, ◌&&◌, cond, Option, Some, None, refl, sym, ap, subst, ◌∙◌, append_assoc, arith}
-use Rattle.std.specs.Prelude.{◌==◌, codes}
+use Rattle.std.proofs.Common.{◌≡◌, ℕ, ◌<◌, List, [], ◌∷◌, ◌++◌, Bool, true, false, cond, Option, Some, None, refl, sym, ap, subst, ◌∙◌, arith}
+use Rattle.std.specs.Prelude.{◌==◌}
 use Rattle.std.specs.Str.{bytes_eq}
 use Rattle.std.specs.Fmt.{decimal}
 use Rattle.std.proofs.lemmas.Bool.{ne_eqb, eq-eqb, eqb-true}
 use Rattle.std.proofs.lemmas.Slice.Eq.{bytes_eq-Decides}
 use Rattle.hex.specs.Hex.{encode_lower}
 use Rattle.tt_log.specs.Texts.{HasNoBreak}
-use Rattle.tt_log.specs.Forms.{Form, number, text, hex, key, Value, spelled, text_spelled, Fits, IsPiece, IsTextFrom, HasNoBlank}
+use Rattle.tt_log.specs.Forms.{Form, number, text, hex, key, Value, spelled, text_spelled, Fits, IsPiece, IsTextFrom}
 use Rattle.tt_log.specs.Rows.{◌>>=◌, front_word, behind_word, word_at, rest_at, number_in, within, hex_in, text_in, text_within, number_at, hex_at, text_at, value_at, Row, none, end, all, ◌▸◌, ended_at, row_at, Branch, pick}
-use Rattle.tt_log.proofs.Breaks.{HasNo, has_no-rest, has_no-cons, has_no-test, decimal_one}
+use Rattle.tt_log.proofs.Breaks.{HasNo, has_no-rest, has_no-cons, decimal_one}
 use Rattle.tt_log.proofs.Pieces.{lower_one}
 use Rattle.tt_log.proofs.ValueLaws.{if_some, number_found, number_back, within_found, within_back, hex_found, hex_back, text_found, text_back, text_within_found, text_within_back}
 

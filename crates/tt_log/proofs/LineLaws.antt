@@ -1,9 +1,9 @@
 -- Bytes as lines.
-use Rattle.std.proofs.Common.{◌≡◌, ◌≢◌, ℕ, zero, suc, ◌+◌, ◌-◌, ◌<◌, ◌≤◌, List, [], ◌∷◌, ◌++◌, length, get_or, take, Bool, true, false, cond, refl, sym, ap, ◌∙◌, arith}
+use Rattle.std.proofs.Common.{◌≡◌, ℕ, zero, suc, ◌<◌, List, [], ◌∷◌, ◌++◌, length, take, Bool, true, false, cond, refl, ap, ◌∙◌, arith}
 use Rattle.std.specs.Prelude.{◌==◌}
-use Rattle.std.proofs.lemmas.Bool.{ne_eqb, eq-eqb, eqb-true}
+use Rattle.std.proofs.lemmas.Bool.{ne_eqb}
 use Rattle.tt_log.specs.Texts.{HasNoBreak, with_byte, lines_of, first_lines}
-use Rattle.tt_log.proofs.Breaks.{HasNo, has_no-rest}
+use Rattle.tt_log.proofs.Breaks.{has_no-rest}
 
 -- a line feed within, and what stands on both sides
 pub lines-within : (text after : List ℕ) → HasNoBreak text → lines_of (text ++ 10 ∷ after) ≡ text ∷ lines_of after

@@ -1,18 +1,18 @@
 -- The text of a script spells it, and what the bytes spell can be printed.
-use Rattle.std.proofs.Common.{◌≡◌, ◌≢◌, ℕ, zero, suc, ◌+◌, ◌^◌, ◌<◌, ◌≤◌, List, [], ◌∷◌, ◌++◌, length, take, map, Bool, true, false, not, cond, refl, sym, ap, ap₂, subst, ◌∙◌, append_assoc, arith}
-use Rattle.std.specs.Prelude.{◌==◌, sum_by, fold, filter, codes}
+use Rattle.std.proofs.Common.{◌≡◌, Result, Ok, Err, ℕ, suc, ◌<◌, ◌≤◌, List, [], ◌∷◌, ◌++◌, length, take, map, Bool, true, false, not, cond, refl, sym, ap, ap₂, subst, ◌∙◌, append_assoc, arith}
+use Rattle.std.specs.Prelude.{◌==◌, sum_by, fold, filter, IfOk}
 use Rattle.std.specs.List.{AllByRecursion, flat_map, list_all}
-use Rattle.std.specs.Fmt.{decimal}
 use Rattle.std.proofs.lemmas.Bool.{eqb-true}
-use Rattle.std.proofs.lemmas.List.{append-nil}
+use Rattle.std.proofs.lemmas.Str.{IsUtf8-nil}
 use Rattle.std.proofs.lemmas.List.Sums.{sum_by-append, sum_by-cons, fold-append}
 use Rattle.std.proofs.lemmas.Grind.{flat_map-append}
-use Rattle.hex.specs.Hex.{encode_lower}
+use Rattle.tt_frame.proofs.TextLaws.{is_text-from_IsText}
 use Rattle.tt_log.specs.Texts.{HasNoBreak, lines_of}
-use Rattle.tt_log.specs.Forms.{Form, number, text, hex, key, Value, Word, named, word, rest, word_text, WordFits, behind_blanks, parted}
+use Rattle.tt_log.specs.declared.script.bad.ScriptBad.{ScriptBad}
+use Rattle.tt_log.specs.Forms.{number, text, hex, key, IsTextFrom, Word, named, word, rest, word_text, WordFits, behind_blanks, parted}
 use Rattle.tt_log.specs.Settings.{setting_words, place_of, with_setting, settings_of, is_plain}
-use Rattle.tt_log.specs.Orders.{words_by, UsesAll}
-use Rattle.tt_log.specs.Lines.{line_words, Holds, IsLine, openings_of}
+use Rattle.tt_log.specs.Orders.{words_by}
+use Rattle.tt_log.specs.Lines.{line_words, IsLine, openings_of}
 use Rattle.tt_log.specs.Steps.{step_words, step_text, IsStep, opens, Precedes}
 use Rattle.tt_log.specs.Contents.{Contents}
 use Rattle.tt_log.specs.Script.{InOrder, IsSteps, setup_with, setup_of, line_in, lines_in, contents_of, Spells}
@@ -232,26 +232,49 @@ abbrev with_first : ℕ → Setup → Setup
 with_first k s = fold with_setting plain (take k (settings_of s))
 
 all_change : (s : Setup) → Changes plain (settings_of s)
-all_change s =
-    ((λ e. same_number (with_first 0 s) Seed s.seed plain.seed e),
-    ((λ e. same_number (with_first 1 s) FrameFreq s.frame_freq plain.frame_freq e),
-    ((λ e. same_number (with_first 2 s) SyncFreq s.sync_freq plain.sync_freq e),
-    ((λ e. same_number (with_first 3 s) Clients s.max_clients plain.max_clients e),
-    ((λ e. same_number (with_first 4 s) Init s.init plain.init e),
-    ((λ e. same_number (with_first 5 s) PassLimit s.pass_limit plain.pass_limit e),
-    ((λ e. same_number (with_first 6 s) Download s.download plain.download e),
-    ((λ e. same_number (with_first 7 s) JoinLimit s.join plain.join e),
-    ((λ e. same_number (with_first 8 s) Lag s.lag plain.lag e),
-    ((λ e. same_number (with_first 9 s) Cost s.cost plain.cost e),
-    ((λ e. same_text (with_first 10 s) Pw s.password e),
-    ((λ e. same_text (with_first 11 s) Admin s.admin_password e),
-    tt))))))))))))
+all_change s = (
+  (λ e. same_number (with_first 0 s) Seed s.seed plain.seed e),
+  (
+    (λ e. same_number (with_first 1 s) FrameFreq s.frame_freq plain.frame_freq e),
+    (
+      (λ e. same_number (with_first 2 s) SyncFreq s.sync_freq plain.sync_freq e),
+      (
+        (λ e. same_number (with_first 3 s) Clients s.max_clients plain.max_clients e),
+        (
+          (λ e. same_number (with_first 4 s) Init s.init plain.init e),
+          (
+            (λ e. same_number (with_first 5 s) PassLimit s.pass_limit plain.pass_limit e),
+            (
+              (λ e. same_number (with_first 6 s) Download s.download plain.download e),
+              (
+                (λ e. same_number (with_first 7 s) JoinLimit s.join plain.join e),
+                (
+                  (λ e. same_number (with_first 8 s) Lag s.lag plain.lag e),
+                  (
+                    (λ e. same_number (with_first 9 s) Cost s.cost plain.cost e),
+                    (
+                      (λ e. same_text (with_first 10 s) Pw s.password e),
+                      (
+                        (λ e. same_text (with_first 11 s) Admin s.admin_password e),
+                        tt,
+                      ),
+                    ),
+                  ),
+                ),
+              ),
+            ),
+          ),
+        ),
+      ),
+    ),
+  ),
+)
 
 ap3 : {A B C D : Type 0} (f : A → B → C → D) {a a' : A} {b b' : B} {c c' : C} → a ≡ a' → b ≡ b' → c ≡ c' → f a b c ≡ f a' b' c'
 ap3 f {a' = a'} {b = b} {b' = b'} {c = c} p q r = ap (λ x. f x b c) p ∙ ap (λ y. f a' y c) q ∙ ap (λ z. f a' b' z) r
 
 setup_back : (s : Setup) → IsTold s → fold with_setting plain (settings_of s) ≡ s
-setup_back s told = ap3 (λ (a b c : List ℕ). let made : Setup = record { name = a; revision = b; id = c; seed = s.seed; frame_freq = s.frame_freq; sync_freq = s.sync_freq; max_clients = s.max_clients; init = s.init; pass_limit = s.pass_limit; download = s.download; join = s.join; lag = s.lag; cost = s.cost; password = s.password; admin_password = s.admin_password; } in made) (sym told.name) (sym told.revision) (sym told.id)
+setup_back s told = ap3 (λ (a b c : List ℕ). let made : Setup = record { name = a; revision = b; id = c; seed = s.seed; frame_freq = s.frame_freq; sync_freq = s.sync_freq; max_clients = s.max_clients; init = s.init; pass_limit = s.pass_limit; download = s.download; join = s.join; lag = s.lag; cost = s.cost; password = s.password; admin_password = s.admin_password } in made) (sym told.name) (sym told.revision) (sym told.id)
 
 lines_keep : (st : Setup) (lines : List Line1) → fold setup_with st (map Line lines) ≡ st
 lines_keep st [] = refl
@@ -292,8 +315,8 @@ told_is_steps script is =
     let others = map Line script.lines in
     record {
       each = all_append IsStep sets others
-        (all_map Set IsStep IsSetting (λ x fits. fits) (told_settings script.setup) (all_filter IsSetting differs (settings_of script.setup) is.setup.settings))
-        (all_map Line IsStep IsLine (λ x fits. fits) script.lines is.lines);
+          (all_map Set IsStep IsSetting (λ x fits. fits) (told_settings script.setup) (all_filter IsSetting differs (settings_of script.setup) is.setup.settings))
+          (all_map Line IsStep IsLine (λ x fits. fits) script.lines is.lines);
       order = up_order 0 (told_settings script.setup) script.lines (up_filter differs 0 (settings_of script.setup) (settings_up script.setup));
       openings = omega (arith, is.openings, sum_by-append opens sets others, no_openings (told_settings script.setup), own_openings script.lines);
     }
@@ -308,5 +331,95 @@ spelled_text script is =
       makes = ap₂ (λ (a : Setup) (b : List Line1). let made : Contents = record { setup = a; lines = b } in made) (sym (told_setup script is.setup)) (sym (told_lines script));
     }
 
-pub holds_all : (lines : List Line1) → AllByRecursion IsLine lines → AllByRecursion Holds lines
-holds_all lines all = all_each IsLine Holds (λ line fits. fits.1) lines all
+-- ---- what the bytes spell is of the grammar
+
+no_text : IsTextFrom 0 32 []
+no_text = record {
+  bytes = λ i. omega arith;
+  some = omega arith;
+  text = is_text-from_IsText 32 [] (record { utf8 = IsUtf8-nil; shown = λ i d lt. absurd (omega (arith, lt)) }) (omega arith);
+}
+
+plain_told : IsTold plain
+plain_told = record {
+  settings = (
+    (tt, ((omega arith, omega arith, omega arith), tt)),
+    (
+      (tt, ((omega arith, omega arith, omega arith), tt)),
+      (
+        (tt, ((omega arith, omega arith, omega arith), tt)),
+        (
+          (tt, ((omega arith, omega arith, omega arith), tt)),
+          (
+            (tt, ((omega arith, omega arith, omega arith), tt)),
+            (
+              (tt, ((omega arith, omega arith, omega arith), tt)),
+              (
+                (tt, ((omega arith, omega arith, omega arith), tt)),
+                (
+                  (tt, ((omega arith, omega arith, omega arith), tt)),
+                  (
+                    (tt, ((omega arith, omega arith, omega arith), tt)),
+                    (
+                      (tt, ((omega arith, omega arith, omega arith), tt)),
+                      (
+                        (tt, (no_text, tt)),
+                        ((tt, (no_text, tt)), tt),
+                      ),
+                    ),
+                  ),
+                ),
+              ),
+            ),
+          ),
+        ),
+      ),
+    ),
+  );
+  name = refl;
+  revision = refl;
+  id = refl;
+}
+
+told_with : (st : Setup) (x : Setting) → IsSetting x → IsTold st → IsTold (with_setting st x)
+told_with st (Seed x) fits told = record { settings = (fits, told.settings.1); name = told.name; revision = told.revision; id = told.id }
+told_with st (FrameFreq x) fits told = record { settings = (told.settings.0, (fits, told.settings.1.1)); name = told.name; revision = told.revision; id = told.id }
+told_with st (SyncFreq x) fits told = record { settings = (told.settings.0, (told.settings.1.0, (fits, told.settings.1.1.1))); name = told.name; revision = told.revision; id = told.id }
+told_with st (Clients x) fits told = record { settings = (told.settings.0, (told.settings.1.0, (told.settings.1.1.0, (fits, told.settings.1.1.1.1)))); name = told.name; revision = told.revision; id = told.id }
+told_with st (Init x) fits told = record { settings = (told.settings.0, (told.settings.1.0, (told.settings.1.1.0, (told.settings.1.1.1.0, (fits, told.settings.1.1.1.1.1))))); name = told.name; revision = told.revision; id = told.id }
+told_with st (PassLimit x) fits told = record { settings = (told.settings.0, (told.settings.1.0, (told.settings.1.1.0, (told.settings.1.1.1.0, (told.settings.1.1.1.1.0, (fits, told.settings.1.1.1.1.1.1)))))); name = told.name; revision = told.revision; id = told.id }
+told_with st (Download x) fits told = record { settings = (told.settings.0, (told.settings.1.0, (told.settings.1.1.0, (told.settings.1.1.1.0, (told.settings.1.1.1.1.0, (told.settings.1.1.1.1.1.0, (fits, told.settings.1.1.1.1.1.1.1))))))); name = told.name; revision = told.revision; id = told.id }
+told_with st (JoinLimit x) fits told = record { settings = (told.settings.0, (told.settings.1.0, (told.settings.1.1.0, (told.settings.1.1.1.0, (told.settings.1.1.1.1.0, (told.settings.1.1.1.1.1.0, (told.settings.1.1.1.1.1.1.0, (fits, told.settings.1.1.1.1.1.1.1.1)))))))); name = told.name; revision = told.revision; id = told.id }
+told_with st (Lag x) fits told = record { settings = (told.settings.0, (told.settings.1.0, (told.settings.1.1.0, (told.settings.1.1.1.0, (told.settings.1.1.1.1.0, (told.settings.1.1.1.1.1.0, (told.settings.1.1.1.1.1.1.0, (told.settings.1.1.1.1.1.1.1.0, (fits, told.settings.1.1.1.1.1.1.1.1.1))))))))); name = told.name; revision = told.revision; id = told.id }
+told_with st (Cost x) fits told = record { settings = (told.settings.0, (told.settings.1.0, (told.settings.1.1.0, (told.settings.1.1.1.0, (told.settings.1.1.1.1.0, (told.settings.1.1.1.1.1.0, (told.settings.1.1.1.1.1.1.0, (told.settings.1.1.1.1.1.1.1.0, (told.settings.1.1.1.1.1.1.1.1.0, (fits, told.settings.1.1.1.1.1.1.1.1.1.1)))))))))); name = told.name; revision = told.revision; id = told.id }
+told_with st (Pw x) fits told = record { settings = (told.settings.0, (told.settings.1.0, (told.settings.1.1.0, (told.settings.1.1.1.0, (told.settings.1.1.1.1.0, (told.settings.1.1.1.1.1.0, (told.settings.1.1.1.1.1.1.0, (told.settings.1.1.1.1.1.1.1.0, (told.settings.1.1.1.1.1.1.1.1.0, (told.settings.1.1.1.1.1.1.1.1.1.0, (fits, told.settings.1.1.1.1.1.1.1.1.1.1.1))))))))))); name = told.name; revision = told.revision; id = told.id }
+told_with st (Admin x) fits told = record { settings = (told.settings.0, (told.settings.1.0, (told.settings.1.1.0, (told.settings.1.1.1.0, (told.settings.1.1.1.1.0, (told.settings.1.1.1.1.1.0, (told.settings.1.1.1.1.1.1.0, (told.settings.1.1.1.1.1.1.1.0, (told.settings.1.1.1.1.1.1.1.1.0, (told.settings.1.1.1.1.1.1.1.1.1.0, (told.settings.1.1.1.1.1.1.1.1.1.1.0, (fits, told.settings.1.1.1.1.1.1.1.1.1.1.1.1)))))))))))); name = told.name; revision = told.revision; id = told.id }
+
+told_fold : (st : Setup) (steps : List Step) → AllByRecursion IsStep steps → IsTold st → IsTold (fold setup_with st steps)
+told_fold st [] each told = told
+told_fold st (Set x ∷ steps) each told = told_fold (with_setting st x) steps each.1 (told_with st x each.0 told)
+told_fold st (Line line ∷ steps) each told = told_fold st steps each.1 told
+
+lines_fit : (steps : List Step) → AllByRecursion IsStep steps → AllByRecursion IsLine (lines_in steps)
+lines_fit [] each = tt
+lines_fit (Set x ∷ steps) each = lines_fit steps each.1
+lines_fit (Line line ∷ steps) each = (each.0, lines_fit steps each.1)
+
+lines_open : (steps : List Step) → sum_by openings_of (lines_in steps) ≡ sum_by opens steps
+lines_open [] = refl
+lines_open (Set x ∷ steps) = omega (arith, lines_open steps, sum_by-cons opens (Set x) steps)
+lines_open (Line line ∷ steps) = omega (arith, lines_open steps, sum_by-cons opens (Line line) steps, sum_by-cons openings_of line (lines_in steps))
+
+pub spelled_script : (script : Contents) (bytes : List ℕ) → Spells script bytes → IsScript script
+spelled_script script bytes spells =
+    let steps = spells.steps in
+    let is : IsScript (contents_of steps) = record {
+      setup = told_fold plain steps spells.is.each plain_told;
+      lines = lines_fit steps spells.is.each;
+      openings = omega (arith, lines_open steps, spells.is.openings);
+    } in
+    subst IsScript (sym spells.makes) is
+
+pub parsed_script : (r : Result Contents ScriptBad) (bytes : List ℕ) → IfOk r (λ script. Spells script bytes) → IfOk r (λ script. IsScript script)
+parsed_script (Ok script) bytes found = spelled_script script bytes found
+parsed_script (Err bad) bytes found = tt

@@ -1,8 +1,8 @@
 -- Scripts, step by step: what goes on, what doesn't, and that the bytes spell one script alone.
-use Rattle.std.proofs.Common.{◌≡◌, ◌≢◌, ◌⊎◌, inl, inr, Result, Ok, Err, ℕ, zero, suc, ◌+◌, ◌-◌, ◌<◌, ◌≤◌, List, [], ◌∷◌, ◌++◌, length, take, map, Option, Some, None, refl, sym, ap, subst, ◌∙◌, append_assoc, arith}
-use Rattle.std.specs.Prelude.{sum_by, ◌↔◌, fold, IfOk}
-use Rattle.std.specs.List.{AllByRecursion, flat_map}
-use Rattle.std.proofs.lemmas.List.{map-append, length-map, length-append}
+use Rattle.std.proofs.Common.{◌≡◌, ◌⊎◌, inl, inr, Result, Ok, Err, ℕ, zero, suc, ◌+◌, ◌-◌, ◌<◌, ◌≤◌, List, [], ◌∷◌, ◌++◌, length, take, map, Some, refl, sym, ap, subst, ◌∙◌, append_assoc, arith}
+use Rattle.std.specs.Prelude.{sum_by, ◌↔◌, IfOk}
+use Rattle.std.specs.List.{AllByRecursion}
+use Rattle.std.proofs.lemmas.List.{map-append, length-map, length-append, append-nil}
 use Rattle.std.proofs.lemmas.Bool.{cases_lt}
 use Rattle.std.proofs.lemmas.List.Sums.{sum_by-append, sum_by-cons}
 use Rattle.std.proofs.Math.Seq.{take-append_seam, take-append-add}
@@ -117,12 +117,15 @@ one_of a b bytes one other =
 
 -- the first lines of a script are one
 pub first_of_script : (script : Contents) (bytes : List ℕ) (n : ℕ) → Spells script bytes → IsScriptText (first_lines n bytes)
-first_of_script script bytes n spells = (contents_of (take n spells.steps), record {
-  steps = take n spells.steps;
-  is = steps_take n spells.steps spells.is;
-  text = lines-first n bytes ∙ ap (take n) spells.text ∙ map_take step_text n spells.steps;
-  makes = refl;
-})
+first_of_script script bytes n spells = (
+  contents_of (take n spells.steps),
+  record {
+    steps = take n spells.steps;
+    is = steps_take n spells.steps spells.is;
+    text = lines-first n bytes ∙ ap (take n) spells.text ∙ map_take step_text n spells.steps;
+    makes = refl;
+  },
+)
 
 -- ---- a reader
 
@@ -147,14 +150,12 @@ places steps place = (setting : Setting) → (place ≤ place_of setting) ↔ Al
 
 place_after : (steps : List Step) (step : Step) (place openings new : ℕ) → places steps place → place ≤ 13 → new ≡ suc (step_place step) → MayFollow place openings step → places (steps ++ step ∷ []) new
 place_after steps (Set own) place openings new old most is may = λ setting.
-    let P : Step → Type 0 = λ before. Precedes before (Set setting) in
-    (
+    let P : Step → Type 0 = λ before. Precedes before (Set setting) in (
       (λ le. all_snoc P steps (Set own) ((old setting).0 (omega (arith, le, is, may))) (omega (arith, le, is))),
       (λ all. let last : place_of own < place_of setting = all_last P steps (Set own) all in omega (arith, last, is)),
     )
 place_after steps (Line line) place openings new old most is may = λ setting.
-    let P : Step → Type 0 = λ before. Precedes before (Set setting) in
-    (
+    let P : Step → Type 0 = λ before. Precedes before (Set setting) in (
       (λ le. all_snoc P steps (Line line) ((old setting).0 (omega (arith, le, is, most))) (omega (arith, le, is))),
       (λ all. let last : 12 < place_of setting = all_last P steps (Line line) all in omega (arith, last, is)),
     )
@@ -185,7 +186,7 @@ grown r s bytes line steps step at cut one read count place openings most may =
         openings = omega (arith, sums, last, at.openings, within);
       };
       text = at.text ∙ ap (λ (t : List (List ℕ)). map step_text steps ++ t) cut ∙ front
-        ∙ ap (λ (t : List ℕ). (map step_text steps ++ t ∷ []) ++ lines_of s.rest) back.1 ∙ ap (λ (t : List (List ℕ)). t ++ lines_of s.rest) (sym texts);
+          ∙ ap (λ (t : List ℕ). (map step_text steps ++ t ∷ []) ++ lines_of s.rest) back.1 ∙ ap (λ (t : List (List ℕ)). t ++ lines_of s.rest) (sym texts);
       count = omega (arith, count, at.count, length-append steps (step ∷ []));
       openings = omega (arith, openings, at.openings, sums, last);
       place = place_after steps step r.place r.openings s.place at.place at.most place may;
@@ -281,3 +282,12 @@ pub parsed_refused : (r : Result Contents ScriptBad) (bytes : List ℕ) → IfOk
 parsed_refused (Ok own) bytes found first l bad = absurd (bad.through (first_of_script own bytes l found))
 parsed_refused (Err (BadLine k)) bytes found first l bad = inl (ap (λ (n : ℕ). Err (BadLine n)) (same_first bytes k l (first k refl) bad))
 parsed_refused (Err Memory) bytes found first l bad = inr refl
+
+-- what was read where nothing is left
+pub read_all : (r : Standing) (bytes : List ℕ) (steps : List Step) → IsAt r bytes steps → r.rest ≡ [] → Spells (contents_of steps) bytes
+read_all r bytes steps at none = record {
+  steps = steps;
+  is = at.is;
+  text = at.text ∙ ap (λ (t : List ℕ). map step_text steps ++ lines_of t) none ∙ append-nil (map step_text steps);
+  makes = refl;
+}

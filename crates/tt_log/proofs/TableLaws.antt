@@ -1,21 +1,20 @@
 -- The tables of reading and the tables of lines say the same.
-use Rattle.std.proofs.Common.{◌≡◌, ◌≢◌, ℕ, ◌^◌, ◌<◌, ◌≤◌, List, [], ◌∷◌, ◌++◌, length, true, not, Option, Some, None, refl, sym, ap, ap₂, ◌∙◌, arith}
+use Rattle.std.proofs.Common.{◌≡◌, ℕ, List, [], ◌∷◌, ◌++◌, true, not, Option, Some, refl, sym, ap, ap₂, ◌∙◌, arith}
 use Rattle.std.specs.Prelude.{◌==◌, codes}
 use Rattle.std.specs.List.{list_all, AllByRecursion}
 use Rattle.std.specs.Fmt.{decimal}
 use Rattle.hex.specs.Hex.{encode_lower}
-use Rattle.tt_frame.specs.Text.{is_text}
 use Rattle.std.proofs.lemmas.List.{append-nil}
 use Rattle.tt_log.specs.Texts.{HasNoBreak}
-use Rattle.tt_log.specs.Forms.{Form, number, text, hex, key, Value, spelled, text_spelled, Fits, IsPiece, IsTextFrom, HasNoBlank, Word, named, word, rest, WordFits, parted, behind_blanks}
+use Rattle.tt_log.specs.Forms.{number, text, hex, key, text_spelled, Fits, WordFits}
 use Rattle.tt_log.specs.Settings.{setting_words}
-use Rattle.tt_log.specs.Orders.{words_by, UsesAll, order_words, IsOrder}
-use Rattle.tt_log.specs.Lines.{any, line_words, IsLine}
-use Rattle.tt_log.specs.Steps.{step_words, step_text, IsStep}
-use Rattle.tt_log.specs.Rows.{◌>>=◌, Row, none, end, all, ◌▸◌, row_at, Branch, pick}
-use Rattle.tt_log.specs.Reading.{settings, orders, order, lines, step_at, sets, pieces, forges, shuts, ticks, joins, ups, downs, runs, pumps, acts, expects, money, giving, placing, naming}
-use Rattle.tt_log.proofs.Breaks.{HasNo, has_no-cons, has_no-test}
-use Rattle.tt_log.proofs.FormLaws.{IsLeft, Sound, Each, sound, pick_sound, go, rest_found}
+use Rattle.tt_log.specs.Orders.{words_by, UsesAll}
+use Rattle.tt_log.specs.Lines.{any, IsLine}
+use Rattle.tt_log.specs.Steps.{step_text, IsStep}
+use Rattle.tt_log.specs.Rows.{◌>>=◌, end, ◌▸◌, row_at, pick}
+use Rattle.tt_log.specs.Reading.{settings, orders, order, lines, step_at, sets}
+use Rattle.tt_log.proofs.Breaks.{has_no-cons, has_no-test}
+use Rattle.tt_log.proofs.FormLaws.{IsLeft, Each, sound, pick_sound, go, rest_found}
 use Rattle.tt_log.specs.declared.script.line.Line1.{Line1}
 use Rattle.tt_log.specs.declared.script.line.Line1.TheVariants.{Open, Side, Bytes, Shut, Tick, Stop, Join, Up, Down, Run, Pump, Do, Forge, Expect}
 use Rattle.tt_log.specs.declared.script.setting.Setting.{Setting}
@@ -24,7 +23,6 @@ use Rattle.tt_log.specs.declared.script.step.Step.{Step}
 use Rattle.tt_log.specs.declared.script.step.Step.TheVariants.{Set, Line}
 use Rattle.tt_world.specs.declared.command.Code.{Code}
 use Rattle.tt_world.specs.declared.command.Code.TheVariants.{IncreaseLoan, DecreaseLoan, Give, PlaceSign, RenameSign, RenameCompany, RenamePresident, Pause, NewCompany}
-use Rattle.tt_world.specs.declared.command.Command.{Command}
 
 -- ---- what is read is a line, and its text was read
 
@@ -33,47 +31,106 @@ abbrev IsRead : Step → List ℕ → Type 0
 IsRead step left = IsStep step × (left ≡ 32 ∷ step_text step)
 
 settings_read : Each settings (λ step after. IsRead step (32 ∷ codes "set" ++ after))
-settings_read =
-    ((λ x fits. ((tt, (fits, tt)), refl)),
-    ((λ x fits. ((tt, (fits, tt)), refl)),
-    ((λ x fits. ((tt, (fits, tt)), refl)),
-    ((λ x fits. ((tt, (fits, tt)), refl)),
-    ((λ x fits. ((tt, (fits, tt)), refl)),
-    ((λ x fits. ((tt, (fits, tt)), refl)),
-    ((λ x fits. ((tt, (fits, tt)), refl)),
-    ((λ x fits. ((tt, (fits, tt)), refl)),
-    ((λ x fits. ((tt, (fits, tt)), refl)),
-    ((λ x fits. ((tt, (fits, tt)), refl)),
-    ((λ x fits. ((tt, (fits, tt)), refl)),
-    ((λ x fits. ((tt, (fits, tt)), refl)), tt))))))))))))
+settings_read = (
+  (λ x fits. ((tt, (fits, tt)), refl)),
+  (
+    (λ x fits. ((tt, (fits, tt)), refl)),
+    (
+      (λ x fits. ((tt, (fits, tt)), refl)),
+      (
+        (λ x fits. ((tt, (fits, tt)), refl)),
+        (
+          (λ x fits. ((tt, (fits, tt)), refl)),
+          (
+            (λ x fits. ((tt, (fits, tt)), refl)),
+            (
+              (λ x fits. ((tt, (fits, tt)), refl)),
+              (
+                (λ x fits. ((tt, (fits, tt)), refl)),
+                (
+                  (λ x fits. ((tt, (fits, tt)), refl)),
+                  (
+                    (λ x fits. ((tt, (fits, tt)), refl)),
+                    (
+                      (λ x fits. ((tt, (fits, tt)), refl)),
+                      ((λ x fits. ((tt, (fits, tt)), refl)), tt),
+                    ),
+                  ),
+                ),
+              ),
+            ),
+          ),
+        ),
+      ),
+    ),
+  ),
+)
 
 orders_read : (conn : ℕ) → Fits any conn → Each (orders conn) (λ step after. IsRead step (32 ∷ codes "do" ++ (32 ∷ decimal conn ++ after)))
-orders_read conn is =
-    ((λ x0 f0. (((tt, (is, (tt, (f0, tt)))), (refl, refl)), refl)),
-    ((λ x0 f0. (((tt, (is, (tt, (f0, tt)))), (refl, refl)), refl)),
-    ((λ x0 f0 x1 f1. (((tt, (is, (tt, (f0, (f1, tt))))), refl), refl)),
-    ((λ x0 f0 x1 f1. (((tt, (is, (tt, (f0, (f1, tt))))), refl), refl)),
-    ((λ x0 f0 x1 f1. (((tt, (is, (tt, (f0, (f1, tt))))), refl), refl)),
-    ((λ x0 f0. (((tt, (is, (tt, (f0, tt)))), (refl, refl)), refl)),
-    ((λ x0 f0. (((tt, (is, (tt, (f0, tt)))), (refl, refl)), refl)), tt)))))))
+orders_read conn is = (
+  (λ x0 f0. (((tt, (is, (tt, (f0, tt)))), (refl, refl)), refl)),
+  (
+    (λ x0 f0. (((tt, (is, (tt, (f0, tt)))), (refl, refl)), refl)),
+    (
+      (λ x0 f0 x1 f1. (((tt, (is, (tt, (f0, (f1, tt))))), refl), refl)),
+      (
+        (λ x0 f0 x1 f1. (((tt, (is, (tt, (f0, (f1, tt))))), refl), refl)),
+        (
+          (λ x0 f0 x1 f1. (((tt, (is, (tt, (f0, (f1, tt))))), refl), refl)),
+          (
+            (λ x0 f0. (((tt, (is, (tt, (f0, tt)))), (refl, refl)), refl)),
+            ((λ x0 f0. (((tt, (is, (tt, (f0, tt)))), (refl, refl)), refl)), tt),
+          ),
+        ),
+      ),
+    ),
+  ),
+)
 
 lines_read : Each lines IsRead
-lines_read =
-    ((λ w fits. pick_sound settings (λ step after. IsRead step (32 ∷ codes "set" ++ after)) settings_read w),
-    ((((tt, tt), tt), refl),
-    ((((tt, tt), tt), refl),
-    ((λ x0 f0 x1 f1. (((tt, (f0, (f1, tt))), tt), refl)),
-    ((λ x0 f0. (((tt, (f0, tt)), tt), refl)),
-    ((λ x0 f0. (((tt, (f0, tt)), tt), refl)),
-    ((((tt, tt), tt), refl),
-    ((λ x0 f0 x1 f1 x2 f2 x3 f3. (((tt, (f0, (f1, (f2, (f3, tt))))), tt), refl)),
-    ((λ x0 f0 x1 f1. (((tt, (f0, (f1, tt))), tt), refl)),
-    ((λ x0 f0 x1 f1. (((tt, (f0, (f1, tt))), tt), refl)),
-    ((λ x0 f0 x1 f1. (((tt, (f0, (f1, tt))), tt), refl)),
-    ((λ x0 f0. (((tt, (f0, tt)), tt), refl)),
-    ((λ conn is w fits. pick_sound (orders conn) (λ step after. IsRead step (32 ∷ codes "do" ++ (32 ∷ decimal conn ++ after))) (orders_read conn is) w),
-    ((λ x0 f0 x1 f1. (((tt, (f0, (f1, tt))), tt), refl)),
-    ((λ content one. (((tt, (one, tt)), tt), ap (λ (t : List ℕ). 32 ∷ 61 ∷ 32 ∷ t) (sym (append-nil content)))), tt)))))))))))))))
+lines_read = (
+  (λ w fits. pick_sound settings (λ step after. IsRead step (32 ∷ codes "set" ++ after)) settings_read w),
+  (
+    (((tt, tt), tt), refl),
+    (
+      (((tt, tt), tt), refl),
+      (
+        (λ x0 f0 x1 f1. (((tt, (f0, (f1, tt))), tt), refl)),
+        (
+          (λ x0 f0. (((tt, (f0, tt)), tt), refl)),
+          (
+            (λ x0 f0. (((tt, (f0, tt)), tt), refl)),
+            (
+              (((tt, tt), tt), refl),
+              (
+                (λ x0 f0 x1 f1 x2 f2 x3 f3. (((tt, (f0, (f1, (f2, (f3, tt))))), tt), refl)),
+                (
+                  (λ x0 f0 x1 f1. (((tt, (f0, (f1, tt))), tt), refl)),
+                  (
+                    (λ x0 f0 x1 f1. (((tt, (f0, (f1, tt))), tt), refl)),
+                    (
+                      (λ x0 f0 x1 f1. (((tt, (f0, (f1, tt))), tt), refl)),
+                      (
+                        (λ x0 f0. (((tt, (f0, tt)), tt), refl)),
+                        (
+                          (λ conn is w fits. pick_sound (orders conn) (λ step after. IsRead step (32 ∷ codes "do" ++ (32 ∷ decimal conn ++ after))) (orders_read conn is) w),
+                          (
+                            (λ x0 f0 x1 f1. (((tt, (f0, (f1, tt))), tt), refl)),
+                            ((λ content one. (((tt, (one, tt)), tt), ap (λ (t : List ℕ). 32 ∷ 61 ∷ 32 ∷ t) (sym (append-nil content)))), tt),
+                          ),
+                        ),
+                      ),
+                    ),
+                  ),
+                ),
+              ),
+            ),
+          ),
+        ),
+      ),
+    ),
+  ),
+)
 
 -- what is read from a text is a line with that text
 pub read_back : (line : List ℕ) (step : Step) → HasNoBreak line → step_at line ≡ Some step → IsStep step × (line ≡ step_text step)

@@ -1,8 +1,8 @@
 -- Words parted by blanks: the first one, and what is left behind it.
-use Rattle.std.proofs.Common.{◌≡◌, ◌≢◌, ℕ, zero, suc, ◌+◌, ◌<◌, List, [], ◌∷◌, ◌++◌, length, get_or, take, drop, true, false, refl, sym, ap, ◌∙◌, arith}
-use Rattle.std.specs.Prelude.{◌==◌, Option, Some, None}
+use Rattle.std.proofs.Common.{◌≡◌, ℕ, zero, suc, ◌<◌, List, [], ◌∷◌, length, get_or, take, drop, true, false, refl, ap, arith}
+use Rattle.std.specs.Prelude.{◌==◌}
 use Rattle.std.proofs.lemmas.Bool.{ne_eqb, eq-eqb}
-use Rattle.tt_log.specs.Rows.{front_word, behind_word, word_at}
+use Rattle.tt_log.specs.Rows.{front_word, behind_word}
 use Rattle.tt_log.proofs.Breaks.{HasNo, has_no-rest}
 
 -- the place of the first blank cuts the text there

@@ -1,14 +1,11 @@
 -- Which scripts are printed, and as what.
 use Rattle.std.specs.Prelude.{◌≡◌, ℕ, ◌≤◌, List, [], ◌∷◌, ◌++◌, map, sum_by, filter, not}
 use Rattle.std.specs.List.{AllByRecursion, flat_map}
-use Rattle.std.specs.Fmt.{decimal}
-use Rattle.hex.specs.Hex.{encode_lower}
-use Rattle.tt_log.specs.Forms.{WordFits, text_spelled}
+use Rattle.tt_log.specs.Forms.{WordFits}
 use Rattle.tt_log.specs.Settings.{setting_words, settings_of, is_plain}
 use Rattle.tt_log.specs.Lines.{IsLine, openings_of}
 use Rattle.tt_log.specs.Steps.{step_text}
 use Rattle.tt_log.specs.Contents.{Contents}
-use Rattle.tt_log.specs.declared.script.line.Line1.{Line1}
 use Rattle.tt_log.specs.declared.script.setting.Setting.{Setting}
 use Rattle.tt_log.specs.declared.script.step.Step.{Step}
 use Rattle.tt_log.specs.declared.script.step.Step.TheVariants.{Set, Line}

@@ -1,10 +1,10 @@
 -- What a reader of a script stands at.
-use Rattle.std.specs.Prelude.{◌≡◌, ℕ, suc, ◌+◌, ◌≤◌, ◌↔◌, List, ◌++◌, map, length, sum_by, refl}
+use Rattle.std.specs.Prelude.{◌≡◌, ℕ, ◌+◌, ◌≤◌, ◌↔◌, List, ◌++◌, map, length, sum_by}
 use Rattle.std.specs.List.{AllByRecursion}
 use Rattle.tt_log.specs.Texts.{lines_of}
 use Rattle.tt_log.specs.Settings.{place_of}
 use Rattle.tt_log.specs.Lines.{openings_of}
-use Rattle.tt_log.specs.Steps.{step_text, opens, step_place, Precedes}
+use Rattle.tt_log.specs.Steps.{step_text, opens, Precedes}
 use Rattle.tt_log.specs.Script.{IsSteps}
 use Rattle.tt_log.specs.Standing.{Standing}
 use Rattle.tt_log.specs.declared.script.setting.Setting.{Setting}

@@ -1,8 +1,8 @@
 -- What a script is, and which bytes spell one.
-use Rattle.std.specs.Prelude.{◌≡◌, ℕ, ◌≤◌, List, [], ◌∷◌, map, fold, sum_by, filter, not}
+use Rattle.std.specs.Prelude.{◌≡◌, ℕ, ◌≤◌, List, [], ◌∷◌, map, fold, sum_by}
 use Rattle.std.specs.List.{AllByRecursion, flat_map}
 use Rattle.tt_log.specs.Texts.{lines_of}
-use Rattle.tt_log.specs.Settings.{with_setting, settings_of, is_plain}
+use Rattle.tt_log.specs.Settings.{with_setting}
 use Rattle.tt_log.specs.Steps.{step_text, IsStep, opens, Precedes}
 use Rattle.tt_log.specs.Contents.{Contents}
 use Rattle.tt_log.specs.declared.script.line.Line1.{Line1}

@@ -1,5 +1,5 @@
 -- The table of settings: the words of each, its place among the `set` lines, and what it does to the setup.
-use Rattle.std.specs.Prelude.{ℕ, ◌+◌, List, [], ◌∷◌, codes, length, Bool, ◌==◌}
+use Rattle.std.specs.Prelude.{ℕ, List, [], ◌∷◌, codes, length, Bool, ◌==◌}
 use Rattle.tt_log.specs.Forms.{Word, word, named, number, text}
 use Rattle.tt_log.specs.declared.script.setting.Setting.{Setting}
 use Rattle.tt_log.specs.declared.script.setting.Setting.TheVariants.{Seed, FrameFreq, SyncFreq, Clients, Init, PassLimit, Download, Join, Lag, Cost, Pw, Admin}
@@ -57,7 +57,7 @@ settings_of s =
     Seed s.seed ∷ FrameFreq s.frame_freq ∷ SyncFreq s.sync_freq ∷ Clients s.max_clients ∷ Init s.init ∷ PassLimit s.pass_limit
     ∷ Download s.download ∷ Join s.join ∷ Lag s.lag ∷ Cost s.cost ∷ Pw s.password ∷ Admin s.admin_password ∷ []
 
--- whether a setting says what the plain setup says
+-- whether a setting says what the plain setup says; its passwords are empty
 abbrev pub is_plain : Setting → Bool
 is_plain (Seed n) = n == plain.seed
 is_plain (FrameFreq n) = n == plain.frame_freq

@@ -1,5 +1,5 @@
 -- What the lines of a script are: settings, and the lines behind them.
-use Rattle.std.specs.Prelude.{ℕ, ◌<◌, List, [], ◌∷◌, codes}
+use Rattle.std.specs.Prelude.{ℕ, ◌<◌, List, ◌∷◌, codes}
 use Rattle.std.specs.List.{AllByRecursion}
 use Rattle.tt_log.specs.Forms.{Word, named, WordFits, parted}
 use Rattle.tt_log.specs.Settings.{setting_words, place_of}

@@ -1,5 +1,5 @@
 -- Bytes cut into lines, and the first line with which they are bad.
-use Rattle.std.specs.Prelude.{◌≡◌, ◌≢◌, ℕ, zero, suc, ◌-◌, ◌<◌, List, [], ◌∷◌, ◌++◌, ◌==◌, cond, slice_index, EachIndex}
+use Rattle.std.specs.Prelude.{◌≢◌, ℕ, zero, suc, ◌-◌, ◌<◌, List, [], ◌∷◌, ◌==◌, cond, slice_index, EachIndex}
 
 -- a text within one line
 abbrev pub HasNoBreak : List ℕ → Type 0

@@ -1,5 +1,5 @@
 -- What a printer writes in its steps.
-use Rattle.std.specs.Prelude.{ℕ, List, [], ◌∷◌, ◌++◌, if◌then◌else◌}
+use Rattle.std.specs.Prelude.{ℕ, List, [], ◌∷◌, if◌then◌else◌}
 use Rattle.std.specs.List.{flat_map}
 use Rattle.std.specs.Fmt.{decimal}
 use Rattle.hex.specs.Hex.{encode_lower}
@@ -8,7 +8,6 @@ use Rattle.tt_log.specs.Settings.{is_plain}
 use Rattle.tt_log.specs.Printing.{step_line}
 use Rattle.tt_log.specs.declared.script.line.Line1.{Line1}
 use Rattle.tt_log.specs.declared.script.setting.Setting.{Setting}
-use Rattle.tt_log.specs.declared.script.step.Step.{Step}
 use Rattle.tt_log.specs.declared.script.step.Step.TheVariants.{Set, Line}
 use Rattle.tt_log.specs.declared.script.writing.Part.{Part}
 use Rattle.tt_log.specs.declared.script.writing.Part.TheVariants.{Number, Words, Hex, Plain}

@@ -6,6 +6,7 @@
 ghost use Rattle.std.specs.Prelude.{◌≡◌, ◌++◌, ◌⊎◌, ℕ, Ok, Err, IfOk, OnOk};
 ghost use Rattle.tt_log.specs.Texts.{IsFirstBad};
 ghost use Rattle.tt_log.specs.Contents.{Contents};
+ghost use Rattle.tt_log.specs.Printing.{IsScript};
 ghost use Rattle.tt_log.specs.Script.{Spells, IsScriptText, setup_with, line_in};
 ghost use Rattle.tt_log.specs.declared.script.bad.ScriptBad.TheVariants as bad;
 
@@ -28,15 +29,17 @@ mod writing;
 
 pub use bad::ScriptBad;
 pub use bytes::Bytes;
-pub use laws::one_line;
+pub use laws::{
+    one_first_bad_line, one_line, one_script, parsed_can_be_printed, printed_is_parsed,
+    reader_reads_all,
+};
 pub use line::Line1;
 pub use printing::print_script;
 pub use reader::ScriptReader;
 pub use setting::Setting;
-pub use step::Step;
-
 use std::alloc::Global;
 use std::marker::Model;
+pub use step::Step;
 use tt_world::Setup;
 
 /// A whole script. Contracts see its setup and the list of its lines.
@@ -60,6 +63,7 @@ impl Model for Script {
 pub fn parse_script(alloc: Global, bytes: &[u8]) -> Result<Script, ScriptBad>
     // What is parsed is what the bytes spell, and what they spell is parsed.
     ensures found { IfOk result (λ script. Spells script bytes.now) }
+    ensures script { IfOk result (λ script. IsScript script) }
     ensures only { (script : Contents) → Spells script bytes.now → (result ≡ Ok script) ⊎ (result ≡ Err bad.Memory) }
 
     // A line is refused exactly where it is the first with which the bytes are no script.

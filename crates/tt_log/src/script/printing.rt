@@ -92,7 +92,12 @@ fn put_told(alloc: Global, out: &mut Vec<u8>, setting: &Setting) -> Result<(), O
 {
     match setting {
         Setting::Seed(n) => put_line(alloc, out, b"set seed", &[Part::Number(*n as u64)]),
-        Setting::FrameFreq(n) => put_line(alloc, out, b"set frame_freq", &[Part::Number(*n as u64)]),
+        Setting::FrameFreq(n) => put_line(
+            alloc,
+            out,
+            b"set frame_freq",
+            &[Part::Number(*n as u64)],
+        ),
         Setting::SyncFreq(n) => put_line(alloc, out, b"set sync_freq", &[Part::Number(*n as u64)]),
         Setting::Clients(n) => put_line(alloc, out, b"set clients", &[Part::Number(*n as u64)]),
         Setting::Init(n) => put_line(alloc, out, b"set init", &[Part::Number(*n as u64)]),
@@ -114,34 +119,140 @@ fn put_said(alloc: Global, out: &mut Vec<u8>, line: &Line1) -> Result<(), OutOfM
     match line {
         Line1::Open => put_line(alloc, out, b"open", &[]),
         Line1::Side => put_line(alloc, out, b"side", &[]),
-        Line1::Bytes(conn, piece) => put_line(alloc, out, b"bytes", &[Part::Number(*conn as u64), Part::Hex(piece.bytes())]),
+        Line1::Bytes(conn, piece) => put_line(
+            alloc,
+            out,
+            b"bytes",
+            &[Part::Number(*conn as u64), Part::Hex(piece.bytes())],
+        ),
         Line1::Shut(conn) => put_line(alloc, out, b"shut", &[Part::Number(*conn as u64)]),
         Line1::Tick(n) => put_line(alloc, out, b"tick", &[Part::Number(*n as u64)]),
         Line1::Stop => put_line(alloc, out, b"stop", &[]),
-        Line1::Join(name, company, password, other) => put_line(alloc, out, b"join", &[Part::Words(name.bytes()), Part::Number(*company as u64), Part::Words(password.bytes()), Part::Words(other.bytes())]),
-        Line1::Up(conn, n) => put_line(alloc, out, b"up", &[Part::Number(*conn as u64), Part::Number(*n as u64)]),
-        Line1::Down(conn, n) => put_line(alloc, out, b"down", &[Part::Number(*conn as u64), Part::Number(*n as u64)]),
-        Line1::Run(conn, n) => put_line(alloc, out, b"run", &[Part::Number(*conn as u64), Part::Number(*n as u64)]),
+        Line1::Join(name, company, password, other) => put_line(
+            alloc,
+            out,
+            b"join",
+            &[
+                Part::Words(name.bytes()),
+                Part::Number(*company as u64),
+                Part::Words(password.bytes()),
+                Part::Words(other.bytes()),
+            ],
+        ),
+        Line1::Up(conn, n) => put_line(
+            alloc,
+            out,
+            b"up",
+            &[Part::Number(*conn as u64), Part::Number(*n as u64)],
+        ),
+        Line1::Down(conn, n) => put_line(
+            alloc,
+            out,
+            b"down",
+            &[Part::Number(*conn as u64), Part::Number(*n as u64)],
+        ),
+        Line1::Run(conn, n) => put_line(
+            alloc,
+            out,
+            b"run",
+            &[Part::Number(*conn as u64), Part::Number(*n as u64)],
+        ),
         Line1::Pump(conn) => put_line(alloc, out, b"pump", &[Part::Number(*conn as u64)]),
         Line1::Do(conn, command) => put_order(alloc, out, *conn, command),
-        Line1::Forge(conn, piece) => put_line(alloc, out, b"forge", &[Part::Number(*conn as u64), Part::Hex(piece.bytes())]),
+        Line1::Forge(conn, piece) => put_line(
+            alloc,
+            out,
+            b"forge",
+            &[Part::Number(*conn as u64), Part::Hex(piece.bytes())],
+        ),
         Line1::Expect(content) => put_line(alloc, out, b"=", &[Part::Plain(content.bytes())]),
     }
 }
 
 /// Appends a line that tells a client what to do.
-fn put_order(alloc: Global, out: &mut Vec<u8>, conn: u32, command: &Command) -> Result<(), OutOfMemory>
+fn put_order(
+    alloc: Global,
+    out: &mut Vec<u8>,
+    conn: u32,
+    command: &Command,
+) -> Result<(), OutOfMemory>
     requires { IsOrder command.now }
     ensures ok { OnOk result (out.new.items ≡ out.old.items ++ line_text (Line1.Do conn command.now)) }
 {
     match command.code {
-        Code::IncreaseLoan => put_line(alloc, out, b"do", &[Part::Number(conn as u64), Part::Plain(b"loan"), Part::Number(command.number as u64)]),
-        Code::DecreaseLoan => put_line(alloc, out, b"do", &[Part::Number(conn as u64), Part::Plain(b"repay"), Part::Number(command.number as u64)]),
-        Code::Give => put_line(alloc, out, b"do", &[Part::Number(conn as u64), Part::Plain(b"give"), Part::Number(command.number as u64), Part::Number(command.to as u64)]),
-        Code::PlaceSign => put_line(alloc, out, b"do", &[Part::Number(conn as u64), Part::Plain(b"sign"), Part::Number(command.number as u64), Part::Words(command.text.bytes())]),
-        Code::RenameSign => put_line(alloc, out, b"do", &[Part::Number(conn as u64), Part::Plain(b"resign"), Part::Number(command.number as u64), Part::Words(command.text.bytes())]),
-        Code::RenameCompany => put_line(alloc, out, b"do", &[Part::Number(conn as u64), Part::Plain(b"company"), Part::Words(command.text.bytes())]),
-        Code::RenamePresident => put_line(alloc, out, b"do", &[Part::Number(conn as u64), Part::Plain(b"president"), Part::Words(command.text.bytes())]),
+        Code::IncreaseLoan => put_line(
+            alloc,
+            out,
+            b"do",
+            &[
+                Part::Number(conn as u64),
+                Part::Plain(b"loan"),
+                Part::Number(command.number as u64),
+            ],
+        ),
+        Code::DecreaseLoan => put_line(
+            alloc,
+            out,
+            b"do",
+            &[
+                Part::Number(conn as u64),
+                Part::Plain(b"repay"),
+                Part::Number(command.number as u64),
+            ],
+        ),
+        Code::Give => put_line(
+            alloc,
+            out,
+            b"do",
+            &[
+                Part::Number(conn as u64),
+                Part::Plain(b"give"),
+                Part::Number(command.number as u64),
+                Part::Number(command.to as u64),
+            ],
+        ),
+        Code::PlaceSign => put_line(
+            alloc,
+            out,
+            b"do",
+            &[
+                Part::Number(conn as u64),
+                Part::Plain(b"sign"),
+                Part::Number(command.number as u64),
+                Part::Words(command.text.bytes()),
+            ],
+        ),
+        Code::RenameSign => put_line(
+            alloc,
+            out,
+            b"do",
+            &[
+                Part::Number(conn as u64),
+                Part::Plain(b"resign"),
+                Part::Number(command.number as u64),
+                Part::Words(command.text.bytes()),
+            ],
+        ),
+        Code::RenameCompany => put_line(
+            alloc,
+            out,
+            b"do",
+            &[
+                Part::Number(conn as u64),
+                Part::Plain(b"company"),
+                Part::Words(command.text.bytes()),
+            ],
+        ),
+        Code::RenamePresident => put_line(
+            alloc,
+            out,
+            b"do",
+            &[
+                Part::Number(conn as u64),
+                Part::Plain(b"president"),
+                Part::Words(command.text.bytes()),
+            ],
+        ),
         Code::Pause | Code::NewCompany => unreachable!(),
     }
 }

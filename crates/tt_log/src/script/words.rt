@@ -68,7 +68,11 @@ impl<'a> Words<'a> {
     pub fn ended<M: Drop>(&self, value: M) -> Result<M, NoLine>
         ensures { LineRead result (ended_at value self.now) }
     {
-        if self.ended { Ok(value) } else { Err(NoLine::Bad) }
+        if self.ended {
+            Ok(value)
+        } else {
+            Err(NoLine::Bad)
+        }
     }
 }
 

@@ -1,6 +1,6 @@
 use Rattle.std.proofs.Common.{◌≡◌, Some, sym, ap, ◌∙◌}
 use Rattle.tt_log.specs.Reading.{step_at}
-use Rattle.tt_log.proofs.TableLaws.{read_found, read_back}
+use Rattle.tt_log.proofs.TableLaws.{read_found}
 use Rattle.tt_log.proofs.script.laws.one_line.Goals as goal
 
 pub returns : goal.returns

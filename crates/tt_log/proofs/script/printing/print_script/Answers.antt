@@ -1,11 +1,10 @@
 use Rattle.std.proofs.Common.{ℕ, List, ◌++◌, sym, ap, ap₂, subst, ◌∙◌, ◌≡◌}
 use Rattle.std.specs.List.{flat_map}
-use Rattle.tt_log.specs.Contents.{Contents}
 use Rattle.tt_log.specs.Settings.{settings_of}
 use Rattle.tt_log.specs.Script.{Spells}
 use Rattle.tt_log.specs.Printing.{script_text}
 use Rattle.tt_log.specs.Written.{setting_text, line_text}
-use Rattle.tt_log.proofs.PrintLaws.{text_is, spelled_text, holds_all}
+use Rattle.tt_log.proofs.PrintLaws.{text_is, spelled_text}
 use Rattle.tt_log.proofs.script.printing.print_script.Goals as goal
 
 pub returns-clause-text : goal.returns-clause-text
