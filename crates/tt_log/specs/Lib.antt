@@ -1,0 +1,15 @@
+pub mod Texts
+pub mod Forms
+pub mod Settings
+pub mod Orders
+pub mod Lines
+pub mod Steps
+pub mod Contents
+pub mod Script
+pub mod Printing
+pub mod Standing
+pub mod Reader
+pub mod Rows
+pub mod Reading
+pub mod Numbers
+pub mod Written
