@@ -6,11 +6,12 @@ use Rattle.std.specs.Fmt.{decimal}
 use Rattle.std.proofs.lemmas.Bool.{ne_eqb, eq-eqb, eqb-true}
 use Rattle.std.proofs.lemmas.Slice.Eq.{bytes_eq-Decides}
 use Rattle.hex.specs.Hex.{encode_lower}
-use Rattle.tt_log.specs.Texts.{HasNoBreak}
-use Rattle.tt_log.specs.Forms.{Form, number, text, hex, key, Value, spelled, text_spelled, Fits, IsPiece, IsTextFrom}
+use Rattle.tt_lines.specs.Lines.{HasNo}
+use Rattle.tt_log.specs.Forms.{Form, number, text, hex, key, Value, spelled, text_spelled, Fits, IsTextFrom}
+use Rattle.tt_lines.specs.Digits.{IsPiece}
 use Rattle.tt_log.specs.Rows.{◌>>=◌, front_word, behind_word, word_at, rest_at, number_in, within, hex_in, text_in, text_within, number_at, hex_at, text_at, value_at, Row, none, end, all, ◌▸◌, ended_at, row_at, Branch, pick}
-use Rattle.tt_log.proofs.Breaks.{HasNo, has_no-rest, has_no-cons, decimal_one}
-use Rattle.tt_log.proofs.Pieces.{lower_one}
+use Rattle.tt_lines.proofs.Breaks.{has_no-rest, has_no-cons, decimal_one}
+use Rattle.tt_lines.proofs.HexDigits.{lower_one}
 use Rattle.tt_log.proofs.ValueLaws.{if_some, number_found, number_back, within_found, within_back, hex_found, hex_back, text_found, text_back, text_within_found, text_within_back}
 
 -- what may be left of a line: nothing, or a blank and more
@@ -126,7 +127,7 @@ value_back key left w after e = word_parts left w after e
 abbrev pub Sound : {M : Type 0} → Row M → (M → List ℕ → Type 0) → Type 0
 Sound none P = Unit {0}
 Sound (end m) P = P m []
-Sound (all make) P = (bytes : List ℕ) → HasNoBreak bytes → P (make bytes) (32 ∷ bytes)
+Sound (all make) P = (bytes : List ℕ) → HasNo 10 bytes → P (make bytes) (32 ∷ bytes)
 Sound (f ▸ more) P = (x : Value f) → Fits f x → Sound (more x) (λ m after. P m (32 ∷ spelled f x ++ after))
 
 has_no-behind : (byte : ℕ) (a b : List ℕ) → HasNo byte (a ++ b) → HasNo byte b
@@ -150,7 +151,7 @@ ended_back : {M : Type 0} (m n : M) (left : List ℕ) → ended_at m left ≡ So
 ended_back m n [] e = (cc, refl)
 ended_back m n (b ∷ left) e = absurd cc
 
-pub sound : {M : Type 0} (r : Row M) (P : M → List ℕ → Type 0) → Sound r P → (left : List ℕ) → HasNoBreak left → (m : M) → row_at r left ≡ Some m → P m left
+pub sound : {M : Type 0} (r : Row M) (P : M → List ℕ → Type 0) → Sound r P → (left : List ℕ) → HasNo 10 left → (m : M) → row_at r left ≡ Some m → P m left
 sound none P s left one m e = absurd cc
 sound (end n) P s left one m e = let back = ended_back n m left e in subst (λ k. P k left) back.0 (subst (λ t. P n t) (sym back.1) s)
 sound {M} (all make) P s left one m e =
@@ -161,7 +162,7 @@ sound {M} (all make) P s left one m e =
 sound (f ▸ more) P s left one m e =
     let read = bind_some (value_at f left) _ m e in
     let back = value_back f left read.0.0 read.0.1 read.1 in
-    let after : HasNoBreak read.0.1 = has_no-behind 10 (32 ∷ spelled f read.0.0) read.0.1 (subst (HasNo 10) back.2 one) in
+    let after : HasNo 10 read.0.1 = has_no-behind 10 (32 ∷ spelled f read.0.0) read.0.1 (subst (HasNo 10) back.2 one) in
     subst (λ t. P m t) (sym back.2) (sound (more read.0.0) (λ k t. P k (32 ∷ spelled f read.0.0 ++ t)) (s read.0.0 back.0) read.0.1 after m read.2)
 
 -- the same of each branch of a table

@@ -7,7 +7,7 @@ use Rattle.std.proofs.lemmas.Str.{IsUtf8-nil}
 use Rattle.std.proofs.lemmas.List.Sums.{sum_by-append, sum_by-cons, fold-append}
 use Rattle.std.proofs.lemmas.Grind.{flat_map-append}
 use Rattle.tt_frame.proofs.TextLaws.{is_text-from_IsText}
-use Rattle.tt_log.specs.Texts.{HasNoBreak, lines_of}
+use Rattle.tt_lines.specs.Lines.{HasNo, lines_of}
 use Rattle.tt_log.specs.declared.script.bad.ScriptBad.{ScriptBad}
 use Rattle.tt_log.specs.Forms.{number, text, hex, key, IsTextFrom, Word, named, word, rest, word_text, WordFits, behind_blanks, parted}
 use Rattle.tt_log.specs.Settings.{setting_words, place_of, with_setting, settings_of, is_plain}
@@ -18,10 +18,11 @@ use Rattle.tt_log.specs.Contents.{Contents}
 use Rattle.tt_log.specs.Script.{InOrder, IsSteps, setup_with, setup_of, line_in, lines_in, contents_of, Spells}
 use Rattle.tt_log.specs.Printing.{IsSetting, IsTold, IsScript, told_settings, told_steps, step_line, script_text}
 use Rattle.tt_log.specs.Written.{setting_text, line_text}
-use Rattle.tt_log.proofs.Breaks.{HasNo, has_no-cons, has_no-append, has_no-test}
-use Rattle.tt_log.proofs.Pieces.{lower_one}
+use Rattle.tt_lines.proofs.Breaks.{has_no-cons, has_no-append, has_no-test}
+use Rattle.tt_lines.specs.Lines.{HasNo}
+use Rattle.tt_lines.proofs.HexDigits.{lower_one}
 use Rattle.tt_log.proofs.FormLaws.{text_one, number_one}
-use Rattle.tt_log.proofs.LineLaws.{lines-within}
+use Rattle.tt_lines.proofs.LineLaws.{lines-within}
 use Rattle.tt_log.specs.declared.script.line.Line1.{Line1}
 use Rattle.tt_log.specs.declared.script.line.Line1.TheVariants.{Open, Side, Bytes, Shut, Tick, Stop, Join, Up, Down, Run, Pump, Do, Forge, Expect}
 use Rattle.tt_log.specs.declared.script.setting.Setting.{Setting}
@@ -148,7 +149,7 @@ line_one (Do conn command) = (refl, (tt, order_one command.code command.number c
 line_one (Forge conn piece) = (refl, (tt, (tt, tt)))
 line_one (Expect content) = (refl, (tt, tt))
 
-step_one : (step : Step) → IsStep step → HasNoBreak (step_text step)
+step_one : (step : Step) → IsStep step → HasNo 10 (step_text step)
 step_one (Set setting) fits = parted_one (step_words (Set setting)) (tt, fits) (refl, setting_one setting)
 step_one (Line line) fits = parted_one (line_words line) fits.0 (line_one line)
 
@@ -321,7 +322,7 @@ told_is_steps script is =
       openings = omega (arith, is.openings, sum_by-append opens sets others, no_openings (told_settings script.setup), own_openings script.lines);
     }
 
-pub spelled_text : (script : Contents) → IsScript script → Spells script (script_text script)
+pub spelled_text : (script : Contents) → IsScript script → Spells script (lines_of (script_text script))
 spelled_text script is =
     let steps = told_is_steps script is in
     record {
@@ -410,8 +411,8 @@ lines_open [] = refl
 lines_open (Set x ∷ steps) = omega (arith, lines_open steps, sum_by-cons opens (Set x) steps)
 lines_open (Line line ∷ steps) = omega (arith, lines_open steps, sum_by-cons opens (Line line) steps, sum_by-cons openings_of line (lines_in steps))
 
-pub spelled_script : (script : Contents) (bytes : List ℕ) → Spells script bytes → IsScript script
-spelled_script script bytes spells =
+pub spelled_script : (script : Contents) (texts : List (List ℕ)) → Spells script texts → IsScript script
+spelled_script script texts spells =
     let steps = spells.steps in
     let is : IsScript (contents_of steps) = record {
       setup = told_fold plain steps spells.is.each plain_told;
@@ -420,6 +421,6 @@ spelled_script script bytes spells =
     } in
     subst IsScript (sym spells.makes) is
 
-pub parsed_script : (r : Result Contents ScriptBad) (bytes : List ℕ) → IfOk r (λ script. Spells script bytes) → IfOk r (λ script. IsScript script)
-parsed_script (Ok script) bytes found = spelled_script script bytes found
-parsed_script (Err bad) bytes found = tt
+pub parsed_script : (r : Result Contents ScriptBad) (texts : List (List ℕ)) → IfOk r (λ script. Spells script texts) → IfOk r (λ script. IsScript script)
+parsed_script (Ok script) texts found = spelled_script script texts found
+parsed_script (Err bad) texts found = tt

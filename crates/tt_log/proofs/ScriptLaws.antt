@@ -6,7 +6,7 @@ use Rattle.std.proofs.lemmas.List.{map-append, length-map, length-append, append
 use Rattle.std.proofs.lemmas.Bool.{cases_lt}
 use Rattle.std.proofs.lemmas.List.Sums.{sum_by-append, sum_by-cons}
 use Rattle.std.proofs.Math.Seq.{take-append_seam, take-append-add}
-use Rattle.tt_log.specs.Texts.{HasNoBreak, lines_of, first_lines, IsFirstBad}
+use Rattle.tt_lines.specs.Lines.{HasNo, lines_of, IsFirstBad}
 use Rattle.tt_log.specs.Settings.{place_of}
 use Rattle.tt_log.specs.Steps.{step_text, IsStep, opens, step_place, Precedes}
 use Rattle.tt_log.specs.Contents.{Contents}
@@ -21,7 +21,6 @@ use Rattle.tt_log.specs.declared.script.setting.Setting.{Setting}
 use Rattle.tt_log.specs.declared.script.step.Step.{Step}
 use Rattle.tt_log.specs.declared.script.step.Step.TheVariants.{Set, Line}
 use Rattle.tt_log.proofs.TableLaws.{read_found, read_back}
-use Rattle.tt_log.proofs.LineLaws.{lines-first}
 
 -- ---- lists
 
@@ -109,20 +108,20 @@ same_steps (step ∷ steps) (other ∷ others) each fits e =
     let rec = same_steps steps others each.1 fits.1 parts.1 in
     cc
 
--- the bytes spell one script
-pub one_of : (a b : Contents) (bytes : List ℕ) → Spells a bytes → Spells b bytes → a ≡ b
-one_of a b bytes one other =
+-- lines spell one script
+pub one_of : (a b : Contents) (texts : List (List ℕ)) → Spells a texts → Spells b texts → a ≡ b
+one_of a b texts one other =
     let same = same_steps one.steps other.steps one.is.each other.is.each (sym one.text ∙ other.text) in
     one.makes ∙ ap contents_of same ∙ sym other.makes
 
 -- the first lines of a script are one
-pub first_of_script : (script : Contents) (bytes : List ℕ) (n : ℕ) → Spells script bytes → IsScriptText (first_lines n bytes)
-first_of_script script bytes n spells = (
+pub first_of_script : (script : Contents) (texts : List (List ℕ)) (n : ℕ) → Spells script texts → IsScriptText (take n texts)
+first_of_script script texts n spells = (
   contents_of (take n spells.steps),
   record {
     steps = take n spells.steps;
     is = steps_take n spells.steps spells.is;
-    text = lines-first n bytes ∙ ap (take n) spells.text ∙ map_take step_text n spells.steps;
+    text = ap (take n) spells.text ∙ map_take step_text n spells.steps;
     makes = refl;
   },
 )
@@ -169,7 +168,7 @@ opens_within openings (Set own) place few may = omega arith
 opens_within openings (Line line) place few may = may
 
 -- one line more
-pub grown : (r s : Standing) (bytes line : List ℕ) (steps : List Step) (step : Step) → IsAt r bytes steps → lines_of r.rest ≡ line ∷ lines_of s.rest → HasNoBreak line
+pub grown : (r s : Standing) (bytes line : List ℕ) (steps : List Step) (step : Step) → IsAt r bytes steps → lines_of r.rest ≡ line ∷ lines_of s.rest → HasNo 10 line
     → step_at line ≡ Some step → s.count ≡ r.count + 1 → s.place ≡ suc (step_place step) → s.openings ≡ r.openings + opens step → s.place ≤ 13
     → MayFollow r.place r.openings step → IsAt s bytes (steps ++ step ∷ [])
 grown r s bytes line steps step at cut one read count place openings most may =
@@ -216,8 +215,8 @@ last_is line [] e = absurd cc
 last_is line (step ∷ []) e = (step, refl, cc)
 last_is line (step ∷ other ∷ more) e = let parts = heads line (step_text step) [] (step_text other ∷ map step_text more) e in let rest = parts.1 in absurd cc
 
-never_through : (r : Standing) (bytes line first : List ℕ) (steps : List Step) (script : Contents) → IsAt r bytes steps → Misfits r line
-    → lines_of first ≡ map step_text steps ++ line ∷ [] → Spells script first → ⊥
+never_through : (r : Standing) (bytes line : List ℕ) (first : List (List ℕ)) (steps : List Step) (script : Contents) → IsAt r bytes steps → Misfits r line
+    → first ≡ map step_text steps ++ line ∷ [] → Spells script first → ⊥
 never_through r bytes line first steps script at misfits texts spells =
     let on = goes_on steps spells.steps (line ∷ []) at.is.each spells.is.each (sym texts ∙ spells.text) in
     let last = last_is line on.0 on.2 in
@@ -227,18 +226,19 @@ never_through r bytes line first steps script at misfits texts spells =
     misfits last.0 (ap step_at last.2 ∙ read_found last.0 fits) (may_last r bytes steps last.0 at is)
 
 pub first_bad : (r : Standing) (bytes line : List ℕ) (rest : List (List ℕ)) (steps : List Step) (l : ℕ) → IsAt r bytes steps → lines_of r.rest ≡ line ∷ rest → Misfits r line → l ≡ r.count + 1
-    → IsFirstBad IsScriptText bytes l
+    → IsFirstBad IsScriptText (lines_of bytes) l
 first_bad r bytes line rest steps l at cut misfits is =
     let texts : lines_of bytes ≡ map step_text steps ++ line ∷ rest = at.text ∙ ap (λ (t : List (List ℕ)). map step_text steps ++ t) cut in
     let long : r.count ≡ length (map step_text steps) = at.count ∙ sym (length-map steps step_text) in
     let before : l - 1 ≡ r.count = omega (arith, is) in
     let next : l ≡ suc r.count = omega (arith, is) in
-    let fewer : lines_of (first_lines (l - 1) bytes) ≡ map step_text steps = rw before (lines-first r.count bytes ∙ ap (take r.count) texts ∙ take_front (map step_text steps) (line ∷ rest) r.count long) in
-    let through : lines_of (first_lines l bytes) ≡ map step_text steps ++ line ∷ [] = rw next (lines-first (suc r.count) bytes ∙ ap (take (suc r.count)) texts ∙ take_next (map step_text steps) rest line r.count long) in
+    let fewer : take (l - 1) (lines_of bytes) ≡ map step_text steps = rw before (ap (take r.count) texts ∙ take_front (map step_text steps) (line ∷ rest) r.count long) in
+    let through : take l (lines_of bytes) ≡ map step_text steps ++ line ∷ [] = rw next (ap (take (suc r.count)) texts ∙ take_next (map step_text steps) rest line r.count long) in
     record {
-      counted = omega (arith, is);
+      some = omega (arith, is);
+      within = omega (arith, is, long, ap length texts, length-append (map step_text steps) (line ∷ rest));
       before = (contents_of steps, record { steps = steps; is = at.is; text = fewer; makes = refl });
-      through = λ spelled. never_through r bytes line (first_lines l bytes) steps spelled.0 at misfits through spelled.1;
+      bad = λ spelled. never_through r bytes line (take l (lines_of bytes)) steps spelled.0 at misfits through spelled.1;
     }
 
 -- ---- the answers of a parser
@@ -251,40 +251,39 @@ take_fewer (suc n) (suc m) [] le = refl
 take_fewer (suc n) (suc m) (x ∷ xs) le = ap (λ t. x ∷ t) (take_fewer n m xs (omega (arith, le)))
 
 -- fewer lines of a script are one
-pub fewer_lines : (bytes : List ℕ) (n m : ℕ) → n ≤ m → IsScriptText (first_lines m bytes) → IsScriptText (first_lines n bytes)
-fewer_lines bytes n m le spelled =
+pub fewer_lines : (texts : List (List ℕ)) (n m : ℕ) → n ≤ m → IsScriptText (take m texts) → IsScriptText (take n texts)
+fewer_lines texts n m le spelled =
     let spells = spelled.1 in
-    let texts : lines_of (first_lines n bytes) ≡ map step_text (take n spells.steps) =
-    lines-first n bytes ∙ sym (take_fewer n m (lines_of bytes) le) ∙ ap (take n) (sym (lines-first m bytes)) ∙ ap (take n) spells.text ∙ map_take step_text n spells.steps in
-    (contents_of (take n spells.steps), record { steps = take n spells.steps; is = steps_take n spells.steps spells.is; text = texts; makes = refl })
+    let same : take n texts ≡ map step_text (take n spells.steps) = sym (take_fewer n m texts le) ∙ ap (take n) spells.text ∙ map_take step_text n spells.steps in
+    (contents_of (take n spells.steps), record { steps = take n spells.steps; is = steps_take n spells.steps spells.is; text = same; makes = refl })
 
-one_first : (bytes : List ℕ) (k l : ℕ) → IsFirstBad IsScriptText bytes k → IsFirstBad IsScriptText bytes l → k < l → ⊥
-one_first bytes k l first other lt = first.through (fewer_lines bytes k (l - 1) (omega (arith, lt)) other.before)
+one_first : (texts : List (List ℕ)) (k l : ℕ) → IsFirstBad IsScriptText texts k → IsFirstBad IsScriptText texts l → k < l → ⊥
+one_first texts k l first other lt = first.bad (fewer_lines texts k (l - 1) (omega (arith, lt)) other.before)
 
 -- there is one first bad line
-pub same_first : (bytes : List ℕ) (k l : ℕ) → IsFirstBad IsScriptText bytes k → IsFirstBad IsScriptText bytes l → k ≡ l
-same_first bytes k l first other = elim (cases_lt k l) [
-  | inl less ↦ absurd (one_first bytes k l first other less)
+pub same_first : (texts : List (List ℕ)) (k l : ℕ) → IsFirstBad IsScriptText texts k → IsFirstBad IsScriptText texts l → k ≡ l
+same_first texts k l first other = elim (cases_lt k l) [
+  | inl less ↦ absurd (one_first texts k l first other less)
   | inr most ↦ elim (cases_lt l k) [
-    | inl less ↦ absurd (one_first bytes l k other first less)
+    | inl less ↦ absurd (one_first texts l k other first less)
     | inr least ↦ omega (arith, most, least)
   ]
 ]
 
-pub parsed_only : (r : Result Contents ScriptBad) (bytes : List ℕ) → IfOk r (λ script. Spells script bytes) → ((l : ℕ) → r ≡ Err (BadLine l) → IsFirstBad IsScriptText bytes l)
-    → (script : Contents) → Spells script bytes → (r ≡ Ok script) ⊎ (r ≡ Err Memory)
-parsed_only (Ok own) bytes found first script spelled = inl (ap Ok (one_of own script bytes found spelled))
-parsed_only (Err (BadLine l)) bytes found first script spelled = absurd ((first l refl).through (first_of_script script bytes l spelled))
-parsed_only (Err Memory) bytes found first script spelled = inr refl
+pub parsed_only : (r : Result Contents ScriptBad) (texts : List (List ℕ)) → IfOk r (λ script. Spells script texts) → ((l : ℕ) → r ≡ Err (BadLine l) → IsFirstBad IsScriptText texts l)
+    → (script : Contents) → Spells script texts → (r ≡ Ok script) ⊎ (r ≡ Err Memory)
+parsed_only (Ok own) texts found first script spelled = inl (ap Ok (one_of own script texts found spelled))
+parsed_only (Err (BadLine l)) texts found first script spelled = absurd ((first l refl).bad (first_of_script script texts l spelled))
+parsed_only (Err Memory) texts found first script spelled = inr refl
 
-pub parsed_refused : (r : Result Contents ScriptBad) (bytes : List ℕ) → IfOk r (λ script. Spells script bytes) → ((l : ℕ) → r ≡ Err (BadLine l) → IsFirstBad IsScriptText bytes l)
-    → (l : ℕ) → IsFirstBad IsScriptText bytes l → (r ≡ Err (BadLine l)) ⊎ (r ≡ Err Memory)
-parsed_refused (Ok own) bytes found first l bad = absurd (bad.through (first_of_script own bytes l found))
-parsed_refused (Err (BadLine k)) bytes found first l bad = inl (ap (λ (n : ℕ). Err (BadLine n)) (same_first bytes k l (first k refl) bad))
-parsed_refused (Err Memory) bytes found first l bad = inr refl
+pub parsed_refused : (r : Result Contents ScriptBad) (texts : List (List ℕ)) → IfOk r (λ script. Spells script texts) → ((l : ℕ) → r ≡ Err (BadLine l) → IsFirstBad IsScriptText texts l)
+    → (l : ℕ) → IsFirstBad IsScriptText texts l → (r ≡ Err (BadLine l)) ⊎ (r ≡ Err Memory)
+parsed_refused (Ok own) texts found first l bad = absurd (bad.bad (first_of_script own texts l found))
+parsed_refused (Err (BadLine k)) texts found first l bad = inl (ap (λ (n : ℕ). Err (BadLine n)) (same_first texts k l (first k refl) bad))
+parsed_refused (Err Memory) texts found first l bad = inr refl
 
 -- what was read where nothing is left
-pub read_all : (r : Standing) (bytes : List ℕ) (steps : List Step) → IsAt r bytes steps → r.rest ≡ [] → Spells (contents_of steps) bytes
+pub read_all : (r : Standing) (bytes : List ℕ) (steps : List Step) → IsAt r bytes steps → r.rest ≡ [] → Spells (contents_of steps) (lines_of bytes)
 read_all r bytes steps at none = record {
   steps = steps;
   is = at.is;

@@ -5,7 +5,7 @@ use Rattle.std.specs.List.{list_all, AllByRecursion}
 use Rattle.std.specs.Fmt.{decimal}
 use Rattle.hex.specs.Hex.{encode_lower}
 use Rattle.std.proofs.lemmas.List.{append-nil}
-use Rattle.tt_log.specs.Texts.{HasNoBreak}
+use Rattle.tt_lines.specs.Lines.{HasNo}
 use Rattle.tt_log.specs.Forms.{number, text, hex, key, text_spelled, Fits, WordFits}
 use Rattle.tt_log.specs.Settings.{setting_words}
 use Rattle.tt_log.specs.Orders.{words_by, UsesAll}
@@ -13,7 +13,7 @@ use Rattle.tt_log.specs.Lines.{any, IsLine}
 use Rattle.tt_log.specs.Steps.{step_text, IsStep}
 use Rattle.tt_log.specs.Rows.{◌>>=◌, end, ◌▸◌, row_at, pick}
 use Rattle.tt_log.specs.Reading.{settings, orders, order, lines, step_at, sets}
-use Rattle.tt_log.proofs.Breaks.{has_no-cons, has_no-test}
+use Rattle.tt_lines.proofs.Breaks.{has_no-cons, has_no-test}
 use Rattle.tt_log.proofs.FormLaws.{IsLeft, Each, sound, pick_sound, go, rest_found}
 use Rattle.tt_log.specs.declared.script.line.Line1.{Line1}
 use Rattle.tt_log.specs.declared.script.line.Line1.TheVariants.{Open, Side, Bytes, Shut, Tick, Stop, Join, Up, Down, Run, Pump, Do, Forge, Expect}
@@ -133,9 +133,9 @@ lines_read = (
 )
 
 -- what is read from a text is a line with that text
-pub read_back : (line : List ℕ) (step : Step) → HasNoBreak line → step_at line ≡ Some step → IsStep step × (line ≡ step_text step)
+pub read_back : (line : List ℕ) (step : Step) → HasNo 10 line → step_at line ≡ Some step → IsStep step × (line ≡ step_text step)
 read_back line step one e =
-    let left : HasNoBreak (32 ∷ line) = has_no-cons 10 32 line (λ is. omega (arith, is)) one in
+    let left : HasNo 10 (32 ∷ line) = has_no-cons 10 32 line (λ is. omega (arith, is)) one in
     let read = sound (key ▸ λ w. pick lines w) IsRead (λ w fits. pick_sound lines IsRead lines_read w) (32 ∷ line) left step e in
     let same = read.1 in
     (read.0, cc)

@@ -12,9 +12,10 @@ use Rattle.hex.specs.declared.error.FromHexError.{FromHexError}
 use Rattle.hex.proofs.HexLemmas.{decode_of-encode_lower, decode_of-ok, length-encode_with}
 use Rattle.tt_frame.specs.Packet.{IsBytes}
 use Rattle.tt_frame.specs.Text.{is_text}
-use Rattle.tt_log.specs.Forms.{IsPiece, IsTextFrom, text_spelled}
+use Rattle.tt_log.specs.Forms.{IsTextFrom, text_spelled}
+use Rattle.tt_lines.specs.Digits.{IsPiece}
 use Rattle.tt_log.specs.Rows.{number_in, within, spelled_so, hex_in, text_in, text_within}
-use Rattle.tt_log.proofs.Decimals.{own}
+use Rattle.tt_lines.proofs.Decimals.{own}
 
 -- what stands behind a test
 pub if_some : {A : Type 0} (t : Bool) (x y : A) → cond t (Some x) None ≡ Some y → (t ≡ true) × (x ≡ y)

@@ -3,7 +3,8 @@ use Rattle.std.proofs.Common.{◌≡◌, ℕ, zero, suc, ◌<◌, List, [], ◌�
 use Rattle.std.specs.Prelude.{◌==◌}
 use Rattle.std.proofs.lemmas.Bool.{ne_eqb, eq-eqb}
 use Rattle.tt_log.specs.Rows.{front_word, behind_word}
-use Rattle.tt_log.proofs.Breaks.{HasNo, has_no-rest}
+use Rattle.tt_lines.proofs.Breaks.{has_no-rest}
+use Rattle.tt_lines.specs.Lines.{HasNo}
 
 -- the place of the first blank cuts the text there
 pub front_at : (text : List ℕ) (i : ℕ) → i < length text → ((k : ℕ) → k < i → get_or text k 0 ≡ 32 → ⊥) → get_or text i 0 ≡ 32

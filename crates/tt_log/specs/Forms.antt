@@ -1,10 +1,11 @@
 -- The forms of a word of a line: what its value is, which values it has, and how they are spelled.
-use Rattle.std.specs.Prelude.{◌≡◌, ◌≢◌, ℕ, ◌^◌, ◌≤◌, ◌<◌, true, List, [], ◌∷◌, ◌++◌, codes, length, slice_index, EachIndex}
+use Rattle.std.specs.Prelude.{◌≡◌, ℕ, ◌^◌, ◌≤◌, ◌<◌, true, List, [], ◌∷◌, ◌++◌, codes, length}
 use Rattle.std.specs.Fmt.{decimal}
 use Rattle.hex.specs.Hex.{encode_lower}
 use Rattle.tt_frame.specs.Packet.{IsBytes}
 use Rattle.tt_frame.specs.Text.{is_text}
-use Rattle.tt_log.specs.Texts.{HasNoBreak}
+use Rattle.tt_lines.specs.Lines.{HasNo}
+use Rattle.tt_lines.specs.Digits.{IsPiece}
 
 pub data Form : Type 0 where
   -- a number in decimal, from least to most
@@ -41,14 +42,9 @@ pub record IsTextFrom (least most : ℕ) (content : List ℕ) : Type 0 where
   pub some : least ≤ length content
   pub text : is_text most content ≡ true
 
--- a piece of a stream: bytes, and at least one
-pub record IsPiece (piece : List ℕ) : Type 0 where
-  pub bytes : IsBytes piece
-  pub some : 0 < length piece
-
 -- a text within one word
 abbrev pub HasNoBlank : List ℕ → Type 0
-HasNoBlank word = EachIndex word (λ i. slice_index word i ≢ 32)
+HasNoBlank word = HasNo 32 word
 
 -- the values that a word has
 abbrev pub Fits : (f : Form) → Value f → Type 0
@@ -76,7 +72,7 @@ word_text (rest bytes) = bytes
 abbrev pub WordFits : Word → Type 0
 WordFits (named w) = Unit {0}
 WordFits (word f x) = Fits f x
-WordFits (rest bytes) = HasNoBreak bytes
+WordFits (rest bytes) = HasNo 10 bytes
 
 -- words, each behind one blank
 abbrev pub behind_blanks : List Word → List ℕ

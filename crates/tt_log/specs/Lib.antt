@@ -1,4 +1,3 @@
-pub mod Texts
 pub mod Forms
 pub mod Settings
 pub mod Orders
@@ -11,5 +10,4 @@ pub mod Standing
 pub mod Reader
 pub mod Rows
 pub mod Reading
-pub mod Numbers
 pub mod Written

@@ -1,7 +1,7 @@
 -- What a reader of a script stands at.
 use Rattle.std.specs.Prelude.{◌≡◌, ℕ, ◌+◌, ◌≤◌, ◌↔◌, List, ◌++◌, map, length, sum_by}
 use Rattle.std.specs.List.{AllByRecursion}
-use Rattle.tt_log.specs.Texts.{lines_of}
+use Rattle.tt_lines.specs.Lines.{lines_of}
 use Rattle.tt_log.specs.Settings.{place_of}
 use Rattle.tt_log.specs.Lines.{openings_of}
 use Rattle.tt_log.specs.Steps.{step_text, opens, Precedes}

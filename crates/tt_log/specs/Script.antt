@@ -1,7 +1,6 @@
 -- What a script is, and which bytes spell one.
 use Rattle.std.specs.Prelude.{◌≡◌, ℕ, ◌≤◌, List, [], ◌∷◌, map, fold, sum_by}
 use Rattle.std.specs.List.{AllByRecursion, flat_map}
-use Rattle.tt_log.specs.Texts.{lines_of}
 use Rattle.tt_log.specs.Settings.{with_setting}
 use Rattle.tt_log.specs.Steps.{step_text, IsStep, opens, Precedes}
 use Rattle.tt_log.specs.Contents.{Contents}
@@ -44,13 +43,13 @@ lines_in steps = flat_map line_in steps
 abbrev pub contents_of : List Step → Contents
 contents_of steps = record { setup = setup_of steps; lines = lines_in steps }
 
--- the bytes spell the script: their lines are those of its steps
-pub record Spells (script : Contents) (bytes : List ℕ) : Type 0 where
+-- the lines of an input spell the script: they are those of its steps
+pub record Spells (script : Contents) (texts : List (List ℕ)) : Type 0 where
   pub steps : List Step
   pub is : IsSteps steps
-  pub text : lines_of bytes ≡ map step_text steps
+  pub text : texts ≡ map step_text steps
   pub makes : script ≡ contents_of steps
 
--- the bytes of some script
-abbrev pub IsScriptText : List ℕ → Type 0
-IsScriptText bytes = (script : Contents) × Spells script bytes
+-- the lines of some script
+abbrev pub IsScriptText : List (List ℕ) → Type 0
+IsScriptText texts = (script : Contents) × Spells script texts

@@ -4,7 +4,7 @@
 //! `print_script` the text of a script. A line has one spelling, so a script means one thing. Where a script is long,
 //! `ScriptReader` gives its lines one after the other and keeps none.
 ghost use Rattle.std.specs.Prelude.{◌≡◌, ◌++◌, ◌⊎◌, ℕ, Ok, Err, IfOk, OnOk};
-ghost use Rattle.tt_log.specs.Texts.{IsFirstBad};
+ghost use Rattle.tt_lines.specs.Lines.{lines_of, IsFirstBad};
 ghost use Rattle.tt_log.specs.Contents.{Contents};
 ghost use Rattle.tt_log.specs.Printing.{IsScript};
 ghost use Rattle.tt_log.specs.Script.{Spells, IsScriptText, setup_with, line_in};
@@ -62,21 +62,21 @@ impl Model for Script {
 /// The script that the bytes spell.
 pub fn parse_script(alloc: Global, bytes: &[u8]) -> Result<Script, ScriptBad>
     // What is parsed is what the bytes spell, and what they spell is parsed.
-    ensures found { IfOk result (λ script. Spells script bytes.now) }
+    ensures found { IfOk result (λ script. Spells script (lines_of bytes.now)) }
     ensures script { IfOk result (λ script. IsScript script) }
-    ensures only { (script : Contents) → Spells script bytes.now → (result ≡ Ok script) ⊎ (result ≡ Err bad.Memory) }
+    ensures only { (script : Contents) → Spells script (lines_of bytes.now) → (result ≡ Ok script) ⊎ (result ≡ Err bad.Memory) }
 
     // A line is refused exactly where it is the first with which the bytes are no script.
-    ensures first { (l : ℕ) → result ≡ Err (bad.Line l) → IsFirstBad IsScriptText bytes.now l }
-    ensures refused { (l : ℕ) → IsFirstBad IsScriptText bytes.now l → (result ≡ Err (bad.Line l)) ⊎ (result ≡ Err bad.Memory) }
+    ensures first { (l : ℕ) → result ≡ Err (bad.Line l) → IsFirstBad IsScriptText (lines_of bytes.now) l }
+    ensures refused { (l : ℕ) → IsFirstBad IsScriptText (lines_of bytes.now) l → (result ≡ Err (bad.Line l)) ⊎ (result ≡ Err bad.Memory) }
 {
     parsed(alloc, bytes)
 }
 
 /// The script, read line by line.
 fn parsed(alloc: Global, bytes: &[u8]) -> Result<Script, ScriptBad>
-    ensures found { IfOk result (λ script. Spells script bytes.now) }
-    ensures first { (l : ℕ) → result ≡ Err (bad.Line l) → IsFirstBad IsScriptText bytes.now l }
+    ensures found { IfOk result (λ script. Spells script (lines_of bytes.now)) }
+    ensures first { (l : ℕ) → result ≡ Err (bad.Line l) → IsFirstBad IsScriptText (lines_of bytes.now) l }
 {
     let mut reader = ScriptReader::new(bytes);
     let mut setup = Setup::plain();

@@ -6,6 +6,7 @@ ghost use Rattle.tt_log.specs.Orders.{IsOrder};
 ghost use Rattle.tt_log.specs.Lines.{Holds};
 ghost use Rattle.tt_log.specs.Printing.{IsScript, script_text, step_line};
 ghost use Rattle.tt_log.specs.Written.{setting_text, line_text};
+ghost use Rattle.tt_lines.specs.Lines.{lines_of};
 ghost use Rattle.tt_log.specs.Script.{Spells};
 
 use crate::script::Script;
@@ -22,7 +23,7 @@ pub fn print_script(alloc: Global, script: &Script) -> Result<Vec<u8>, OutOfMemo
     requires { IsScript script.now }
     ensures text { IfOk result (λ text. text.items ≡ script_text script.now) }
     // It is parsed to the script.
-    ensures spells { IfOk result (λ text. Spells script.now text.items) }
+    ensures spells { IfOk result (λ text. Spells script.now (lines_of text.items)) }
 {
     let mut out = Vec::new(alloc);
     put_settings(alloc, &mut out, &all_settings(&script.setup))?;

@@ -4,7 +4,7 @@
 //! next line, `None` behind the last one, or the number of the line that is no script line in its place. After an error
 //! the reader stands as before, so the same line gives the same answer.
 ghost use Rattle.std.specs.Prelude.{◌≡◌, ◌<◌, ◌≤◌, ◌+◌, ◌∷◌, ◌++◌, [], suc, ℕ, List, length, IfOk, IfSome, IfNone, OnErr, MatchOption, Err, codes};
-ghost use Rattle.tt_log.specs.Texts.{HasNoBreak, IsFirstBad, lines_of};
+ghost use Rattle.tt_lines.specs.Lines.{IsFirstBad, lines_of};
 ghost use Rattle.tt_log.specs.Steps.{step_place, opens};
 ghost use Rattle.tt_log.specs.Script.{IsScriptText};
 ghost use Rattle.tt_log.specs.Reader.{IsAt, MayFollow};
@@ -16,6 +16,7 @@ use crate::script::line_reading::step_of;
 use crate::script::step::Step;
 use std::alloc::Global;
 use std::marker::Model;
+use tt_lines::first_line;
 
 /// The most connections that a script may open.
 const MOST_OPENINGS: u32 = 65_535;
@@ -71,7 +72,7 @@ impl<'a> ScriptReader<'a> {
         ensures end { IfOk result (λ found. IfNone found ((self.old.rest ≡ []) × (self.new ≡ self.old))) }
 
         // The line is the first with which what stands so far is no script.
-        ensures bad { (bytes : List ℕ) (steps : List Said) (l : ℕ) → IsAt self.old bytes steps → result ≡ Err (bad.Line l) → IsFirstBad IsScriptText bytes l }
+        ensures bad { (bytes : List ℕ) (steps : List Said) (l : ℕ) → IsAt self.old bytes steps → result ≡ Err (bad.Line l) → IsFirstBad IsScriptText (lines_of bytes) l }
         ensures err { OnErr result (self.new ≡ self.old) }
     {
         if self.rest.is_empty() {
@@ -95,21 +96,6 @@ impl<'a> ScriptReader<'a> {
         self.openings = openings;
         Ok(Some(step))
     }
-}
-
-/// What stands before the first line feed, and what stands behind it. A last line need not have one.
-fn first_line(bytes: &[u8]) -> (&[u8], &[u8])
-    requires { 0 < length bytes.now }
-    ensures line { lines_of bytes.now ≡ result.0.now ∷ lines_of result.1.now }
-    ensures one { HasNoBreak result.0.now }
-    ensures shorter { length result.1.now < length bytes.now }
-{
-    for (i, byte) in bytes.iter().enumerate() {
-        if *byte == b'\n' {
-            return (&bytes[..i], &bytes[i + 1..]);
-        }
-    }
-    (bytes, &[])
 }
 
 /// The place and the openings behind a step, where it may stand there.

@@ -1,4 +1,4 @@
-use Rattle.std.proofs.Common.{List, [], ◌∷◌, ◌++◌, sym, ap, ◌∙◌}
+use Rattle.std.proofs.Common.{◌≡◌, Err, List, [], ◌∷◌, ◌++◌, sym, ap, ◌∙◌}
 use Rattle.std.proofs.lemmas.List.{append-nil}
 use Rattle.std.proofs.lemmas.List.Sums.{fold-append}
 use Rattle.std.proofs.lemmas.Grind.{flat_map-append}
@@ -6,6 +6,7 @@ use Rattle.tt_log.specs.Script.{setup_with, line_in, lines_in}
 use Rattle.tt_log.specs.declared.script.line.Line1.{Line1}
 use Rattle.tt_world.specs.Setup.{plain}
 use Rattle.tt_world.specs.declared.setup.Setup.{Setup}
+use Rattle.tt_log.specs.declared.script.bad.ScriptBad.TheVariants.{Line as BadLine}
 use Rattle.tt_log.proofs.script.parsed.Goals as goal
 
 pub loop-step-preserved : goal.loop-step-preserved
@@ -21,3 +22,8 @@ loop-step-preserved c =
         c.in_default.ensures.lines ∙ ap (λ (t : List Line1). t ++ line_in step) kept.2 ∙ ap (λ (t : List Line1). lines_in steps ++ t) (sym (append-nil (line_in step))) ∙ sym (flat_map-append line_in steps (step ∷ [])),
       ),
     )
+
+pub returns-in-Err-clause-first : goal.returns-in-Err-clause-first
+returns-in-Err-clause-first c l is =
+    let told : c.in-Err.bad ≡ BadLine l = cc in
+    c.in-Err.ensures.bad c.args.bytes.now c.loop-step.invariant.0 l c.loop-step.invariant.1.0 (ap Err told)

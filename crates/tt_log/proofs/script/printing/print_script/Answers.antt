@@ -1,6 +1,7 @@
 use Rattle.std.proofs.Common.{ℕ, List, ◌++◌, sym, ap, ap₂, subst, ◌∙◌, ◌≡◌}
 use Rattle.std.specs.List.{flat_map}
 use Rattle.tt_log.specs.Settings.{settings_of}
+use Rattle.tt_lines.specs.Lines.{lines_of}
 use Rattle.tt_log.specs.Script.{Spells}
 use Rattle.tt_log.specs.Printing.{script_text}
 use Rattle.tt_log.specs.Written.{setting_text, line_text}
@@ -15,4 +16,4 @@ returns-clause-text c =
     c.in_ok-put_lines.ensures.ok ∙ ap₂ (λ (a : List ℕ) b. a ++ flat_map line_text b) settings c.deref.ensures.value ∙ text_is own.setup own.lines.items ∙ ap script_text c.script.view_is
 
 pub returns-clause-spells : goal.returns-clause-spells
-returns-clause-spells c = subst (Spells c.args.script.now) (sym (returns-clause-text c)) (spelled_text c.args.script.now c.requires)
+returns-clause-spells c = subst (λ (text : List ℕ). Spells c.args.script.now (lines_of text)) (sym (returns-clause-text c)) (spelled_text c.args.script.now c.requires)

@@ -1,5 +1,5 @@
 use Rattle.std.proofs.Common.{rules, add-one}
-use Rattle.tt_log.proofs.Breaks.{HasNo}
+use Rattle.tt_lines.specs.Lines.{HasNo}
 use Rattle.tt_log.proofs.WordLaws.{front_at, front_none}
 use Rattle.tt_log.proofs.script.words.first_blank.Goals as goal
 
