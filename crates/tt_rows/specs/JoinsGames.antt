@@ -1,7 +1,7 @@
 -- Joining and downloading: lists of events, and what each game is made from.
-use Rattle.std.specs.Prelude.{List, [], ◌∷◌, ◌++◌, replicate, codes}
+use Rattle.std.specs.Prelude.{List, [], ◌∷◌, codes}
 use Rattle.tt_edge.specs.declared.event.Event.{Event}
-use Rattle.tt_edge.specs.declared.event.Event.TheVariants.{Broken, Shut, Tick, Stop}
+use Rattle.tt_edge.specs.declared.event.Event.TheVariants.{Broken, Shut, Tick}
 use Rattle.tt_world.specs.Setup.{plain}
 use Rattle.tt_log.specs.Origin.{Origin}
 use Rattle.tt_rows.specs.Words.{made_from, opens, says}

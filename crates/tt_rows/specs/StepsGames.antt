@@ -79,3 +79,18 @@ joins_twice =
 abbrev pub quits_at_once : List Event
 quits_at_once =
     opens ∷ says 1 (codes "030023") ∷ []
+
+-- An empty name is told before a company that does not live.
+abbrev pub name_judged_before_company : List Event
+name_judged_before_company =
+    opens ∷ says 1 (codes "0e000231332e34000d0000000000") ∷ []
+
+-- Who ends before its welcome is not told of.
+abbrev pub stranger_ends_unheard : List Event
+stranger_ends_unheard =
+    (opens ∷ says 1 (codes "11000231332e34000d000000416e6e00ff") ∷ says 1 (codes "03000d") ∷ Tick ∷ says 1 (codes "030013") ∷ opens ∷ Broken 2 ∷ [])
+
+-- A chat is told to those that play, and not to one that is only welcomed.
+abbrev pub chat_in_the_game : List Event
+chat_in_the_game =
+    (opens ∷ says 1 (codes "11000231332e34000d000000416e6e00ff") ∷ says 1 (codes "03000d") ∷ Tick ∷ says 1 (codes "030013") ∷ says 1 (codes "07001701000000") ∷ opens ∷ says 2 (codes "11000231332e34000d000000426f6200ff") ∷ says 1 (codes "0b001a0000000000486900") ∷ [])

@@ -1,7 +1,7 @@
 -- Chat, names, passwords, moves and ends: lists of events, and what each game is made from.
-use Rattle.std.specs.Prelude.{List, [], ◌∷◌, ◌++◌, replicate, codes}
+use Rattle.std.specs.Prelude.{List, [], ◌∷◌, codes}
 use Rattle.tt_edge.specs.declared.event.Event.{Event}
-use Rattle.tt_edge.specs.declared.event.Event.TheVariants.{Broken, Shut, Tick, Stop}
+use Rattle.tt_edge.specs.declared.event.Event.TheVariants.{Tick, Stop}
 use Rattle.tt_world.specs.Setup.{plain}
 use Rattle.tt_log.specs.Origin.{Origin}
 use Rattle.tt_rows.specs.Words.{made_from, opens, says}
@@ -61,3 +61,11 @@ quits_and_errors_game = made_from plain
 abbrev pub quits_and_errors : List Event
 quits_and_errors =
     opens ∷ opens ∷ opens ∷ says 1 (codes "11000231332e34000d000000416e6e00ff") ∷ says 1 (codes "03000d") ∷ Tick ∷ says 1 (codes "030013") ∷ says 1 (codes "07001701000000") ∷ says 2 (codes "11000231332e34000d000000426f6200ff") ∷ says 2 (codes "03000d") ∷ Tick ∷ says 2 (codes "030013") ∷ says 2 (codes "07001702000000") ∷ says 3 (codes "11000231332e34000d00000043696400ff") ∷ says 3 (codes "030023") ∷ says 2 (codes "04002109") ∷ Tick ∷ []
+
+-- The game ends with the event that brings the record to its cost.
+abbrev pub cost_met_game : Origin
+cost_met_game = made_from (record plain { cost = 128 })
+
+abbrev pub cost_met : List Event
+cost_met =
+    opens ∷ opens ∷ []

@@ -4,7 +4,7 @@ ghost use Rattle.tt_log.specs.Told.{sent};
 ghost use Rattle.tt_log.specs.Table.{is_live};
 ghost use Rattle.tt_log.specs.History.{table_of, journal_of};
 ghost use Rattle.tt_rows.specs.Words.{hex, name_on};
-ghost use Rattle.tt_rows.specs.StepsGames.{plain_game, welcomed_and_quiet, told_of_the_game, another_revision, another_grf_version, no_such_company, files_unasked, broken_behind_the_welcome, shut_untold, name_too_long_with_a_number, name_with_a_number, map_asked_for_twice, map_loaded_before_it_came, joins_twice, quits_at_once};
+ghost use Rattle.tt_rows.specs.StepsGames.{plain_game, welcomed_and_quiet, told_of_the_game, another_revision, another_grf_version, no_such_company, files_unasked, broken_behind_the_welcome, shut_untold, name_too_long_with_a_number, name_with_a_number, map_asked_for_twice, map_loaded_before_it_came, joins_twice, quits_at_once, name_judged_before_company, stranger_ends_unheard, chat_in_the_game};
 
 /// A welcomed member that never asks for the map ends behind 101 ticks.
 pub fn makes_welcomed_and_quiet()
@@ -121,4 +121,32 @@ pub fn makes_quits_at_once()
     ensures live_1 { is_live (table_of plain_game quits_at_once) 1 ≡ false }
     ensures journal { journal_of plain_game quits_at_once ≡ [] }
     ensures frame { ((table_of plain_game quits_at_once).frame ≡ 0) × ((table_of plain_game quits_at_once).top ≡ 0) }
+{}
+
+/// An empty name is told before a company that does not live.
+pub fn makes_name_judged_before_company()
+    ensures sent_1 { sent plain_game name_judged_before_company 1 ≡ hex (codes "04000314") }
+    ensures live_1 { is_live (table_of plain_game name_judged_before_company) 1 ≡ false }
+    ensures journal { journal_of plain_game name_judged_before_company ≡ [] }
+    ensures frame { ((table_of plain_game name_judged_before_company).frame ≡ 0) × ((table_of plain_game name_judged_before_company).top ≡ 0) }
+{}
+
+/// Who ends before its welcome is not told of.
+pub fn makes_stranger_ends_unheard()
+    ensures sent_1 { sent plain_game stranger_ends_unheard 1 ≡ hex (codes "0e000c020000000000000074740007000f00000000070010410000004400114f54544e0001000047414d450000000600000000000052414e44000000080000000000000000434d505900000001005349474e000000020000454e4443000000000300120c001d02000000ff416e6e000b00150100000001000000") }
+    ensures live_1 { is_live (table_of plain_game stranger_ends_unheard) 1 ≡ true }
+    ensures sent_2 { sent plain_game stranger_ends_unheard 2 ≡ hex (codes "04000304") }
+    ensures live_2 { is_live (table_of plain_game stranger_ends_unheard) 2 ≡ false }
+    ensures journal { journal_of plain_game stranger_ends_unheard ≡ [] }
+    ensures frame { ((table_of plain_game stranger_ends_unheard).frame ≡ 1) × ((table_of plain_game stranger_ends_unheard).top ≡ 1) }
+{}
+
+/// A chat is told to those that play, and not to one that is only welcomed.
+pub fn makes_chat_in_the_game()
+    ensures sent_1 { sent plain_game chat_in_the_game 1 ≡ hex (codes "0e000c020000000000000074740007000f00000000070010410000004400114f54544e0001000047414d450000000600000000000052414e44000000080000000000000000434d505900000001005349474e000000020000454e4443000000000300120c001d02000000ff416e6e000b001501000000010000000c001d03000000ff426f62000b001b0200000000486900") }
+    ensures live_1 { is_live (table_of plain_game chat_in_the_game) 1 ≡ true }
+    ensures sent_2 { sent plain_game chat_in_the_game 2 ≡ hex (codes "0e000c0300000000000000747400") }
+    ensures live_2 { is_live (table_of plain_game chat_in_the_game) 2 ≡ true }
+    ensures journal { journal_of plain_game chat_in_the_game ≡ [] }
+    ensures frame { ((table_of plain_game chat_in_the_game).frame ≡ 1) × ((table_of plain_game chat_in_the_game).top ≡ 1) }
 {}

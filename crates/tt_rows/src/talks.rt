@@ -5,7 +5,7 @@ ghost use Rattle.tt_log.specs.Table.{is_live};
 ghost use Rattle.tt_log.specs.History.{table_of, journal_of, world_behind};
 ghost use Rattle.tt_world.specs.declared.command.Code.TheVariants.{IncreaseLoan, DecreaseLoan, Give, PlaceSign, RenameSign, RenameCompany, RenamePresident, Pause, NewCompany};
 ghost use Rattle.tt_rows.specs.Words.{hex, entry, company, sign, world};
-ghost use Rattle.tt_rows.specs.TalksGames.{chats, chats_game, renamed, renamed_game, company_password, company_password_game, moves, moves_game, stopped, stopped_game, cost_reached, cost_reached_game, quits_and_errors, quits_and_errors_game};
+ghost use Rattle.tt_rows.specs.TalksGames.{cost_met, cost_met_game, chats, chats_game, renamed, renamed_game, company_password, company_password_game, moves, moves_game, stopped, stopped_game, cost_reached, cost_reached_game, quits_and_errors, quits_and_errors_game};
 
 /// Chats in the three scopes.
 pub fn makes_chats()
@@ -92,4 +92,12 @@ pub fn makes_quits_and_errors()
     ensures journal { journal_of quits_and_errors_game quits_and_errors ≡ [] }
     ensures frame { ((table_of quits_and_errors_game quits_and_errors).frame ≡ 3) × ((table_of quits_and_errors_game quits_and_errors).top ≡ 3) }
     ensures world { world_behind quits_and_errors_game quits_and_errors ≡ world (3613123000, 536870911) 0 3 false [] [] }
+{}
+
+/// The game ends with the event that brings the record to its cost.
+pub fn makes_cost_met()
+    ensures sent_1 { sent cost_met_game cost_met 1 ≡ hex (codes "030025") }
+    ensures sent_2 { sent cost_met_game cost_met 2 ≡ hex (codes "030025") }
+    ensures live_1 { is_live (table_of cost_met_game cost_met) 1 ≡ false }
+    ensures over { (table_of cost_met_game cost_met).over ≡ true }
 {}
