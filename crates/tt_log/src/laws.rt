@@ -1,12 +1,14 @@
 //! Laws of the definitions, for every list of events.
-ghost use Rattle.std.specs.Prelude.{◌≡◌, ℕ, [], ◌≤◌, List, ◌++◌, fold, true};
+ghost use Rattle.std.specs.Prelude.{◌≡◌, ℕ, [], ◌≤◌, List, ◌++◌, ◌+◌, ◌∷◌, fold, true, false};
 ghost use Rattle.tt_edge.specs.declared.event.Event.{Event};
-ghost use Rattle.tt_log.specs.Events.{deed, stepped};
+ghost use Rattle.tt_log.specs.Events.{deed, stepped, takes};
 ghost use Rattle.tt_log.specs.Deed.{becomes};
-ghost use Rattle.tt_log.specs.History.{table_of};
-ghost use Rattle.tt_log.specs.Origin.{Origin};
+ghost use Rattle.tt_log.specs.History.{journal_of, table_of, world_behind};
+ghost use Rattle.tt_log.specs.Origin.{Origin, above, folded, game_of, world_at};
+ghost use Rattle.tt_lockstep.specs.Journal.{AreAbove};
+ghost use Rattle.tt_world.specs.declared.command.Entry.{Entry};
 ghost use Rattle.tt_log.specs.Table.{Table};
-ghost use Rattle.tt_log.specs.Told.{heard_from, sent};
+ghost use Rattle.tt_log.specs.Told.{heard, heard_from, sent};
 
 /// What is told goes on where events go on, and what was sent stays sent.
 pub fn told_goes_on()
@@ -19,12 +21,32 @@ pub fn over_stays()
     ensures { (o : Origin) (t : Table) (e : Event) → t.over ≡ true → deed o e t ≡ becomes t }
 {}
 
-/// No frame passes the permitted one.
-pub fn frame_within_top()
-    ensures { (o : Origin) (es : List Event) → (table_of o es).frame ≤ (table_of o es).top }
+/// No frame passes the permitted one, and this is never further ahead than it is told.
+pub fn frame_and_top()
+    ensures ahead { (o : Origin) (es : List Event) → (table_of o es).frame ≤ (table_of o es).top }
+    ensures near { (o : Origin) (es : List Event) → (table_of o es).top ≤ (table_of o es).frame + o.setup.frame_freq }
 {}
 
 /// Where the game is over nobody is there.
 pub fn nobody_behind_the_end()
     ensures { (o : Origin) (es : List Event) → (table_of o es).over ≡ true → (table_of o es).members ≡ [] }
+{}
+
+/// An event that the table does not take changes nothing, and nobody is told of it.
+pub fn refused_event_changes_nothing()
+    ensures does_nothing { (o : Origin) (t : Table) (e : Event) → takes t e ≡ false → deed o e t ≡ becomes t }
+    ensures table { (o : Origin) (es : List Event) (e : Event) → takes (table_of o es) e ≡ false → table_of o (es ++ e ∷ []) ≡ table_of o es }
+    ensures told { (o : Origin) (es : List Event) (e : Event) (conn : ℕ) → takes (table_of o es) e ≡ false → heard o (es ++ e ∷ []) conn ≡ heard o es conn }
+    ensures sent { (o : Origin) (es : List Event) (e : Event) (conn : ℕ) → takes (table_of o es) e ≡ false → sent o (es ++ e ∷ []) conn ≡ sent o es conn }
+{}
+
+/// What a journal alone decides: the worlds of a game.
+pub fn one_journal_one_world()
+    // Two games from one start with one journal have one world at each frame.
+    ensures one { (o : Origin) (es fs : List Event) (f : ℕ) → journal_of o es ≡ journal_of o fs → world_at o (journal_of o es) f ≡ world_at o (journal_of o fs) f }
+    ensures behind { (o : Origin) (es fs : List Event) → journal_of o es ≡ journal_of o fs → (table_of o es).frame ≡ (table_of o fs).frame → world_behind o es ≡ world_behind o fs }
+    // Entries above a frame change no world up to it.
+    ensures stable { (o : Origin) (f n : ℕ) (old more : List Entry) → AreAbove (game_of o) n more → f ≤ n → world_at o (old ++ more) f ≡ world_at o old f }
+    // A world may be taken up where it was left, and then the entries above its frame are enough.
+    ensures goes_on { (o : Origin) (s k : ℕ) (journal : List Entry) → world_at o journal (s + k) ≡ folded o (world_at o journal s) s (above o s journal) k }
 {}
