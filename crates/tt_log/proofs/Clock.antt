@@ -142,7 +142,7 @@ entries-same (e ∷ es) t = entries-same es t
 abbrev stamping : Table → Table
 stamping t = record t { members = map drawn t.members; own = []; journal = t.journal ++ stamps t }
 
-stamped-same : (t : Table) → SameClock (stamping t) (stamped t).table
+pub stamped-same : (t : Table) → SameClock (stamping t) (stamped t).table
 stamped-same t = entries-same (stamps t) (stamping t)
 
 moved-if-same : (m : Option Member) (company : ℕ) (t : Table) → SameClock t (moved_if m company t).table
@@ -203,7 +203,7 @@ allowed-in : (o : Origin) (t : Table) → t.top ≤ t.frame + o.setup.frame_freq
 allowed-in o t near = raised (nat_lt t.top t.frame) o t refl near
 
 -- the steps behind the third
-later-same : (o : Origin) (t : Table) → SameClock (allowed o (counted (stamped t).table).table).table (ticked o t).table
+pub later-same : (o : Origin) (t : Table) → SameClock (allowed o (counted (stamped t).table).table).table (ticked o t).table
 later-same o t =
     let a : Table = (allowed o (counted (stamped t).table).table).table in
     let b : Table = (founders_moved o a).table in
@@ -227,7 +227,7 @@ member-same None rule t kept = record { frame = refl; top = refl; over = refl; j
 member-same (Some m) rule t kept = kept m
 
 -- an event that is no tick leaves the clock
-event-same : (o : Origin) (e : Event) (t : Table) → is_tick e ≡ false → SameClock t (by_event o e t).table
+pub event-same : (o : Origin) (e : Event) (t : Table) → is_tick e ≡ false → SameClock t (by_event o e t).table
 event-same o (Open Main peer) t other = same-then t (counted_in t) (opened o t).table (record { frame = refl; top = refl; over = refl; journal = refl }) (arrives-same (nat_le o.setup.max_clients (length t.members)) (counted_in t))
 event-same o (Open Side peer) t other = record { frame = refl; top = refl; over = refl; journal = refl }
 event-same o (Packet conn kind body) t other = member-same (member_of t conn) (heard (read_msg kind body) o) t (λ m. heard-same (read_msg kind body) o m t)

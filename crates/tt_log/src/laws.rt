@@ -3,9 +3,9 @@ ghost use Rattle.std.specs.Prelude.{◌≡◌, ℕ, [], ◌≤◌, List, ◌++�
 ghost use Rattle.tt_edge.specs.declared.event.Event.{Event};
 ghost use Rattle.tt_log.specs.Events.{deed, stepped, takes};
 ghost use Rattle.tt_log.specs.Deed.{becomes};
-ghost use Rattle.tt_log.specs.History.{journal_of, table_of, world_behind};
-ghost use Rattle.tt_log.specs.Origin.{Origin, above, folded, game_of, world_at};
-ghost use Rattle.tt_lockstep.specs.Journal.{AreAbove};
+ghost use Rattle.tt_log.specs.History.{AreFor, journal_of, table_of, world_behind};
+ghost use Rattle.tt_log.specs.Origin.{IsJournal, Origin, above, folded, game_of, world_at};
+ghost use Rattle.tt_lockstep.specs.Journal.{AreAbove, AreUpTo};
 ghost use Rattle.tt_world.specs.declared.command.Entry.{Entry};
 ghost use Rattle.tt_log.specs.Table.{Table};
 ghost use Rattle.tt_log.specs.Told.{heard, heard_from, sent};
@@ -49,4 +49,20 @@ pub fn one_journal_one_world()
     ensures stable { (o : Origin) (f n : ℕ) (old more : List Entry) → AreAbove (game_of o) n more → f ≤ n → world_at o (old ++ more) f ≡ world_at o old f }
     // A world may be taken up where it was left, and then the entries above its frame are enough.
     ensures goes_on { (o : Origin) (s k : ℕ) (journal : List Entry) → world_at o journal (s + k) ≡ folded o (world_at o journal s) s (above o s journal) k }
+{}
+
+/// How a journal grows: by entries for the frame above the one that was permitted before, so that no world changes that could be run.
+pub fn journal_rises()
+    // Its frames do not fall, and are at most the one above the permitted frame.
+    ensures rising { (o : Origin) (es : List Event) → IsJournal o (journal_of o es) }
+    ensures stamped { (o : Origin) (es : List Event) → AreUpTo (game_of o) ((table_of o es).top + 1) (journal_of o es) }
+    // An event adds entries for one frame.
+    ensures adds { (o : Origin) (es : List Event) (e : Event)
+        → (more : List Entry) × (journal_of o (es ++ e ∷ []) ≡ journal_of o es ++ more) × AreFor ((table_of o es).top + 1) more }
+    // Events add entries above every frame that was permitted before.
+    ensures grows { (o : Origin) (es fs : List Event)
+        → (more : List Entry) × (journal_of o (es ++ fs) ≡ journal_of o es ++ more) × AreAbove (game_of o) (table_of o es).top more }
+    // So a world that could be run stays as it was.
+    ensures world_stays { (o : Origin) (es fs : List Event) (f : ℕ)
+        → f ≤ (table_of o es).top → world_at o (journal_of o (es ++ fs)) f ≡ world_at o (journal_of o es) f }
 {}
