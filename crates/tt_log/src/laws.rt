@@ -1,5 +1,5 @@
 //! Laws of the definitions, for every list of events.
-ghost use Rattle.std.specs.Prelude.{◌≡◌, ℕ, [], ◌≤◌, List, ◌++◌, ◌+◌, ◌∷◌, fold, true, false};
+ghost use Rattle.std.specs.Prelude.{◌≡◌, ℕ, [], ◌≤◌, ◌<◌, List, ◌++◌, ◌+◌, ◌∷◌, fold, true, false};
 ghost use Rattle.tt_edge.specs.declared.event.Event.{Event};
 ghost use Rattle.tt_log.specs.Events.{deed, stepped, takes};
 ghost use Rattle.tt_log.specs.Deed.{becomes};
@@ -7,7 +7,7 @@ ghost use Rattle.tt_log.specs.History.{AreFor, journal_of, table_of, world_behin
 ghost use Rattle.tt_log.specs.Origin.{IsJournal, Origin, above, folded, game_of, world_at};
 ghost use Rattle.tt_lockstep.specs.Journal.{AreAbove, AreUpTo};
 ghost use Rattle.tt_world.specs.declared.command.Entry.{Entry};
-ghost use Rattle.tt_log.specs.Table.{Table};
+ghost use Rattle.tt_log.specs.Table.{Table, is_live};
 ghost use Rattle.tt_log.specs.Told.{heard, heard_from, sent};
 
 /// What is told goes on where events go on, and what was sent stays sent.
@@ -65,4 +65,11 @@ pub fn journal_rises()
     // So a world that could be run stays as it was.
     ensures world_stays { (o : Origin) (es fs : List Event) (f : ℕ)
         → f ≤ (table_of o es).top → world_at o (journal_of o (es ++ fs)) f ≡ world_at o (journal_of o es) f }
+{}
+
+/// A connection is not live before its opening, and nothing is sent to it.
+pub fn unopened_hears_nothing()
+    ensures not_live { (o : Origin) (es : List Event) (conn : ℕ) → (table_of o es).openings < conn → is_live (table_of o es) conn ≡ false }
+    ensures heard { (o : Origin) (es : List Event) (conn : ℕ) → (table_of o es).openings < conn → heard o es conn ≡ [] }
+    ensures sent { (o : Origin) (es : List Event) (conn : ℕ) → (table_of o es).openings < conn → sent o es conn ≡ [] }
 {}
