@@ -1,7 +1,8 @@
 //! Laws of the definitions, for every list of events.
-ghost use Rattle.std.specs.Prelude.{◌≡◌, ℕ, [], ◌≤◌, ◌<◌, List, ◌++◌, ◌+◌, ◌∷◌, fold, true, false};
+ghost use Rattle.std.specs.Prelude.{◌≡◌, ℕ, [], ◌≤◌, ◌<◌, List, ◌++◌, ◌+◌, ◌∷◌, ◌==◌, fold, true, false, None};
 ghost use Rattle.tt_edge.specs.declared.event.Event.{Event};
-ghost use Rattle.tt_log.specs.Events.{deed, stepped, takes};
+ghost use Rattle.tt_edge.specs.declared.event.Event.TheVariants.{Packet};
+ghost use Rattle.tt_log.specs.Events.{by_event, deed, read_msg, stepped, takes};
 ghost use Rattle.tt_log.specs.Deed.{becomes};
 ghost use Rattle.tt_log.specs.History.{AreFor, journal_of, table_of, world_behind};
 ghost use Rattle.tt_log.specs.Origin.{IsJournal, Origin, above, folded, game_of, world_at};
@@ -72,4 +73,15 @@ pub fn unopened_hears_nothing()
     ensures not_live { (o : Origin) (es : List Event) (conn : ℕ) → (table_of o es).openings < conn → is_live (table_of o es) conn ≡ false }
     ensures heard { (o : Origin) (es : List Event) (conn : ℕ) → (table_of o es).openings < conn → heard o es conn ≡ [] }
     ensures sent { (o : Origin) (es : List Event) (conn : ℕ) → (table_of o es).openings < conn → sent o es conn ≡ [] }
+{}
+
+/// A packet that spells nothing ends the member that sent it, and nobody else; the game goes on as it was.
+pub fn malformed_ends_its_own()
+    ensures frame { (o : Origin) (t : Table) (conn kind : ℕ) (body : List ℕ) → read_msg kind body ≡ None → (by_event o (Packet conn kind body) t).table.frame ≡ t.frame }
+    ensures top { (o : Origin) (t : Table) (conn kind : ℕ) (body : List ℕ) → read_msg kind body ≡ None → (by_event o (Packet conn kind body) t).table.top ≡ t.top }
+    ensures journal { (o : Origin) (t : Table) (conn kind : ℕ) (body : List ℕ) → read_msg kind body ≡ None → (by_event o (Packet conn kind body) t).table.journal ≡ t.journal }
+    ensures own { (o : Origin) (t : Table) (conn kind : ℕ) (body : List ℕ) → read_msg kind body ≡ None → (by_event o (Packet conn kind body) t).table.own ≡ t.own }
+    ensures ended { (o : Origin) (t : Table) (conn kind : ℕ) (body : List ℕ) → read_msg kind body ≡ None → is_live (by_event o (Packet conn kind body) t).table conn ≡ false }
+    ensures others_live { (o : Origin) (t : Table) (conn kind : ℕ) (body : List ℕ) (other : ℕ) → read_msg kind body ≡ None → (conn == other) ≡ false
+        → is_live (by_event o (Packet conn kind body) t).table other ≡ is_live t other }
 {}
