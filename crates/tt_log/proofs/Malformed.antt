@@ -18,7 +18,7 @@ use Rattle.tt_log.proofs.Clock.{SameClock, event-same}
 
 -- ---- the connections of the members
 
-abbrev conns : List Member → List ℕ
+abbrev pub conns : List Member → List ℕ
 conns ms = map (λ (m : Member). m.conn) ms
 
 -- the same connections have members, and the server's own list is as it was
@@ -33,7 +33,7 @@ put-conn : (b : Bool) (m n : Member) → (n.conn == m.conn) ≡ b → (cond b m 
 put-conn true m n is = sym (eqb-true n.conn m.conn is)
 put-conn false m n is = refl
 
-with-conns : (m : Member) (ms : List Member) → conns (map (λ n. cond (n.conn == m.conn) m n) ms) ≡ conns ms
+pub with-conns : (m : Member) (ms : List Member) → conns (map (λ n. cond (n.conn == m.conn) m n) ms) ≡ conns ms
 with-conns m [] = refl
 with-conns m (n ∷ ns) = ap₂ (λ (x : ℕ) (xs : List ℕ). x ∷ xs) (put-conn (n.conn == m.conn) m n refl) (with-conns m ns)
 
@@ -65,14 +65,14 @@ leaves-there o m news t =
 
 -- ---- who is live
 
-live-conns : (c : ℕ) (ms : List Member) → is_some (find (is_on c) ms) ≡ list_any (λ x. x == c) (conns ms)
+pub live-conns : (c : ℕ) (ms : List Member) → is_some (find (is_on c) ms) ≡ list_any (λ x. x == c) (conns ms)
 live-conns c [] = refl
 live-conns c (m ∷ ms) = elim (m.conn == c) as (λ b. is_some (cond b (Some m) (find (is_on c) ms)) ≡ (b || list_any (λ x. x == c) (conns ms))) [ true ↦ refl | false ↦ live-conns c ms ]
 
 same-live : (c : ℕ) (t u : Table) → SameThere t u → is_live u c ≡ is_live t c
 same-live c t u same = live-conns c u.members ∙ ap (λ (xs : List ℕ). list_any (λ x. x == c) xs) same.conns ∙ sym (live-conns c t.members)
 
-abbrev others : ℕ → List Member → List Member
+abbrev pub others : ℕ → List Member → List Member
 others conn ms = filter (λ m. not (is_on conn m)) ms
 
 gone-one : (b : Bool) (conn : ℕ) (m : Member) (ms : List Member) → is_on conn m ≡ b → is_some (find (is_on conn) ms) ≡ false → is_some (find (is_on conn) (cond (not b) (m ∷ ms) ms)) ≡ false
@@ -88,7 +88,7 @@ stays-one : (b : Bool) (conn other : ℕ) (m : Member) (left ms : List Member) �
 stays-one true conn other m left ms is apart same = let e : (m.conn == other) ≡ false = ap (λ (x : ℕ). x == other) (eqb-true m.conn conn is) ∙ apart in rw e same
 stays-one false conn other m left ms is apart same = elim (m.conn == other) as (λ b. is_some (cond b (Some m) (find (is_on other) left)) ≡ is_some (cond b (Some m) (find (is_on other) ms))) [ true ↦ refl | false ↦ same ]
 
-stays-all : (conn other : ℕ) (ms : List Member) → (conn == other) ≡ false → is_some (find (is_on other) (others conn ms)) ≡ is_some (find (is_on other) ms)
+pub stays-all : (conn other : ℕ) (ms : List Member) → (conn == other) ≡ false → is_some (find (is_on other) (others conn ms)) ≡ is_some (find (is_on other) ms)
 stays-all conn other [] apart = refl
 stays-all conn other (m ∷ ms) apart = stays-one (m.conn == conn) conn other m (others conn ms) ms refl apart (stays-all conn other ms apart)
 

@@ -85,3 +85,10 @@ pub fn malformed_ends_its_own()
     ensures others_live { (o : Origin) (t : Table) (conn kind : ℕ) (body : List ℕ) (other : ℕ) → read_msg kind body ≡ None → (conn == other) ≡ false
         → is_live (by_event o (Packet conn kind body) t).table other ≡ is_live t other }
 {}
+
+/// A connection that ended stays so, and is told no more.
+pub fn ended_stays()
+    ensures not_live { (o : Origin) (es fs : List Event) (conn : ℕ) → conn ≤ (table_of o es).openings → is_live (table_of o es) conn ≡ false → is_live (table_of o (es ++ fs)) conn ≡ false }
+    ensures heard { (o : Origin) (es fs : List Event) (conn : ℕ) → conn ≤ (table_of o es).openings → is_live (table_of o es) conn ≡ false → heard o (es ++ fs) conn ≡ heard o es conn }
+    ensures sent { (o : Origin) (es fs : List Event) (conn : ℕ) → conn ≤ (table_of o es).openings → is_live (table_of o es) conn ≡ false → sent o (es ++ fs) conn ≡ sent o es conn }
+{}
