@@ -387,11 +387,11 @@ deed-passes c o e t ne a = if-taken-passes (takes t e) c o e t ne a
 
 -- ---- what is missed is not heard
 
-any-not : (c : ℕ) (xs : List ℕ) → NotIn c xs → list_any (λ x. x == c) xs ≡ false
+pub any-not : (c : ℕ) (xs : List ℕ) → NotIn c xs → list_any (λ x. x == c) xs ≡ false
 any-not c [] a = refl
 any-not c (x ∷ xs) a = rw a.0 (any-not c xs a.1)
 
-step-missed : (c : ℕ) (to : List ℕ) (messages : List GameMsg) (more : List Telling) → NotIn c to → told_to c (map (telling to) messages ++ more) ≡ told_to c more
+pub step-missed : (c : ℕ) (to : List ℕ) (messages : List GameMsg) (more : List Telling) → NotIn c to → told_to c (map (telling to) messages ++ more) ≡ told_to c more
 step-missed c to [] more a = refl
 step-missed c to (m ∷ ms) more a = ap (λ (b : Bool). kept_if b (telling to m).said (told_to c (map (telling to) ms ++ more))) (any-not c to a) ∙ step-missed c to ms more a
 
@@ -401,7 +401,7 @@ missed c o f (s ∷ steps) a = step-missed c s.to (messages_of o f s.what) (fill
 
 -- ---- a connection that is not opened
 
-is-other-lt : (x c : ℕ) → x < c → IsOther c x
+pub is-other-lt : (x c : ℕ) → x < c → IsOther c x
 is-other-lt x c l = search (arith, l)
 
 arrives-openings : (full : Bool) (t : Table) → (arrives full t).table.openings ≡ t.openings
@@ -437,7 +437,7 @@ spares-far (Open Main peer) t = is-other-lt (t.openings + 1) (t.openings + 2) (o
 spares-far other t = tt
 
 -- every connection above the openings is apart
-abbrev KnowsOpened : Table → Type 0
+abbrev pub KnowsOpened : Table → Type 0
 KnowsOpened t = (c : ℕ) → t.openings < c → Apart c t
 
 step-rises : (o : Origin) (e : Event) (t : Table) → KnowsOpened t → t.openings ≤ (stepped o t e).openings
@@ -446,10 +446,10 @@ step-rises o e t knows = (deed-passes (t.openings + 2) o e t (λ is. spares-far 
 spares-later : (o : Origin) (e : Event) (t : Table) (c : ℕ) → (stepped o t e).openings < c → takes t e ≡ true → Spares c t e
 spares-later o e t c l is = step-openings o e t c (omega (arith, l, stepped-taken o e t is))
 
-step-passes : (o : Origin) (e : Event) (t : Table) (c : ℕ) → KnowsOpened t → (stepped o t e).openings < c → Passes c t (deed o e t)
+pub step-passes : (o : Origin) (e : Event) (t : Table) (c : ℕ) → KnowsOpened t → (stepped o t e).openings < c → Passes c t (deed o e t)
 step-passes o e t c knows l = deed-passes c o e t (λ is. spares-later o e t c l is) (knows c (omega (arith, l, step-rises o e t knows)))
 
-step-knows : (o : Origin) (e : Event) (t : Table) → KnowsOpened t → KnowsOpened (stepped o t e)
+pub step-knows : (o : Origin) (e : Event) (t : Table) → KnowsOpened t → KnowsOpened (stepped o t e)
 step-knows o e t knows = λ c l. (step-passes o e t c knows l).apart
 
 from-openings : (o : Origin) (es : List Event) (t : Table) → KnowsOpened t → t.openings ≤ (fold (stepped o) t es).openings

@@ -128,12 +128,12 @@ KeepsBy c p d = Keeps c p d.table.members d.table.queue d.told
 abbrev pub GoesBy : ℕ → Phase → Deed → Type 0
 GoesBy c p d = Goes c p d.table.members d.table.queue d.told
 
-later-self : (p : Phase) → Later p p
+pub later-self : (p : Phase) → Later p p
 later-self Early = tt
 later-self Queued = tt
 later-self InGame = tt
 
-later-then : (p q r : Phase) → Later p q → Later q r → Later p r
+pub later-then : (p q r : Phase) → Later p q → Later q r → Later p r
 later-then Early q r a b = tt
 later-then Queued Early r a b = absurd a
 later-then Queued Queued r a b = b
@@ -144,12 +144,12 @@ later-then InGame Early r a b = absurd a
 later-then InGame Queued r a b = absurd a
 later-then InGame InGame r a b = b
 
-while-all : (p : Phase) (c : ℕ) (steps : List Step) → AllQuiet c steps → WhileQuiet p c steps
+pub while-all : (p : Phase) (c : ℕ) (steps : List Step) → AllQuiet c steps → WhileQuiet p c steps
 while-all Early c steps a = a
 while-all Queued c steps a = a
 while-all InGame c steps a = tt
 
-while-then : (p q : Phase) (c : ℕ) (xs ys : List Step) → Later p q → WhileQuiet p c xs → WhileQuiet q c ys → WhileQuiet q c (xs ++ ys)
+pub while-then : (p q : Phase) (c : ℕ) (xs ys : List Step) → Later p q → WhileQuiet p c xs → WhileQuiet q c ys → WhileQuiet q c (xs ++ ys)
 while-then Early Early c xs ys l a b = all-append (Quiet c) xs ys a b
 while-then Early Queued c xs ys l a b = all-append (Quiet c) xs ys a b
 while-then Early InGame c xs ys l a b = tt
@@ -160,10 +160,10 @@ while-then InGame Early c xs ys l a b = absurd l
 while-then InGame Queued c xs ys l a b = absurd l
 while-then InGame InGame c xs ys l a b = tt
 
-goes-kept : (c : ℕ) (p : Phase) (d : Deed) → KeepsBy c p d → GoesBy c p d
+pub goes-kept : (c : ℕ) (p : Phase) (d : Deed) → KeepsBy c p d → GoesBy c p d
 goes-kept c p d k = record { to = p; later = later-self p; holds = k.holds; quiet = while-all p c d.told k.quiet }
 
-then-keeps : (c : ℕ) (p : Phase) (d : Deed) (rule : Table → Deed) → KeepsBy c p d → (Has c p d.table → KeepsBy c p (rule d.table)) → KeepsBy c p (d ▹ rule)
+pub then-keeps : (c : ℕ) (p : Phase) (d : Deed) (rule : Table → Deed) → KeepsBy c p d → (Has c p d.table → KeepsBy c p (rule d.table)) → KeepsBy c p (d ▹ rule)
 then-keeps c p d rule a b =
     let next : KeepsBy c p (rule d.table) = b a.holds in
     record { holds = next.holds; quiet = all-append (Quiet c) d.told (rule d.table).told a.quiet next.quiet }
@@ -174,195 +174,195 @@ then-goes c p d rule a b =
     record { to = next.to; later = later-then p a.to next.to a.later next.later; holds = next.holds; quiet = while-then a.to next.to c d.told (rule d.table).told next.later a.quiet next.quiet }
 
 -- a deed that keeps, and a rule that goes on from the same phase
-kept-goes : (c : ℕ) (p : Phase) (d : Deed) (rule : Table → Deed) → KeepsBy c p d → (Has c p d.table → GoesBy c p (rule d.table)) → GoesBy c p (d ▹ rule)
+pub kept-goes : (c : ℕ) (p : Phase) (d : Deed) (rule : Table → Deed) → KeepsBy c p d → (Has c p d.table → GoesBy c p (rule d.table)) → GoesBy c p (d ▹ rule)
 kept-goes c p d rule a b =
     let next : GoesBy c p (rule d.table) = b a.holds in
     record { to = next.to; later = next.later; holds = next.holds; quiet = while-then p next.to c d.told (rule d.table).told next.later (while-all p c d.told a.quiet) next.quiet }
 
-still-keeps : (c : ℕ) (p : Phase) (t : Table) → Has c p t → KeepsBy c p (becomes t)
+pub still-keeps : (c : ℕ) (p : Phase) (t : Table) → Has c p t → KeepsBy c p (becomes t)
 still-keeps c p t h = record { holds = h; quiet = tt }
 
-where-keeps : (c : ℕ) (p : Phase) (b : Bool) (rule : Table → Deed) (t : Table) → Has c p t → (b ≡ true → KeepsBy c p (rule t)) → KeepsBy c p (where_ b rule t)
+pub where-keeps : (c : ℕ) (p : Phase) (b : Bool) (rule : Table → Deed) (t : Table) → Has c p t → (b ≡ true → KeepsBy c p (rule t)) → KeepsBy c p (where_ b rule t)
 where-keeps c p true rule t h k = k refl
 where-keeps c p false rule t h k = still-keeps c p t h
 
-where-goes : (c : ℕ) (p : Phase) (b : Bool) (rule : Table → Deed) (t : Table) → Has c p t → GoesBy c p (rule t) → GoesBy c p (where_ b rule t)
+pub where-goes : (c : ℕ) (p : Phase) (b : Bool) (rule : Table → Deed) (t : Table) → Has c p t → GoesBy c p (rule t) → GoesBy c p (where_ b rule t)
 where-goes c p true rule t h k = k
 where-goes c p false rule t h k = goes-kept c p (becomes t) (still-keeps c p t h)
 
 -- what is no command is quiet
-quiet-what : (c : ℕ) (to : List ℕ) (w : What) → is_command w ≡ false → (is_command w && list_any (λ x. x == c) to) ≡ false
+pub quiet-what : (c : ℕ) (to : List ℕ) (w : What) → is_command w ≡ false → (is_command w && list_any (λ x. x == c) to) ≡ false
 quiet-what c to w is = rw is refl
 
-says-keeps : (c : ℕ) (p : Phase) (to : List ℕ) (w : What) (t : Table) → is_command w ≡ false → Has c p t → KeepsBy c p (tells_what to w t)
+pub says-keeps : (c : ℕ) (p : Phase) (to : List ℕ) (w : What) (t : Table) → is_command w ≡ false → Has c p t → KeepsBy c p (tells_what to w t)
 says-keeps c p to w t is h = record { holds = h; quiet = (quiet-what c to w is, tt) }
 
 -- ---- a changed member
 
-place-live : (p : Phase) (c : ℕ) (q xs ys : List ℕ) → list_any (λ x. x == c) ys ≡ list_any (λ x. x == c) xs → Place p c q xs → Place p c q ys
+pub place-live : (p : Phase) (c : ℕ) (q xs ys : List ℕ) → list_any (λ x. x == c) ys ≡ list_any (λ x. x == c) xs → Place p c q xs → Place p c q ys
 place-live Early c q xs ys e h = h
 place-live Queued c q xs ys e h = (h.0, e ∙ h.1)
 place-live InGame c q xs ys e h = h
 
-put-all : (c : ℕ) (p : Phase) (n : Member) (ms : List Member) → Suits c p n → AllByRecursion (Suits c p) ms → AllByRecursion (Suits c p) (map (λ x. cond (x.conn == n.conn) n x) ms)
+pub put-all : (c : ℕ) (p : Phase) (n : Member) (ms : List Member) → Suits c p n → AllByRecursion (Suits c p) ms → AllByRecursion (Suits c p) (map (λ x. cond (x.conn == n.conn) n x) ms)
 put-all c p n [] s a = tt
 put-all c p n (x ∷ xs) s a = (elim (x.conn == n.conn) as (λ b. Suits c p (cond b n x)) [ true ↦ s | false ↦ a.0 ], put-all c p n xs s a.1)
 
-any-with : (c : ℕ) (n : Member) (ms : List Member) → list_any (λ x. x == c) (conns (map (λ x. cond (x.conn == n.conn) n x) ms)) ≡ list_any (λ x. x == c) (conns ms)
+pub any-with : (c : ℕ) (n : Member) (ms : List Member) → list_any (λ x. x == c) (conns (map (λ x. cond (x.conn == n.conn) n x) ms)) ≡ list_any (λ x. x == c) (conns ms)
 any-with c n ms = ap (λ (xs : List ℕ). list_any (λ x. x == c) xs) (with-conns n ms)
 
-put : (c : ℕ) (p : Phase) (n : Member) (t : Table) → Suits c p n → Has c p t → Has c p (with_member n t)
+pub put : (c : ℕ) (p : Phase) (n : Member) (t : Table) → Suits c p n → Has c p t → Has c p (with_member n t)
 put c p n t s h = record { suits = put-all c p n t.members s h.suits; place = place-live p c t.queue (conns t.members) (conns (with_member n t).members) (any-with c n t.members) h.place }
 
-put-own-one : (b : Bool) (c : ℕ) (p : Phase) (n x : Member) → (x.conn == n.conn) ≡ b → (n.conn == c) ≡ true → fits p (rank n.status) → Suits c p (cond b n x)
+pub put-own-one : (b : Bool) (c : ℕ) (p : Phase) (n x : Member) → (x.conn == n.conn) ≡ b → (n.conn == c) ≡ true → fits p (rank n.status) → Suits c p (cond b n x)
 put-own-one true c p n x is own fit = λ same. fit
 put-own-one false c p n x is own fit = λ same. absurd (eqb-false x.conn n.conn is (eqb-true x.conn c same ∙ sym (eqb-true n.conn c own)))
 
 -- the member on the connection itself is brought further
-put-own : (c : ℕ) (p : Phase) (n : Member) (ms : List Member) → (n.conn == c) ≡ true → fits p (rank n.status) → AllByRecursion (Suits c p) (map (λ x. cond (x.conn == n.conn) n x) ms)
+pub put-own : (c : ℕ) (p : Phase) (n : Member) (ms : List Member) → (n.conn == c) ≡ true → fits p (rank n.status) → AllByRecursion (Suits c p) (map (λ x. cond (x.conn == n.conn) n x) ms)
 put-own c p n [] own fit = tt
 put-own c p n (x ∷ xs) own fit = (put-own-one (x.conn == n.conn) c p n x refl own fit, put-own c p n xs own fit)
 
 -- ---- ranks within a phase
 
-early-stays : (p : Phase) (r s : ℕ) → r ≤ 4 → s ≤ 4 → fits p r → fits p s
+pub early-stays : (p : Phase) (r s : ℕ) → r ≤ 4 → s ≤ 4 → fits p r → fits p s
 early-stays Early r s a b f = b
 early-stays Queued r s a b f = let low : 5 ≤ r = f.0 in absurd (omega (arith, a, low))
 early-stays InGame r s a b f = absurd (omega (arith, a, f))
 
-queued-stays : (p : Phase) (r s : ℕ) → 5 ≤ r → r ≤ 7 → 5 ≤ s → s ≤ 7 → fits p r → fits p s
+pub queued-stays : (p : Phase) (r s : ℕ) → 5 ≤ r → r ≤ 7 → 5 ≤ s → s ≤ 7 → fits p r → fits p s
 queued-stays Early r s a b l h f = absurd (omega (arith, a, f))
 queued-stays Queued r s a b l h f = (l, h)
 queued-stays InGame r s a b l h f = absurd (omega (arith, b, f))
 
-playing-stays : (p : Phase) (r s : ℕ) → 8 ≤ r → 8 ≤ s → fits p r → fits p s
+pub playing-stays : (p : Phase) (r s : ℕ) → 8 ≤ r → 8 ≤ s → fits p r → fits p s
 playing-stays Early r s a b f = absurd (omega (arith, a, f))
 playing-stays Queued r s a b f = let high : r ≤ 7 = f.1 in absurd (omega (arith, a, high))
 playing-stays InGame r s a b f = b
 
-queued-fits : (p : Phase) (r : ℕ) → 5 ≤ r → r ≤ 7 → p ≡ Queued → fits p r
+pub queued-fits : (p : Phase) (r : ℕ) → 5 ≤ r → r ≤ 7 → p ≡ Queued → fits p r
 queued-fits Early r a b is = absurd cc
 queued-fits Queued r a b is = (a, b)
 queued-fits InGame r a b is = absurd cc
 
 -- ---- what is found
 
-abbrev AllOption : (Member → Type 0) → Option Member → Type 0
+abbrev pub AllOption : (Member → Type 0) → Option Member → Type 0
 AllOption P None = Unit
 AllOption P (Some m) = P m
 
-found-all : (P : Member → Type 0) (test : Member → Bool) (ms : List Member) → AllByRecursion P ms → AllOption P (find test ms)
+pub found-all : (P : Member → Type 0) (test : Member → Bool) (ms : List Member) → AllByRecursion P ms → AllOption P (find test ms)
 found-all P test [] a = tt
 found-all P test (m ∷ ms) a = elim (test m) as (λ b. AllOption P (cond b (Some m) (find test ms))) [ true ↦ a.0 | false ↦ found-all P test ms a.1 ]
 
-passed-one : (b : Bool) (test : Member → Bool) (m : Member) (x : Option Member) → test m ≡ b → AllOption (λ n. test n ≡ true) x → AllOption (λ n. test n ≡ true) (cond b (Some m) x)
+pub passed-one : (b : Bool) (test : Member → Bool) (m : Member) (x : Option Member) → test m ≡ b → AllOption (λ n. test n ≡ true) x → AllOption (λ n. test n ≡ true) (cond b (Some m) x)
 passed-one true test m x is a = is
 passed-one false test m x is a = a
 
-found-passes : (test : Member → Bool) (ms : List Member) → AllOption (λ n. test n ≡ true) (find test ms)
+pub found-passes : (test : Member → Bool) (ms : List Member) → AllOption (λ n. test n ≡ true) (find test ms)
 found-passes test [] = tt
 found-passes test (m ∷ ms) = passed-one (test m) test m (find test ms) refl (found-passes test ms)
 
 -- ---- the queue
 
 -- without the first one of a connection
-abbrev removed : ℕ → List ℕ → List ℕ
+abbrev pub removed : ℕ → List ℕ → List ℕ
 removed x [] = []
 removed x (y ∷ ys) = cond (y == x) ys (y ∷ removed x ys)
 
-abbrev place_in : ℕ → List ℕ → ℕ
+abbrev pub place_in : ℕ → List ℕ → ℕ
 place_in x q = position_or_len (λ y. y == x) q
 
-one-on : (k y : ℕ) (ys : List ℕ) → take (1 + k) (y ∷ ys) ++ drop (1 + k + 1) (y ∷ ys) ≡ y ∷ (take k ys ++ drop (k + 1) ys)
+pub one-on : (k y : ℕ) (ys : List ℕ) → take (1 + k) (y ∷ ys) ++ drop (1 + k + 1) (y ∷ ys) ≡ y ∷ (take k ys ++ drop (k + 1) ys)
 one-on k y ys =
     let e : 1 + k ≡ suc k = omega arith in
     let f : 1 + k + 1 ≡ suc (k + 1) = omega arith in
     ap₂ (λ (i j : ℕ). take i (y ∷ ys) ++ drop j (y ∷ ys)) e f
 
-removed-is : (x : ℕ) (q : List ℕ) → take (place_in x q) q ++ drop (place_in x q + 1) q ≡ removed x q
+pub removed-is : (x : ℕ) (q : List ℕ) → take (place_in x q) q ++ drop (place_in x q + 1) q ≡ removed x q
 removed-is x [] = refl
 removed-is x (y ∷ ys) = elim (y == x) as (λ b. take (cond (not b) (1 + place_in x ys) 0) (y ∷ ys) ++ drop (cond (not b) (1 + place_in x ys) 0 + 1) (y ∷ ys) ≡ cond b ys (y ∷ removed x ys))
     [ true ↦ refl | false ↦ one-on (place_in x ys) y ys ∙ ap (λ (zs : List ℕ). y ∷ zs) (removed-is x ys) ]
 
-once-one : (b : Bool) (c x y : ℕ) (ys : List ℕ) → (y == x) ≡ b → (x == c) ≡ false → OnceIn c (y ∷ ys) → (OnceIn c ys → OnceIn c (removed x ys)) → (NotIn c ys → NotIn c (removed x ys)) → OnceIn c (cond b ys (y ∷ removed x ys))
+pub once-one : (b : Bool) (c x y : ℕ) (ys : List ℕ) → (y == x) ≡ b → (x == c) ≡ false → OnceIn c (y ∷ ys) → (OnceIn c ys → OnceIn c (removed x ys)) → (NotIn c ys → NotIn c (removed x ys)) → OnceIn c (cond b ys (y ∷ removed x ys))
 once-one true c x y ys is apart (inl own) next none = let e : (y == c) ≡ false = ap (λ (z : ℕ). z == c) (eqb-true y x is) ∙ apart in absurd cc
 once-one true c x y ys is apart (inr other) next none = other.1
 once-one false c x y ys is apart (inl own) next none = inl (own.0, none own.1)
 once-one false c x y ys is apart (inr other) next none = inr (other.0, next other.1)
 
-none-removed : (c x : ℕ) (ys : List ℕ) → NotIn c ys → NotIn c (removed x ys)
+pub none-removed : (c x : ℕ) (ys : List ℕ) → NotIn c ys → NotIn c (removed x ys)
 none-removed c x [] a = tt
 none-removed c x (y ∷ ys) a = elim (y == x) as (λ b. NotIn c (cond b ys (y ∷ removed x ys))) [ true ↦ a.1 | false ↦ (a.0, none-removed c x ys a.1) ]
 
-once-removed : (c x : ℕ) (ys : List ℕ) → (x == c) ≡ false → OnceIn c ys → OnceIn c (removed x ys)
+pub once-removed : (c x : ℕ) (ys : List ℕ) → (x == c) ≡ false → OnceIn c ys → OnceIn c (removed x ys)
 once-removed c x [] apart a = a
 once-removed c x (y ∷ ys) apart a = once-one (y == x) c x y ys refl apart a (λ b. once-removed c x ys apart b) (λ b. none-removed c x ys b)
 
-own-one : (b : Bool) (c y : ℕ) (ys : List ℕ) → (y == c) ≡ b → OnceIn c (y ∷ ys) → (OnceIn c ys → NotIn c (removed c ys)) → NotIn c (cond b ys (y ∷ removed c ys))
+pub own-one : (b : Bool) (c y : ℕ) (ys : List ℕ) → (y == c) ≡ b → OnceIn c (y ∷ ys) → (OnceIn c ys → NotIn c (removed c ys)) → NotIn c (cond b ys (y ∷ removed c ys))
 own-one true c y ys is (inl own) next = own.1
 own-one true c y ys is (inr other) next = absurd cc
 own-one false c y ys is (inl own) next = absurd cc
 own-one false c y ys is (inr other) next = (is, next other.1)
 
-own-removed : (c : ℕ) (ys : List ℕ) → OnceIn c ys → NotIn c (removed c ys)
+pub own-removed : (c : ℕ) (ys : List ℕ) → OnceIn c ys → NotIn c (removed c ys)
 own-removed c [] a = absurd a
 own-removed c (y ∷ ys) a = own-one (y == c) c y ys refl a (λ b. own-removed c ys b)
 
-within-one : (b : Bool) (c y k n : ℕ) (ys : List ℕ) → (y == c) ≡ b → OnceIn c (y ∷ ys) → (OnceIn c ys → k < n) → cond (not b) (1 + k) 0 < suc n
+pub within-one : (b : Bool) (c y k n : ℕ) (ys : List ℕ) → (y == c) ≡ b → OnceIn c (y ∷ ys) → (OnceIn c ys → k < n) → cond (not b) (1 + k) 0 < suc n
 within-one true c y k n ys is a next = omega arith
 within-one false c y k n ys is (inl own) next = absurd cc
 within-one false c y k n ys is (inr other) next = let l : k < n = next other.1 in omega (arith, l)
 
-once-within : (c : ℕ) (q : List ℕ) → OnceIn c q → place_in c q < length q
+pub once-within : (c : ℕ) (q : List ℕ) → OnceIn c q → place_in c q < length q
 once-within c [] a = absurd a
 once-within c (y ∷ ys) a = within-one (y == c) c y (place_in c ys) (length ys) ys refl a (λ b. once-within c ys b)
 
 -- those that move up wait or download
-abbrev MayMove : ℕ → Phase → ℕ → Type 0
+abbrev pub MayMove : ℕ → Phase → ℕ → Type 0
 MayMove c p x = (x == c) ≡ true → p ≡ Queued
 
-changed-holds : (c conn : ℕ) (p : Phase) (m : Option Member) (t : Table) → MayMove c p conn → member_of t conn ≡ m → Has c p t → Has c p (changed m (downloading t) t)
+pub changed-holds : (c conn : ℕ) (p : Phase) (m : Option Member) (t : Table) → MayMove c p conn → member_of t conn ≡ m → Has c p t → Has c p (changed m (downloading t) t)
 changed-holds c conn p None t may is h = h
 changed-holds c conn p (Some m) t may is h = put c p (downloading t m) t (λ own. queued-fits p 6 (omega arith) (omega arith) (may (ap (λ (x : ℕ). x == c) (sym (found-on conn t.members m is)) ∙ own))) h
 
-begins-keeps : (c : ℕ) (p : Phase) (o : Origin) (conn : ℕ) (t : Table) → MayMove c p conn → Has c p t → KeepsBy c p (begins o conn t)
+pub begins-keeps : (c : ℕ) (p : Phase) (o : Origin) (conn : ℕ) (t : Table) → MayMove c p conn → Has c p t → KeepsBy c p (begins o conn t)
 begins-keeps c p o conn t may h = record { holds = changed-holds c conn p (member_of t conn) t may refl h; quiet = (refl, tt) }
 
-moved-keeps : (c : ℕ) (p : Phase) (o : Origin) (place : ℕ) (xs : List ℕ) (t : Table) → AllByRecursion (MayMove c p) xs → Has c p t → KeepsBy c p (moved_up o place xs t)
+pub moved-keeps : (c : ℕ) (p : Phase) (o : Origin) (place : ℕ) (xs : List ℕ) (t : Table) → AllByRecursion (MayMove c p) xs → Has c p t → KeepsBy c p (moved_up o place xs t)
 moved-keeps c p o place [] t may h = still-keeps c p t h
 moved-keeps c p o zero (x ∷ xs) t may h = then-keeps c p (begins o x t) (moved_up o 1 xs) (begins-keeps c p o x t may.0 h) (λ b. moved-keeps c p o 1 xs (begins o x t).table may.1 b)
 moved-keeps c p o (suc place) (x ∷ xs) t may h = then-keeps c p (waits x (suc place) t) (moved_up o (suc (suc place)) xs) (record { holds = h; quiet = (refl, tt) }) (λ b. moved-keeps c p o (suc (suc place)) xs t may.1 b)
 
-none-moves : (c : ℕ) (p : Phase) (xs : List ℕ) → NotIn c xs → AllByRecursion (MayMove c p) xs
+pub none-moves : (c : ℕ) (p : Phase) (xs : List ℕ) → NotIn c xs → AllByRecursion (MayMove c p) xs
 none-moves c p [] a = tt
 none-moves c p (x ∷ xs) a = let e : (x == c) ≡ false = a.0 in (λ own. absurd cc, none-moves c p xs a.1)
 
-all-move : (c : ℕ) (xs : List ℕ) → AllByRecursion (MayMove c Queued) xs
+pub all-move : (c : ℕ) (xs : List ℕ) → AllByRecursion (MayMove c Queued) xs
 all-move c [] = tt
 all-move c (x ∷ xs) = (λ own. refl, all-move c xs)
 
-moves-behind : (p : Phase) (c n : ℕ) (q xs : List ℕ) → Place p c q xs → AllByRecursion (MayMove c p) (drop n q)
+pub moves-behind : (p : Phase) (c n : ℕ) (q xs : List ℕ) → Place p c q xs → AllByRecursion (MayMove c p) (drop n q)
 moves-behind Early c n q xs h = none-moves c Early (drop n q) (all-drop (IsOther c) n q h)
 moves-behind Queued c n q xs h = all-move c (drop n q)
 moves-behind InGame c n q xs h = none-moves c InGame (drop n q) (all-drop (IsOther c) n q h)
 
 -- another one leaves the queue
-place-removed : (p : Phase) (c x : ℕ) (q xs : List ℕ) → (x == c) ≡ false → Place p c q xs → Place p c (removed x q) xs
+pub place-removed : (p : Phase) (c x : ℕ) (q xs : List ℕ) → (x == c) ≡ false → Place p c q xs → Place p c (removed x q) xs
 place-removed Early c x q xs apart h = none-removed c x q h
 place-removed Queued c x q xs apart h = (once-removed c x q apart h.0, h.1)
 place-removed InGame c x q xs apart h = none-removed c x q h
 
-place-cut : (p : Phase) (c x : ℕ) (q xs : List ℕ) → (x == c) ≡ false → Place p c q xs → Place p c (take (place_in x q) q ++ drop (place_in x q + 1) q) xs
+pub place-cut : (p : Phase) (c x : ℕ) (q xs : List ℕ) → (x == c) ≡ false → Place p c q xs → Place p c (take (place_in x q) q ++ drop (place_in x q + 1) q) xs
 place-cut p c x q xs apart h = rw (removed-is x q) (place-removed p c x q xs apart h)
 
-left-keeps : (b : Bool) (c x : ℕ) (p : Phase) (o : Origin) (t : Table) → (x == c) ≡ false → Has c p t → KeepsBy c p (left_place o (cond b (Some (place_in x t.queue)) None) t)
+pub left-keeps : (b : Bool) (c x : ℕ) (p : Phase) (o : Origin) (t : Table) → (x == c) ≡ false → Has c p t → KeepsBy c p (left_place o (cond b (Some (place_in x t.queue)) None) t)
 left-keeps true c x p o t apart h =
     let u : Table = record t { queue = take (place_in x t.queue) t.queue ++ drop (place_in x t.queue + 1) t.queue } in
     moved-keeps c p o (place_in x t.queue) (drop (place_in x t.queue + 1) t.queue) u (moves-behind p c (place_in x t.queue + 1) t.queue (conns t.members) h.place)
     (record { suits = h.suits; place = place-cut p c x t.queue (conns t.members) apart h.place })
 left-keeps false c x p o t apart h = still-keeps c p t h
 
-leaves-queue-keeps : (c x : ℕ) (p : Phase) (o : Origin) (t : Table) → (x == c) ≡ false → Has c p t → KeepsBy c p (leaves_queue o x t)
+pub leaves-queue-keeps : (c x : ℕ) (p : Phase) (o : Origin) (t : Table) → (x == c) ≡ false → Has c p t → KeepsBy c p (leaves_queue o x t)
 leaves-queue-keeps c x p o t apart h = left-keeps (nat_lt (place_in x t.queue) (length t.queue)) c x p o t apart h
 
 -- the connection itself leaves the queue, once its member plays or is gone
@@ -370,19 +370,19 @@ pub record Cut (c : ℕ) (ms : List Member) (q : List ℕ) : Type 0 where
   pub suits : AllByRecursion (Suits c InGame) ms
   pub once : OnceIn c q ⊎ NotIn c q
 
-cut-none : (c : ℕ) (q : List ℕ) → OnceIn c q ⊎ NotIn c q → NotIn c (removed c q)
+pub cut-none : (c : ℕ) (q : List ℕ) → OnceIn c q ⊎ NotIn c q → NotIn c (removed c q)
 cut-none c q (inl once) = own-removed c q once
 cut-none c q (inr none) = none-removed c c q none
 
-none-behind : (c : ℕ) (xs ys : List ℕ) → NotIn c (xs ++ ys) → NotIn c ys
+pub none-behind : (c : ℕ) (xs ys : List ℕ) → NotIn c (xs ++ ys) → NotIn c ys
 none-behind c [] ys a = a
 none-behind c (x ∷ xs) ys a = none-behind c xs ys a.1
 
-not-found : (c : ℕ) (q : List ℕ) → nat_lt (place_in c q) (length q) ≡ false → OnceIn c q ⊎ NotIn c q → NotIn c q
+pub not-found : (c : ℕ) (q : List ℕ) → nat_lt (place_in c q) (length q) ≡ false → OnceIn c q ⊎ NotIn c q → NotIn c q
 not-found c q is (inl once) = let l : place_in c q < length q = once-within c q once in let m : length q ≤ place_in c q = ltb-false (place_in c q) (length q) is in absurd (omega (arith, l, m))
 not-found c q is (inr none) = none
 
-left-cut : (b : Bool) (c : ℕ) (o : Origin) (t : Table) → nat_lt (place_in c t.queue) (length t.queue) ≡ b → Cut c t.members t.queue → Has c InGame (left_place o (cond b (Some (place_in c t.queue)) None) t).table
+pub left-cut : (b : Bool) (c : ℕ) (o : Origin) (t : Table) → nat_lt (place_in c t.queue) (length t.queue) ≡ b → Cut c t.members t.queue → Has c InGame (left_place o (cond b (Some (place_in c t.queue)) None) t).table
 left-cut true c o t is cut =
     let u : Table = record t { queue = take (place_in c t.queue) t.queue ++ drop (place_in c t.queue + 1) t.queue } in
     let none : NotIn c u.queue = rw (removed-is c t.queue) (cut-none c t.queue cut.once) in
@@ -391,46 +391,46 @@ left-cut true c o t is cut =
         (record { suits = cut.suits; place = none })).holds
 left-cut false c o t is cut = record { suits = cut.suits; place = not-found c t.queue is cut.once }
 
-own-leaves : (c : ℕ) (o : Origin) (t : Table) → Cut c t.members t.queue → Has c InGame (leaves_queue o c t).table
+pub own-leaves : (c : ℕ) (o : Origin) (t : Table) → Cut c t.members t.queue → Has c InGame (leaves_queue o c t).table
 own-leaves c o t cut = left-cut (nat_lt (place_in c t.queue) (length t.queue)) c o t refl cut
 
-leaves-queue-cut : (c x : ℕ) (o : Origin) (t : Table) → x ≡ c → Cut c t.members t.queue → Has c InGame (leaves_queue o x t).table
+pub leaves-queue-cut : (c x : ℕ) (o : Origin) (t : Table) → x ≡ c → Cut c t.members t.queue → Has c InGame (leaves_queue o x t).table
 leaves-queue-cut c x o t same cut = rw same (own-leaves c o t cut)
 
-place-once : (p : Phase) (c : ℕ) (q xs : List ℕ) → Place p c q xs → OnceIn c q ⊎ NotIn c q
+pub place-once : (p : Phase) (c : ℕ) (q xs : List ℕ) → Place p c q xs → OnceIn c q ⊎ NotIn c q
 place-once Early c q xs h = inr h
 place-once Queued c q xs h = inl h.0
 place-once InGame c q xs h = inr h
 
-later-end : (p : Phase) → Later p InGame
+pub later-end : (p : Phase) → Later p InGame
 later-end Early = tt
 later-end Queued = tt
 later-end InGame = tt
 
 -- ---- ends
 
-news-quiet : (c : ℕ) (p : Phase) (news : GameMsg) (t : Table) → is_entry (game news) ≡ false → Has c p t → KeepsBy c p (tells_playing news t)
+pub news-quiet : (c : ℕ) (p : Phase) (news : GameMsg) (t : Table) → is_entry (game news) ≡ false → Has c p t → KeepsBy c p (tells_playing news t)
 news-quiet c p news t is h = says-keeps c p (playing t) (msg news) t is h
 
-any-others : (c x : ℕ) (ms : List Member) → (x == c) ≡ false → list_any (λ y. y == c) (conns (others x ms)) ≡ list_any (λ y. y == c) (conns ms)
+pub any-others : (c x : ℕ) (ms : List Member) → (x == c) ≡ false → list_any (λ y. y == c) (conns (others x ms)) ≡ list_any (λ y. y == c) (conns ms)
 any-others c x ms apart = sym (live-conns c (others x ms)) ∙ stays-all x c ms apart ∙ live-conns c ms
 
-without-holds : (c x : ℕ) (p : Phase) (t : Table) → (x == c) ≡ false → Has c p t → Has c p (without_member x t)
+pub without-holds : (c x : ℕ) (p : Phase) (t : Table) → (x == c) ≡ false → Has c p t → Has c p (without_member x t)
 without-holds c x p t apart h = record { suits = all-filter (Suits c p) (λ m. not (is_on x m)) t.members h.suits; place = place-live p c t.queue (conns t.members) (conns (others x t.members)) (any-others c x t.members apart) h.place }
 
-gone-suits-one : (b : Bool) (c x : ℕ) (m : Member) (ms : List Member) → (m.conn == x) ≡ b → x ≡ c → AllByRecursion (Suits c InGame) ms → AllByRecursion (Suits c InGame) (cond (not b) (m ∷ ms) ms)
+pub gone-suits-one : (b : Bool) (c x : ℕ) (m : Member) (ms : List Member) → (m.conn == x) ≡ b → x ≡ c → AllByRecursion (Suits c InGame) ms → AllByRecursion (Suits c InGame) (cond (not b) (m ∷ ms) ms)
 gone-suits-one true c x m ms is same a = a
 gone-suits-one false c x m ms is same a = (λ own. absurd (eqb-false m.conn x is (eqb-true m.conn c own ∙ sym same)), a)
 
-gone-suits : (c x : ℕ) (ms : List Member) → x ≡ c → AllByRecursion (Suits c InGame) (others x ms)
+pub gone-suits : (c x : ℕ) (ms : List Member) → x ≡ c → AllByRecursion (Suits c InGame) (others x ms)
 gone-suits c x [] same = tt
 gone-suits c x (m ∷ ms) same = gone-suits-one (m.conn == x) c x m (others x ms) refl same (gone-suits c x ms same)
 
-where-cut : (b : Bool) (c : ℕ) (news : GameMsg) (t : Table) → Cut c t.members t.queue → Cut c (where_ b (tells_playing news) t).table.members (where_ b (tells_playing news) t).table.queue
+pub where-cut : (b : Bool) (c : ℕ) (news : GameMsg) (t : Table) → Cut c t.members t.queue → Cut c (where_ b (tells_playing news) t).table.members (where_ b (tells_playing news) t).table.queue
 where-cut true c news t cut = cut
 where-cut false c news t cut = cut
 
-leaves-by : (b : Bool) (c : ℕ) (p : Phase) (o : Origin) (m : Member) (news : GameMsg) (t : Table) → (m.conn == c) ≡ b → is_entry (game news) ≡ false → Has c p t → GoesBy c p (leaves o m news t)
+pub leaves-by : (b : Bool) (c : ℕ) (p : Phase) (o : Origin) (m : Member) (news : GameMsg) (t : Table) → (m.conn == c) ≡ b → is_entry (game news) ≡ false → Has c p t → GoesBy c p (leaves o m news t)
 leaves-by true c p o m news t is quiet h =
     let u : Table = without_member m.conn t in
     let v : Table = (where_ (is_welcomed m) (tells_playing news) u).table in
@@ -444,7 +444,7 @@ leaves-by false c p o m news t is quiet h =
         (λ b. where-keeps c p (is_welcomed m) (tells_playing news) u b (λ yes. news-quiet c p news u quiet b)) in
     goes-kept c p (leaves o m news t) (then-keeps c p d (leaves_queue o m.conn) k (λ b. leaves-queue-keeps c m.conn p o d.table is b))
 
-leaves-goes : (c : ℕ) (p : Phase) (o : Origin) (m : Member) (news : GameMsg) (t : Table) → is_entry (game news) ≡ false → Has c p t → GoesBy c p (leaves o m news t)
+pub leaves-goes : (c : ℕ) (p : Phase) (o : Origin) (m : Member) (news : GameMsg) (t : Table) → is_entry (game news) ≡ false → Has c p t → GoesBy c p (leaves o m news t)
 leaves-goes c p o m news t quiet h = leaves-by (m.conn == c) c p o m news t refl quiet h
 
 pub ends-goes : (c : ℕ) (p : Phase) (o : Origin) (m : Member) (code : ℕ) (t : Table) → Has c p t → GoesBy c p (ends o m code t)
