@@ -45,26 +45,26 @@ use Rattle.tt_log.proofs.Phases.{Phase, Early, Queued, InGame, fits, Suits, Once
 
 -- ---- packets
 
-let-in-keeps : (c : ℕ) (p : Phase) (o : Origin) (m : Member) (t : Table) → rank m.status ≤ 4 → Suits c p m → Has c p t → KeepsBy c p (is_let_in o m t)
+pub let-in-keeps : (c : ℕ) (p : Phase) (o : Origin) (m : Member) (t : Table) → rank m.status ≤ 4 → Suits c p m → Has c p t → KeepsBy c p (is_let_in o m t)
 let-in-keeps c p o m t low s h =
     let in_ : Member = record (now_in Authorized t m) { company = first_company m.asked } in
     let d : Deed = tells (m.conn ∷ []) (ServerWelcome m.client o.setup.seed o.setup.id) (with_member in_ t) in
     let k : Has c p d.table = put c p in_ t (λ own. early-stays p (rank m.status) 4 low (omega arith) (s own)) h in
     then-keeps c p d (tells_playing (client_info in_)) (record { holds = k; quiet = (refl, tt) }) (λ b. record { holds = b; quiet = (refl, tt) })
 
-company-keeps : (c : ℕ) (p : Phase) (digest : Option (List ℕ)) (o : Origin) (m : Member) (t : Table) → rank m.status ≤ 4 → Suits c p m → Has c p t → KeepsBy c p (company_step_by digest o m t)
+pub company-keeps : (c : ℕ) (p : Phase) (digest : Option (List ℕ)) (o : Origin) (m : Member) (t : Table) → rank m.status ≤ 4 → Suits c p m → Has c p t → KeepsBy c p (company_step_by digest o m t)
 company-keeps c p None o m t low s h = let-in-keeps c p o m t low s h
 company-keeps c p (Some digest) o m t low s h = record { holds = put c p (now_in AuthCompany t m) t (λ own. early-stays p (rank m.status) 3 low (omega arith) (s own)) h; quiet = (refl, tt) }
 
-password-keeps : (c : ℕ) (p : Phase) (password : List ℕ) (o : Origin) (m : Member) (t : Table) → rank m.status ≤ 4 → Suits c p m → Has c p t → KeepsBy c p (password_step_by password o m t)
+pub password-keeps : (c : ℕ) (p : Phase) (password : List ℕ) (o : Origin) (m : Member) (t : Table) → rank m.status ≤ 4 → Suits c p m → Has c p t → KeepsBy c p (password_step_by password o m t)
 password-keeps c p [] o m t low s h = company-keeps c p (digest_of t m.asked) o m t low s h
 password-keeps c p (b ∷ bs) o m t low s h = record { holds = put c p (now_in AuthGame t m) t (λ own. early-stays p (rank m.status) 2 low (omega arith) (s own)) h; quiet = (refl, tt) }
 
-infos-quiet : (c conn : ℕ) (ms : List Member) → AllQuiet c (map (λ m. record { to = conn ∷ []; what = msg m }) (map client_info ms))
+pub infos-quiet : (c conn : ℕ) (ms : List Member) → AllQuiet c (map (λ m. record { to = conn ∷ []; what = msg m }) (map client_info ms))
 infos-quiet c conn [] = tt
 infos-quiet c conn (m ∷ ms) = (refl, infos-quiet c conn ms)
 
-enters-by : (b : Bool) (c : ℕ) (p : Phase) (o : Origin) (m : Member) (t : Table) → (m.conn == c) ≡ b → Has c p t → GoesBy c p (enters o m t)
+pub enters-by : (b : Bool) (c : ℕ) (p : Phase) (o : Origin) (m : Member) (t : Table) → (m.conn == c) ≡ b → Has c p t → GoesBy c p (enters o m t)
 enters-by true c p o m t is h =
     let in_ : Member = record (now_in PreActive t m) { acked = m.map_frame; told = t.top } in
     let u : Table = with_member in_ t in
@@ -84,16 +84,16 @@ enters-by false c p o m t is h =
 
 -- ---- who asks for the map stands last
 
-once-last : (c x : ℕ) (q : List ℕ) → (x == c) ≡ true → NotIn c q → OnceIn c (q ++ x ∷ [])
+pub once-last : (c x : ℕ) (q : List ℕ) → (x == c) ≡ true → NotIn c q → OnceIn c (q ++ x ∷ [])
 once-last c x [] own a = inl (own, tt)
 once-last c x (y ∷ ys) own a = inr (a.0, once-last c x ys own a.1)
 
-once-more : (c x : ℕ) (q : List ℕ) → (x == c) ≡ false → OnceIn c q → OnceIn c (q ++ x ∷ [])
+pub once-more : (c x : ℕ) (q : List ℕ) → (x == c) ≡ false → OnceIn c q → OnceIn c (q ++ x ∷ [])
 once-more c x [] apart a = absurd a
 once-more c x (y ∷ ys) apart (inl own) = inl (own.0, all-append (IsOther c) ys (x ∷ []) own.1 (apart, tt))
 once-more c x (y ∷ ys) apart (inr other) = inr (other.0, once-more c x ys apart other.1)
 
-place-more : (p : Phase) (c x : ℕ) (q xs : List ℕ) → (x == c) ≡ false → Place p c q xs → Place p c (q ++ x ∷ []) xs
+pub place-more : (p : Phase) (c x : ℕ) (q xs : List ℕ) → (x == c) ≡ false → Place p c q xs → Place p c (q ++ x ∷ []) xs
 place-more Early c x q xs apart h = all-append (IsOther c) q (x ∷ []) h (apart, tt)
 place-more Queued c x q xs apart h = (once-more c x q apart h.0, h.1)
 place-more InGame c x q xs apart h = all-append (IsOther c) q (x ∷ []) h (apart, tt)
@@ -102,7 +102,7 @@ place-more InGame c x q xs apart h = all-append (IsOther c) q (x ∷ []) h (apar
 abbrev pub IsThere : ℕ → Member → Table → Type 0
 IsThere c m t = (m.conn == c) ≡ true → list_any (λ x. x == c) (conns t.members) ≡ true
 
-asks-own : (p : Phase) (c : ℕ) (o : Origin) (m : Member) (t : Table) → rank m.status ≡ 4 → (m.conn == c) ≡ true → fits p (rank m.status) → IsThere c m t → Has c p t → GoesBy c p (asks o m t)
+pub asks-own : (p : Phase) (c : ℕ) (o : Origin) (m : Member) (t : Table) → rank m.status ≡ 4 → (m.conn == c) ≡ true → fits p (rank m.status) → IsThere c m t → Has c p t → GoesBy c p (asks o m t)
 asks-own Early c o m t at own fit there h =
     let n : Member = now_in MapWait t m in
     let u : Table = record (with_member n t) { queue = t.queue ++ m.conn ∷ [] } in
@@ -112,7 +112,7 @@ asks-own Early c o m t at own fit there h =
 asks-own Queued c o m t at own fit there h = let low : 5 ≤ rank m.status = fit.0 in absurd (omega (arith, at, low))
 asks-own InGame c o m t at own fit there h = absurd (omega (arith, at, fit))
 
-asks-by : (b : Bool) (c : ℕ) (p : Phase) (o : Origin) (m : Member) (t : Table) → (m.conn == c) ≡ b → rank m.status ≡ 4 → Suits c p m → IsThere c m t → Has c p t → GoesBy c p (asks o m t)
+pub asks-by : (b : Bool) (c : ℕ) (p : Phase) (o : Origin) (m : Member) (t : Table) → (m.conn == c) ≡ b → rank m.status ≡ 4 → Suits c p m → IsThere c m t → Has c p t → GoesBy c p (asks o m t)
 asks-by true c p o m t is at s there h = asks-own p c o m t at is (s is) there h
 asks-by false c p o m t is at s there h =
     let n : Member = now_in MapWait t m in
@@ -121,29 +121,29 @@ asks-by false c p o m t is at s there h =
     let k : Has c p u = record { suits = v.suits; place = place-more p c m.conn t.queue (conns (with_member n t).members) is v.place } in
     goes-kept c p (asks o m t) (moved-keeps c p o (length t.queue) (m.conn ∷ []) u (λ own. absurd cc, tt) k)
 
-active-keeps : (c : ℕ) (p : Phase) (m : Member) (t : Table) → rank m.status ≡ 8 → Suits c p m → Has c p t → KeepsBy c p (becomes_active m t)
+pub active-keeps : (c : ℕ) (p : Phase) (m : Member) (t : Table) → rank m.status ≡ 8 → Suits c p m → Has c p t → KeepsBy c p (becomes_active m t)
 active-keeps c p m t at s h =
     let in_ : Member = now_in Active t m in
     let d : Deed = tells (filter (λ x. not (x == m.conn)) (playing t)) (ServerJoin m.client) (with_member in_ t) in
     then-keeps c p d (where_ (m.asked == 254) (asks_company in_)) (record { holds = put c p in_ t (λ own. playing-stays p (rank m.status) 9 (omega (arith, at)) (omega arith) (s own)) h; quiet = (refl, tt) })
     (λ b. where-keeps c p (m.asked == 254) (asks_company in_) d.table b (λ yes. record { holds = record { suits = b.suits; place = b.place }; quiet = tt }))
 
-first-true : (x y : Bool) → x && y ≡ true → x ≡ true
+pub first-true : (x y : Bool) → x && y ≡ true → x ≡ true
 first-true true y is = refl
 first-true false y is = is
 
-acknowledges-keeps : (c : ℕ) (p : Phase) (m : Member) (frame : ℕ) (t : Table) → Suits c p m → Has c p t → KeepsBy c p (acknowledges m frame t)
+pub acknowledges-keeps : (c : ℕ) (p : Phase) (m : Member) (frame : ℕ) (t : Table) → Suits c p m → Has c p t → KeepsBy c p (acknowledges m frame t)
 acknowledges-keeps c p m frame t s h =
     let n : Member = record m { acked = frame } in
     let u : Table = with_member n t in
     then-keeps c p (becomes u) (where_ (has_caught_up frame t m) (becomes_active n)) (record { holds = put c p n t s h; quiet = tt })
     (λ b. where-keeps c p (has_caught_up frame t m) (becomes_active n) u b (λ yes. active-keeps c p n u (eqb-true (rank m.status) 8 (first-true (is_in PreActive m) (nat_le t.frame (frame + 74)) yes)) s b))
 
-waits-keeps : (c : ℕ) (p : Phase) (command : Option Command) (m : Member) (company : ℕ) (t : Table) → Suits c p m → Has c p t → KeepsBy c p (waits_by command m company t)
+pub waits-keeps : (c : ℕ) (p : Phase) (command : Option Command) (m : Member) (company : ℕ) (t : Table) → Suits c p m → Has c p t → KeepsBy c p (waits_by command m company t)
 waits-keeps c p None m company t s h = still-keeps c p t h
 waits-keeps c p (Some command) m company t s h = record { holds = put c p (record m { waiting = m.waiting ++ (company, command) ∷ [] }) t s h; quiet = tt }
 
-does-goes : (c : ℕ) (p : Phase) (o : Origin) (m : Member) (said : GameMsg) (t : Table) → permits said m.status ≡ true → Suits c p m → IsThere c m t → Has c p t → GoesBy c p (does o m said t)
+pub does-goes : (c : ℕ) (p : Phase) (o : Origin) (m : Member) (said : GameMsg) (t : Table) → permits said m.status ≡ true → Suits c p m → IsThere c m t → Has c p t → GoesBy c p (does o m said t)
 does-goes c p o m (ClientJoin revision grf name company) t may s there h =
     let at : rank m.status ≡ 0 = eqb-true (rank m.status) 0 may in
     goes-kept c p (does o m (ClientJoin revision grf name company) t) (password-keeps c p o.setup.password o _ t (omega (arith, at)) s h)
@@ -166,14 +166,14 @@ does-goes c p o m (ClientError code) t may s there h = leaves-goes c p o m (Serv
 does-goes c p o m ClientQuit t may s there h = leaves-goes c p o m (ServerQuit m.client) t refl h
 does-goes c p o m other t may s there h = goes-kept c p (does o m other t) (still-keeps c p t h)
 
-allowed-permits : (b : Bool) (refused_first refused_then : Option ℕ) → unless (verdict_of (first_reason b refused_first)) refused_then ≡ Allowed → b ≡ true
+pub allowed-permits : (b : Bool) (refused_first refused_then : Option ℕ) → unless (verdict_of (first_reason b refused_first)) refused_then ≡ Allowed → b ≡ true
 allowed-permits true x y is = refl
 allowed-permits false x y is = absurd cc
 
-verdict-goes : (v : Verdict) (c : ℕ) (p : Phase) (o : Origin) (m : Member) (said : GameMsg) (t : Table) → judged o t m said ≡ v → Suits c p m → IsThere c m t → Has c p t → GoesBy c p (by_verdict v o m said t)
+pub verdict-goes : (v : Verdict) (c : ℕ) (p : Phase) (o : Origin) (m : Member) (said : GameMsg) (t : Table) → judged o t m said ≡ v → Suits c p m → IsThere c m t → Has c p t → GoesBy c p (by_verdict v o m said t)
 verdict-goes Allowed c p o m said t is s there h = does-goes c p o m said t (allowed-permits (permits said m.status) _ (refused o t m said) is) s there h
 verdict-goes (Ends code) c p o m said t is s there h = ends-goes c p o m code t h
 
-heard-goes : (c : ℕ) (p : Phase) (said : Option GameMsg) (o : Origin) (m : Member) (t : Table) → Suits c p m → IsThere c m t → Has c p t → GoesBy c p (heard said o m t)
+pub heard-goes : (c : ℕ) (p : Phase) (said : Option GameMsg) (o : Origin) (m : Member) (t : Table) → Suits c p m → IsThere c m t → Has c p t → GoesBy c p (heard said o m t)
 heard-goes c p None o m t s there h = ends-goes c p o m 4 t h
 heard-goes c p (Some said) o m t s there h = verdict-goes (judged o t m said) c p o m said t refl s there h
