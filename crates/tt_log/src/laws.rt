@@ -1,15 +1,17 @@
 //! Laws of the definitions, for every list of events.
-ghost use Rattle.std.specs.Prelude.{◌≡◌, ℕ, [], ◌≤◌, ◌<◌, List, ◌++◌, ◌+◌, ◌∷◌, ◌==◌, fold, true, false, None};
+ghost use Rattle.std.specs.Prelude.{◌≡◌, ℕ, [], ◌≤◌, ◌<◌, List, ◌++◌, ◌+◌, ◌∷◌, ◌==◌, fold, true, false, None, Some};
 ghost use Rattle.tt_edge.specs.declared.event.Event.{Event};
 ghost use Rattle.tt_edge.specs.declared.event.Event.TheVariants.{Packet};
+ghost use Rattle.std.specs.List.{AllByRecursion};
+ghost use Rattle.tt_log.specs.Member.{Member, is_playing};
 ghost use Rattle.tt_log.specs.Events.{by_event, deed, read_msg, stepped, takes};
-ghost use Rattle.tt_log.specs.Deed.{becomes};
+ghost use Rattle.tt_log.specs.Deed.{Said, becomes};
 ghost use Rattle.tt_log.specs.History.{AreFor, journal_of, table_of, world_behind};
 ghost use Rattle.tt_log.specs.Origin.{IsJournal, Origin, above, folded, game_of, world_at};
 ghost use Rattle.tt_lockstep.specs.Journal.{AreAbove, AreUpTo};
 ghost use Rattle.tt_world.specs.declared.command.Entry.{Entry};
-ghost use Rattle.tt_log.specs.Table.{Table, is_live};
-ghost use Rattle.tt_log.specs.Told.{heard, heard_from, sent};
+ghost use Rattle.tt_log.specs.Table.{Table, is_live, member_of};
+ghost use Rattle.tt_log.specs.Told.{heard, heard_from, is_entry, sent};
 
 /// What is told goes on where events go on, and what was sent stays sent.
 pub fn told_goes_on()
@@ -91,4 +93,10 @@ pub fn ended_stays()
     ensures not_live { (o : Origin) (es fs : List Event) (conn : ℕ) → conn ≤ (table_of o es).openings → is_live (table_of o es) conn ≡ false → is_live (table_of o (es ++ fs)) conn ≡ false }
     ensures heard { (o : Origin) (es fs : List Event) (conn : ℕ) → conn ≤ (table_of o es).openings → is_live (table_of o es) conn ≡ false → heard o (es ++ fs) conn ≡ heard o es conn }
     ensures sent { (o : Origin) (es fs : List Event) (conn : ℕ) → conn ≤ (table_of o es).openings → is_live (table_of o es) conn ≡ false → sent o (es ++ fs) conn ≡ sent o es conn }
+{}
+
+/// A member that does not play yet was told no command of the journal.
+pub fn not_yet_told()
+    ensures { (o : Origin) (es : List Event) (conn : ℕ) (m : Member) → member_of (table_of o es) conn ≡ Some m → is_playing m ≡ false
+        → AllByRecursion (λ (s : Said). is_entry s ≡ false) (heard o es conn) }
 {}
