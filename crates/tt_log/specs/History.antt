@@ -1,5 +1,6 @@
 -- What a list of events makes of a game.
-use Rattle.std.specs.Prelude.{◌≡◌, true, List, [], ◌∷◌, fold}
+use Rattle.std.specs.Prelude.{◌≡◌, ℕ, true, List, [], ◌∷◌, fold}
+use Rattle.std.specs.List.{AllByRecursion}
 use Rattle.tt_edge.specs.declared.event.Event.{Event}
 use Rattle.tt_world.specs.declared.command.Entry.{Entry}
 use Rattle.tt_world.specs.World.{WorldState}
@@ -14,6 +15,10 @@ table_of o events = fold (stepped o) first events
 -- the journal behind the events, and the world
 abbrev pub journal_of : Origin → List Event → List Entry
 journal_of o events = (table_of o events).journal
+
+-- each of these entries is for this frame
+abbrev pub AreFor : ℕ → List Entry → Type 0
+AreFor frame entries = AllByRecursion (λ (e : Entry). e.frame ≡ frame) entries
 
 abbrev pub world_behind : Origin → List Event → WorldState
 world_behind o events = world_of o (table_of o events)

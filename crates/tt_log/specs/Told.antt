@@ -1,13 +1,19 @@
 -- What a connection is told, and the bytes sent to it.
 use Rattle.std.specs.Prelude.{ℕ, Bool, true, false, ◌==◌, List, [], ◌∷◌, ◌++◌, flat_map}
 use Rattle.std.specs.List.{list_any}
+use Rattle.tt_game.specs.declared.message.GameMsg.TheVariants.{ServerCommand}
 use Rattle.tt_edge.specs.declared.event.Event.{Event}
 use Rattle.tt_log.specs.Origin.{Origin}
 use Rattle.tt_log.specs.Table.{Table, first}
-use Rattle.tt_log.specs.Deed.{Said, spelled}
+use Rattle.tt_log.specs.Deed.{Said, game, spelled}
 use Rattle.tt_log.specs.Tellings.{Telling, tellings}
 use Rattle.tt_log.specs.Events.{deed, stepped}
 use Rattle.tt_log.specs.History.{table_of}
+
+-- a command of the journal is told
+abbrev pub is_entry : Said → Bool
+is_entry (game (ServerCommand company code number to text frame sender)) = true
+is_entry other = false
 
 abbrev pub kept_if : Bool → Said → List Said → List Said
 kept_if true s rest = s ∷ rest

@@ -1,12 +1,17 @@
 //! Laws of the definitions, for every list of events.
-ghost use Rattle.std.specs.Prelude.{◌≡◌, ℕ, [], ◌≤◌, List, ◌++◌, fold, true};
+ghost use Rattle.std.specs.Prelude.{◌≡◌, ℕ, [], ◌≤◌, ◌<◌, List, ◌++◌, ◌+◌, ◌∷◌, ◌==◌, fold, true, false, None, Some};
 ghost use Rattle.tt_edge.specs.declared.event.Event.{Event};
-ghost use Rattle.tt_log.specs.Events.{deed, stepped};
-ghost use Rattle.tt_log.specs.Deed.{becomes};
-ghost use Rattle.tt_log.specs.History.{table_of};
-ghost use Rattle.tt_log.specs.Origin.{Origin};
-ghost use Rattle.tt_log.specs.Table.{Table};
-ghost use Rattle.tt_log.specs.Told.{heard_from, sent};
+ghost use Rattle.tt_edge.specs.declared.event.Event.TheVariants.{Packet};
+ghost use Rattle.std.specs.List.{AllByRecursion};
+ghost use Rattle.tt_log.specs.Member.{Member, is_playing};
+ghost use Rattle.tt_log.specs.Events.{by_event, deed, read_msg, stepped, takes};
+ghost use Rattle.tt_log.specs.Deed.{Said, becomes};
+ghost use Rattle.tt_log.specs.History.{AreFor, journal_of, table_of, world_behind};
+ghost use Rattle.tt_log.specs.Origin.{IsJournal, Origin, above, folded, game_of, world_at};
+ghost use Rattle.tt_lockstep.specs.Journal.{AreAbove, AreUpTo};
+ghost use Rattle.tt_world.specs.declared.command.Entry.{Entry};
+ghost use Rattle.tt_log.specs.Table.{Table, is_live, member_of};
+ghost use Rattle.tt_log.specs.Told.{heard, heard_from, is_entry, sent};
 
 /// What is told goes on where events go on, and what was sent stays sent.
 pub fn told_goes_on()
@@ -19,12 +24,79 @@ pub fn over_stays()
     ensures { (o : Origin) (t : Table) (e : Event) → t.over ≡ true → deed o e t ≡ becomes t }
 {}
 
-/// No frame passes the permitted one.
-pub fn frame_within_top()
-    ensures { (o : Origin) (es : List Event) → (table_of o es).frame ≤ (table_of o es).top }
+/// No frame passes the permitted one, and this is never further ahead than it is told.
+pub fn frame_and_top()
+    ensures ahead { (o : Origin) (es : List Event) → (table_of o es).frame ≤ (table_of o es).top }
+    ensures near { (o : Origin) (es : List Event) → (table_of o es).top ≤ (table_of o es).frame + o.setup.frame_freq }
 {}
 
 /// Where the game is over nobody is there.
 pub fn nobody_behind_the_end()
     ensures { (o : Origin) (es : List Event) → (table_of o es).over ≡ true → (table_of o es).members ≡ [] }
+{}
+
+/// An event that the table does not take changes nothing, and nobody is told of it.
+pub fn refused_event_changes_nothing()
+    ensures does_nothing { (o : Origin) (t : Table) (e : Event) → takes t e ≡ false → deed o e t ≡ becomes t }
+    ensures table { (o : Origin) (es : List Event) (e : Event) → takes (table_of o es) e ≡ false → table_of o (es ++ e ∷ []) ≡ table_of o es }
+    ensures told { (o : Origin) (es : List Event) (e : Event) (conn : ℕ) → takes (table_of o es) e ≡ false → heard o (es ++ e ∷ []) conn ≡ heard o es conn }
+    ensures sent { (o : Origin) (es : List Event) (e : Event) (conn : ℕ) → takes (table_of o es) e ≡ false → sent o (es ++ e ∷ []) conn ≡ sent o es conn }
+{}
+
+/// What a journal alone decides: the worlds of a game.
+pub fn one_journal_one_world()
+    // Two games from one start with one journal have one world at each frame.
+    ensures one { (o : Origin) (es fs : List Event) (f : ℕ) → journal_of o es ≡ journal_of o fs → world_at o (journal_of o es) f ≡ world_at o (journal_of o fs) f }
+    ensures behind { (o : Origin) (es fs : List Event) → journal_of o es ≡ journal_of o fs → (table_of o es).frame ≡ (table_of o fs).frame → world_behind o es ≡ world_behind o fs }
+    // Entries above a frame change no world up to it.
+    ensures stable { (o : Origin) (f n : ℕ) (old more : List Entry) → AreAbove (game_of o) n more → f ≤ n → world_at o (old ++ more) f ≡ world_at o old f }
+    // A world may be taken up where it was left, and then the entries above its frame are enough.
+    ensures goes_on { (o : Origin) (s k : ℕ) (journal : List Entry) → world_at o journal (s + k) ≡ folded o (world_at o journal s) s (above o s journal) k }
+{}
+
+/// How a journal grows: by entries for the frame above the one that was permitted before, so that no world changes that could be run.
+pub fn journal_rises()
+    // Its frames do not fall, and are at most the one above the permitted frame.
+    ensures rising { (o : Origin) (es : List Event) → IsJournal o (journal_of o es) }
+    ensures stamped { (o : Origin) (es : List Event) → AreUpTo (game_of o) ((table_of o es).top + 1) (journal_of o es) }
+    // An event adds entries for one frame.
+    ensures adds { (o : Origin) (es : List Event) (e : Event)
+        → (more : List Entry) × (journal_of o (es ++ e ∷ []) ≡ journal_of o es ++ more) × AreFor ((table_of o es).top + 1) more }
+    // Events add entries above every frame that was permitted before.
+    ensures grows { (o : Origin) (es fs : List Event)
+        → (more : List Entry) × (journal_of o (es ++ fs) ≡ journal_of o es ++ more) × AreAbove (game_of o) (table_of o es).top more }
+    // So a world that could be run stays as it was.
+    ensures world_stays { (o : Origin) (es fs : List Event) (f : ℕ)
+        → f ≤ (table_of o es).top → world_at o (journal_of o (es ++ fs)) f ≡ world_at o (journal_of o es) f }
+{}
+
+/// A connection is not live before its opening, and nothing is sent to it.
+pub fn unopened_hears_nothing()
+    ensures not_live { (o : Origin) (es : List Event) (conn : ℕ) → (table_of o es).openings < conn → is_live (table_of o es) conn ≡ false }
+    ensures heard { (o : Origin) (es : List Event) (conn : ℕ) → (table_of o es).openings < conn → heard o es conn ≡ [] }
+    ensures sent { (o : Origin) (es : List Event) (conn : ℕ) → (table_of o es).openings < conn → sent o es conn ≡ [] }
+{}
+
+/// A packet that spells nothing ends the member that sent it, and nobody else; the game goes on as it was.
+pub fn malformed_ends_its_own()
+    ensures frame { (o : Origin) (t : Table) (conn kind : ℕ) (body : List ℕ) → read_msg kind body ≡ None → (by_event o (Packet conn kind body) t).table.frame ≡ t.frame }
+    ensures top { (o : Origin) (t : Table) (conn kind : ℕ) (body : List ℕ) → read_msg kind body ≡ None → (by_event o (Packet conn kind body) t).table.top ≡ t.top }
+    ensures journal { (o : Origin) (t : Table) (conn kind : ℕ) (body : List ℕ) → read_msg kind body ≡ None → (by_event o (Packet conn kind body) t).table.journal ≡ t.journal }
+    ensures own { (o : Origin) (t : Table) (conn kind : ℕ) (body : List ℕ) → read_msg kind body ≡ None → (by_event o (Packet conn kind body) t).table.own ≡ t.own }
+    ensures ended { (o : Origin) (t : Table) (conn kind : ℕ) (body : List ℕ) → read_msg kind body ≡ None → is_live (by_event o (Packet conn kind body) t).table conn ≡ false }
+    ensures others_live { (o : Origin) (t : Table) (conn kind : ℕ) (body : List ℕ) (other : ℕ) → read_msg kind body ≡ None → (conn == other) ≡ false
+        → is_live (by_event o (Packet conn kind body) t).table other ≡ is_live t other }
+{}
+
+/// A connection that ended stays so, and is told no more.
+pub fn ended_stays()
+    ensures not_live { (o : Origin) (es fs : List Event) (conn : ℕ) → conn ≤ (table_of o es).openings → is_live (table_of o es) conn ≡ false → is_live (table_of o (es ++ fs)) conn ≡ false }
+    ensures heard { (o : Origin) (es fs : List Event) (conn : ℕ) → conn ≤ (table_of o es).openings → is_live (table_of o es) conn ≡ false → heard o (es ++ fs) conn ≡ heard o es conn }
+    ensures sent { (o : Origin) (es fs : List Event) (conn : ℕ) → conn ≤ (table_of o es).openings → is_live (table_of o es) conn ≡ false → sent o (es ++ fs) conn ≡ sent o es conn }
+{}
+
+/// A member that does not play yet was told no command of the journal.
+pub fn not_yet_told()
+    ensures { (o : Origin) (es : List Event) (conn : ℕ) (m : Member) → member_of (table_of o es) conn ≡ Some m → is_playing m ≡ false
+        → AllByRecursion (λ (s : Said). is_entry s ≡ false) (heard o es conn) }
 {}

@@ -17,7 +17,11 @@
 mod laws;
 pub mod script;
 
-pub use laws::{frame_within_top, nobody_behind_the_end, over_stays, told_goes_on};
+pub use laws::{
+    ended_stays, frame_and_top, journal_rises, malformed_ends_its_own, nobody_behind_the_end,
+    not_yet_told, one_journal_one_world, over_stays, refused_event_changes_nothing, told_goes_on,
+    unopened_hears_nothing,
+};
 pub use script::{
     Bytes, Line1, Script, ScriptBad, ScriptReader, Setting, Step, parse_script, print_script,
 };

@@ -1,0 +1,250 @@
+-- What a connection was told before it plays, and that it is told no more once it has ended.
+use Rattle.std.proofs.Common.{◌≡◌, ◌⊎◌, inl, inr, ap₂, ℕ, ◌+◌, ◌-◌, ◌≤◌, ◌<◌, List, [], ◌∷◌, ◌++◌, refl, ap, sym, ◌∙◌, true, false, Bool, Option, Some, None, arith, zero, suc}
+use Rattle.std.specs.Prelude.{fold, codes, position, ◌*◌, ◌==◌, drop, take, length, nat_lt, map, find, filter, cond, ◌%◌, not, nat_le, ◌&&◌, ◌||◌, min, is_some, flat_map}
+use Rattle.std.specs.List.{AllByRecursion, list_any}
+use Rattle.tt_edge.specs.declared.event.Door.TheVariants.{Main, Side}
+use Rattle.tt_edge.specs.declared.event.Event.{Event}
+use Rattle.tt_edge.specs.declared.event.Event.TheVariants.{Open, Packet, Broken, Shut, Tick, Stop}
+use Rattle.tt_game.specs.declared.message.GameMsg.{GameMsg}
+use Rattle.tt_game.specs.declared.message.GameMsg.TheVariants.{ClientJoin, ClientGameInfo, ClientGamePassword, ClientCompanyPassword, ClientGetmap, ClientMapOk, ClientAck, ClientCommand, ClientChat, ClientSetName, ClientSetPassword, ClientMove, ClientError, ClientQuit, ServerErrorQuit, ServerQuit, ServerError, ServerFrame, ServerJoin, ServerWelcome}
+use Rattle.tt_world.specs.declared.command.Command.{Command}
+use Rattle.tt_world.specs.declared.command.Entry.{Entry}
+use Rattle.tt_rules.specs.Commands.{command_of}
+use Rattle.tt_rules.specs.declared.status.Status.TheVariants.{Map, MapWait, PreActive, Active, Authorized, DoneMap, AuthGame, AuthCompany}
+use Rattle.tt_rules.specs.declared.status.Verdict.{Verdict}
+use Rattle.tt_rules.specs.declared.status.Verdict.TheVariants.{Allowed, Ends}
+use Rattle.tt_log.specs.Origin.{Origin, world_at, at_frame}
+use Rattle.tt_log.specs.Table.{Table, first, member_of, with_member, without_member, digest_of, now_in, playing, welcomed, is_on, is_live}
+use Rattle.tt_log.specs.Member.{Member, is_in, is_welcomed, is_playing, new_member}
+use Rattle.tt_log.specs.Deed.{Said, What, Step, Deed, ◌▹◌, where_, becomes, tells, tells_each, tells_what, tells_playing, msg, map_begin, map_pieces, stamp, entries, end}
+use Rattle.tt_log.specs.Queue.{moved_up, left_place, leaves_queue, begins, changed, downloading, asks, waits}
+use Rattle.tt_log.specs.Ending.{leaves, ends, ends_untold}
+use Rattle.tt_log.specs.Judged.{judged}
+use Rattle.tt_log.specs.PacketRules.{does, client_info, company_step_by, password_step_by, enters, becomes_active, asks_company, acknowledges, has_caught_up, waits_by, is_let_in, is_in_scope, moves, first_company}
+use Rattle.tt_log.specs.Tick.{stamps, drawn, tells_entries, stamped, counted, permitted, told_frame, allowed, moved_if, all_moved, foundings, founders_moved, synced, mapped, if_downloading, next_pieces, is_done, told_pieces, pieces_of, map_left, late, ends_if, limited, each_limited, timed, ticked}
+use Rattle.tt_log.specs.Events.{read_msg, opened, arrives, counted_in, by_verdict, to_member, by_event, charged, closed, shut_down, is_stop, last_frame, stepped, takes, names_live, deed}
+use Rattle.tt_log.specs.History.{table_of}
+use Rattle.tt_log.specs.Tellings.{Filling, Telling, telling, filled, messages_of, filling, tellings}
+use Rattle.tt_log.specs.Told.{told_to, kept_if, heard_from}
+use Rattle.tt_log.specs.Told as told
+use Rattle.std.specs.List.{position_or_len}
+use Rattle.std.proofs.lemmas.Bool.{ltb-true, le-leb, eqb-true, eqb-false, leb-true, eq-eqb, ltb-false, lt-ltb}
+use Rattle.tt_game.specs.declared.message.GameMsg.TheVariants.{ServerCommand}
+use Rattle.tt_rules.specs.Statuses.{rank}
+use Rattle.tt_rules.specs.Verdict.{permits, verdict_of, first_reason, refusal}
+use Rattle.tt_log.specs.Deed.{game, sync}
+use Rattle.tt_log.specs.Told.{is_entry}
+use Rattle.tt_log.specs.Judged.{unless, refused}
+use Rattle.tt_log.specs.Table.{living_in}
+use Rattle.tt_log.proofs.Clock.{taken, ends_by}
+use Rattle.std.proofs.Common.{append-nil, append_assoc}
+use Rattle.std.proofs.lemmas.List.Sums.{fold-append}
+use Rattle.tt_game.specs.declared.message.GameMsg.TheVariants.{ServerMapData, ServerMapDone}
+use Rattle.tt_log.specs.Told.{heard, told_by}
+use Rattle.tt_log.specs.Tellings.{piece_messages}
+use Rattle.tt_log.specs.PacketRules.{told_command}
+use Rattle.tt_log.specs.Origin.{above}
+use Rattle.tt_log.specs.Tick.{pieces_of}
+use Rattle.tt_log.proofs.Going.{heard-append}
+use Rattle.tt_log.proofs.Apart.{all-append, IsOther, NotIn, IsNotOn, NoneOn, Apart, IsApart, Passes, Spares, KnowsOpened, is-other-lt, step-passes, step-knows, deed-passes, missed, step-missed, apart-not-live}
+use Rattle.tt_log.proofs.Malformed.{conns, live-conns, found-on}
+use Rattle.tt_log.proofs.Phases.{Phase, Early, Queued, InGame, fits, Suits, Place, Holds, Has, is_command, Quiet, AllQuiet, WhileQuiet, Later, GoesBy, AllOption, found-all}
+use Rattle.tt_log.proofs.Onward.{Opens, deed-goes}
+
+-- ---- what quiet steps tell
+
+abbrev IsPlain : Said → Type 0
+IsPlain s = is_entry s ≡ false
+
+-- none of these is a command
+abbrev ArePlain : List GameMsg → Type 0
+ArePlain ms = AllByRecursion (λ (m : GameMsg). is_entry (game m) ≡ false) ms
+
+data-plain : (bs : List (List ℕ)) → ArePlain (map ServerMapData bs)
+data-plain [] = tt
+data-plain (b ∷ bs) = (refl, data-plain bs)
+
+done-plain : (b : Bool) → ArePlain (cond b [] (ServerMapDone ∷ []))
+done-plain true = tt
+done-plain false = (refl, tt)
+
+what-plain : (w : What) (o : Origin) (f : Filling) → is_command w ≡ false → ArePlain (messages_of o f w)
+what-plain (msg m) o f is = (is, tt)
+what-plain map_begin o f is = (refl, (refl, tt))
+what-plain map_pieces o f is = all-append (λ (m : GameMsg). is_entry (game m) ≡ false) (map ServerMapData (pieces_of 4 f.left)) _ (data-plain (pieces_of 4 f.left)) (done-plain (nat_lt (4 * 1400) (length f.left)))
+what-plain sync o f is = (refl, tt)
+what-plain (entries frame) o f is = absurd cc
+what-plain (stamp e) o f is = absurd cc
+what-plain end o f is = tt
+
+kept-plain : (b : Bool) (s : Said) (rest : List Said) → IsPlain s → AllByRecursion IsPlain rest → AllByRecursion IsPlain (kept_if b s rest)
+kept-plain true s rest is a = (is, a)
+kept-plain false s rest is a = a
+
+told-plain : (c : ℕ) (to : List ℕ) (ms : List GameMsg) (more : List Telling) → ArePlain ms → AllByRecursion IsPlain (told_to c more) → AllByRecursion IsPlain (told_to c (map (telling to) ms ++ more))
+told-plain c to [] more plain a = a
+told-plain c to (m ∷ ms) more plain a = kept-plain (list_any (λ x. x == c) to) (game m) (told_to c (map (telling to) ms ++ more)) plain.0 (told-plain c to ms more plain.1 a)
+
+unheard : (c : ℕ) (to : List ℕ) (ms : List GameMsg) (more : List Telling) → list_any (λ x. x == c) to ≡ false → AllByRecursion IsPlain (told_to c more) → AllByRecursion IsPlain (told_to c (map (telling to) ms ++ more))
+unheard c to [] more is a = a
+unheard c to (m ∷ ms) more is a = rw is (unheard c to ms more is a)
+
+step-plain : (b : Bool) (c : ℕ) (o : Origin) (f : Filling) (s : Step) (more : List Telling) → is_command s.what ≡ b → (b && list_any (λ x. x == c) s.to) ≡ false → AllByRecursion IsPlain (told_to c more)
+    → AllByRecursion IsPlain (told_to c (map (telling s.to) (messages_of o f s.what) ++ more))
+step-plain true c o f s more is quiet a = unheard c s.to (messages_of o f s.what) more quiet a
+step-plain false c o f s more is quiet a = told-plain c s.to (messages_of o f s.what) more (what-plain s.what o f is) a
+
+steps-plain : (c : ℕ) (o : Origin) (f : Filling) (steps : List Step) → AllQuiet c steps → AllByRecursion IsPlain (told_to c (filled o f steps))
+steps-plain c o f [] a = tt
+steps-plain c o f (s ∷ steps) a = step-plain (is_command s.what) c o f s (filled o f steps) refl a.0 (steps-plain c o f steps a.1)
+
+-- ---- what was told by a phase
+
+abbrev pub WhilePlain : Phase → List Said → Type 0
+WhilePlain Early said = AllByRecursion IsPlain said
+WhilePlain Queued said = AllByRecursion IsPlain said
+WhilePlain InGame said = Unit
+
+while-plain : (p : Phase) (c : ℕ) (o : Origin) (f : Filling) (steps : List Step) → WhileQuiet p c steps → WhilePlain p (told_to c (filled o f steps))
+while-plain Early c o f steps a = steps-plain c o f steps a
+while-plain Queued c o f steps a = steps-plain c o f steps a
+while-plain InGame c o f steps a = tt
+
+plain-then : (p q : Phase) (xs ys : List Said) → Later p q → WhilePlain p xs → WhilePlain q ys → WhilePlain q (xs ++ ys)
+plain-then Early Early xs ys l a b = all-append IsPlain xs ys a b
+plain-then Early Queued xs ys l a b = all-append IsPlain xs ys a b
+plain-then Early InGame xs ys l a b = tt
+plain-then Queued Early xs ys l a b = absurd l
+plain-then Queued Queued xs ys l a b = all-append IsPlain xs ys a b
+plain-then Queued InGame xs ys l a b = tt
+plain-then InGame Early xs ys l a b = absurd l
+plain-then InGame Queued xs ys l a b = absurd l
+plain-then InGame InGame xs ys l a b = tt
+
+-- a connection's phase, and what it was told so far
+pub record IsKept (c : ℕ) (t : Table) (said : List Said) : Type 0 where
+  pub phase : Phase
+  pub holds : Has c phase t
+  pub unopened : t.openings < c → phase ≡ Early
+  pub plain : WhilePlain phase said
+
+early-plain : (p : Phase) (said : List Said) → p ≡ Early → WhilePlain p said → AllByRecursion IsPlain said
+early-plain Early said is a = a
+early-plain Queued said is a = a
+early-plain InGame said is a = absurd cc
+
+apart-suits : (c : ℕ) (p : Phase) (ms : List Member) → NoneOn c ms → AllByRecursion (Suits c p) ms
+apart-suits c p [] a = tt
+apart-suits c p (m ∷ ms) a = let e : (m.conn == c) ≡ false = a.0 in (λ own. absurd cc, apart-suits c p ms a.1)
+
+opens-early : (c : ℕ) (p : Phase) (e : Event) (t : Table) → (t.openings < c → p ≡ Early) → Opens c p t e
+opens-early c p (Open Main peer) t early = λ own. let same : t.openings + 1 ≡ c = eqb-true (t.openings + 1) c own in early (omega (arith, same))
+opens-early c p (Open Side peer) t early = tt
+opens-early c p (Packet conn kind body) t early = tt
+opens-early c p (Broken conn) t early = tt
+opens-early c p (Shut conn) t early = tt
+opens-early c p Tick t early = tt
+opens-early c p Stop t early = tt
+
+step-by : (b : Bool) (c : ℕ) (o : Origin) (e : Event) (t : Table) (said : List Said) → nat_lt (stepped o t e).openings c ≡ b → KnowsOpened t → IsKept c t said → IsKept c (stepped o t e) (said ++ told_by o t e c)
+step-by true c o e t said is knows kept =
+    let s : Table = stepped o t e in
+    let l : s.openings < c = ltb-true s.openings c is in
+    let p : Passes c t (deed o e t) = step-passes o e t c knows l in
+    let nothing : told_by o t e c ≡ [] = missed c o (filling o t s) (deed o e t).told p.misses in
+    let before : t.openings < c = omega (arith, l, p.openings) in
+    record {
+      phase = Early;
+      holds = record { suits = apart-suits c Early s.members p.apart.members; place = p.apart.queue };
+      unopened = λ later. refl;
+      plain = rw (nothing, append-nil said) (early-plain kept.phase said (kept.unopened before) kept.plain);
+    }
+step-by false c o e t said is knows kept =
+    let s : Table = stepped o t e in
+    let l : c ≤ s.openings = ltb-false s.openings c is in
+    let g : GoesBy c kept.phase (deed o e t) = deed-goes c kept.phase o e t (opens-early c kept.phase e t kept.unopened) kept.holds in
+    record {
+      phase = g.to;
+      holds = g.holds;
+      unopened = λ above. absurd (omega (arith, l, above));
+      plain = plain-then kept.phase g.to said (told_by o t e c) g.later kept.plain (while-plain g.to c o (filling o t s) (deed o e t).told g.quiet);
+    }
+
+from-kept : (c : ℕ) (o : Origin) (es : List Event) (t : Table) (said : List Said) → KnowsOpened t → IsKept c t said → IsKept c (fold (stepped o) t es) (said ++ heard_from o t es c)
+from-kept c o [] t said knows kept = rw (append-nil said) kept
+from-kept c o (e ∷ es) t said knows kept =
+    let s : Table = stepped o t e in
+    let next : IsKept c s (said ++ told_by o t e c) = step-by (nat_lt s.openings c) c o e t said refl knows kept in
+    rw (sym (append_assoc said (told_by o t e c) (heard_from o s es c))) (from-kept c o es s (said ++ told_by o t e c) (step-knows o e t knows) next)
+
+pub is-kept : (c : ℕ) (o : Origin) (es : List Event) → IsKept c (table_of o es) (heard o es c)
+is-kept c o es = from-kept c o es first [] (λ x above. record { members = tt; queue = tt }) (record { phase = Early; holds = record { suits = tt; place = tt }; unopened = λ above. refl; plain = tt })
+
+-- ---- a member that does not play
+
+plays-at : (p : Phase) (m : Member) (said : List Said) → fits p (rank m.status) → is_playing m ≡ false → WhilePlain p said → AllByRecursion IsPlain said
+plays-at Early m said fit is a = a
+plays-at Queued m said fit is a = a
+plays-at InGame m said fit is a = let high : 8 ≤ rank m.status = fit in let low : nat_le 8 (rank m.status) ≡ true = le-leb 8 (rank m.status) high in absurd cc
+
+suits-found : (c : ℕ) (p : Phase) (t : Table) (m : Member) → member_of t c ≡ Some m → Has c p t → Suits c p m
+suits-found c p t m is h = suits-by (member_of t c) is (found-all (Suits c p) (is_on c) t.members h.suits)
+  where
+    suits-by : (x : Option Member) → x ≡ Some m → AllOption (Suits c p) x → Suits c p m
+    suits-by None is a = absurd cc
+    suits-by (Some n) is a = let e : n ≡ m = cc in rw (sym e) a
+
+pub not-yet : (o : Origin) (es : List Event) (c : ℕ) (m : Member) → member_of (table_of o es) c ≡ Some m → is_playing m ≡ false → AllByRecursion IsPlain (heard o es c)
+not-yet o es c m is idle =
+    let kept : IsKept c (table_of o es) (heard o es c) = is-kept c o es in
+    let own : (m.conn == c) ≡ true = eq-eqb m.conn c (found-on c (table_of o es).members m is) in
+    plays-at kept.phase m (heard o es c) (suits-found c kept.phase (table_of o es) m is kept.holds own) idle kept.plain
+
+-- ---- a connection that ended
+
+none-of : (b : Bool) (c : ℕ) (m : Member) (ms : List Member) → (m.conn == c) ≡ b → (b || list_any (λ x. x == c) (conns ms)) ≡ false → (list_any (λ x. x == c) (conns ms) ≡ false → NoneOn c ms) → NoneOn c (m ∷ ms)
+none-of true c m ms is gone next = absurd cc
+none-of false c m ms is gone next = (is, next gone)
+
+none-there : (c : ℕ) (ms : List Member) → list_any (λ x. x == c) (conns ms) ≡ false → NoneOn c ms
+none-there c [] gone = tt
+none-there c (m ∷ ms) gone = none-of (m.conn == c) c m ms refl gone (λ later. none-there c ms later)
+
+place-gone : (p : Phase) (c : ℕ) (q xs : List ℕ) → list_any (λ x. x == c) xs ≡ false → Place p c q xs → NotIn c q
+place-gone Early c q xs gone h = h
+place-gone Queued c q xs gone h = let there : list_any (λ x. x == c) xs ≡ true = h.1 in absurd cc
+place-gone InGame c q xs gone h = h
+
+gone-apart : (c : ℕ) (p : Phase) (t : Table) → is_live t c ≡ false → Has c p t → Apart c t
+gone-apart c p t gone h =
+    let none : list_any (λ x. x == c) (conns t.members) ≡ false = sym (live-conns c t.members) ∙ gone in
+    record { members = none-there c t.members none; queue = place-gone p c t.queue (conns t.members) none h.place }
+
+is-other-gt : (x c : ℕ) → c < x → IsOther c x
+is-other-gt x c l = search (arith, l)
+
+spares-opened : (c : ℕ) (e : Event) (t : Table) → c ≤ t.openings → Spares c t e
+spares-opened c (Open Main peer) t l = is-other-gt (t.openings + 1) c (omega (arith, l))
+spares-opened c (Open Side peer) t l = tt
+spares-opened c (Packet conn kind body) t l = tt
+spares-opened c (Broken conn) t l = tt
+spares-opened c (Shut conn) t l = tt
+spares-opened c Tick t l = tt
+spares-opened c Stop t l = tt
+
+from-ended : (c : ℕ) (o : Origin) (es : List Event) (t : Table) → c ≤ t.openings → Apart c t → Apart c (fold (stepped o) t es) × (heard_from o t es c ≡ [])
+from-ended c o [] t l a = (a, refl)
+from-ended c o (e ∷ es) t l a =
+    let s : Table = stepped o t e in
+    let p : Passes c t (deed o e t) = deed-passes c o e t (λ is. spares-opened c e t l) a in
+    let rest : Apart c (fold (stepped o) s es) × (heard_from o s es c ≡ []) = from-ended c o es s (omega (arith, l, p.openings)) p.apart in
+    (rest.0, ap (λ (xs : List Said). xs ++ heard_from o s es c) (missed c o (filling o t s) (deed o e t).told p.misses) ∙ rest.1)
+
+pub ended : (o : Origin) (es fs : List Event) (c : ℕ) → c ≤ (table_of o es).openings → is_live (table_of o es) c ≡ false → Apart c (fold (stepped o) (table_of o es) fs) × (heard_from o (table_of o es) fs c ≡ [])
+ended o es fs c l gone = let kept : IsKept c (table_of o es) (heard o es c) = is-kept c o es in from-ended c o fs (table_of o es) l (gone-apart c kept.phase (table_of o es) gone kept.holds)
+
+pub ended-not-live : (o : Origin) (es fs : List Event) (c : ℕ) → c ≤ (table_of o es).openings → is_live (table_of o es) c ≡ false → is_live (table_of o (es ++ fs)) c ≡ false
+ended-not-live o es fs c l gone = ap (λ (t : Table). is_live t c) (fold-append (stepped o) first es fs) ∙ apart-not-live c (fold (stepped o) (table_of o es) fs) (ended o es fs c l gone).0
+
+pub ended-heard : (o : Origin) (es fs : List Event) (c : ℕ) → c ≤ (table_of o es).openings → is_live (table_of o es) c ≡ false → heard o (es ++ fs) c ≡ heard o es c
+ended-heard o es fs c l gone = heard-append o first es fs c ∙ ap (λ (xs : List Said). heard o es c ++ xs) (ended o es fs c l gone).1 ∙ append-nil (heard o es c)
