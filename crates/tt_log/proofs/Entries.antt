@@ -1,5 +1,5 @@
 -- What events add to the journal.
-use Rattle.std.proofs.Common.{◌≡◌, ℕ, suc, zero, ◌+◌, ◌≤◌, ◌<◌, List, [], ◌∷◌, ◌++◌, refl, ap, sym, ◌∙◌, true, false, Bool, arith, append-nil, append_assoc}
+use Rattle.std.proofs.Common.{◌≡◌, ℕ, ◌+◌, ◌≤◌, List, [], ◌∷◌, ◌++◌, refl, ap, sym, ◌∙◌, true, false, Bool, arith, append-nil, append_assoc}
 use Rattle.std.specs.Prelude.{fold, map, flat_map, take, nat_lt}
 use Rattle.std.proofs.lemmas.Bool.{ltb-true}
 use Rattle.std.proofs.lemmas.List.Sums.{fold-append}
@@ -12,7 +12,7 @@ use Rattle.tt_lockstep.proofs.Journals.{AreUpTo-more, AreAbove-less, AreAbove-ap
 use Rattle.tt_log.specs.Origin.{Origin, IsJournal, game_of, world_at}
 use Rattle.tt_log.specs.Table.{Table, first}
 use Rattle.tt_log.specs.Member.{Member}
-use Rattle.tt_log.specs.Deed.{Deed, where_}
+use Rattle.tt_log.specs.Deed.{where_}
 use Rattle.tt_log.specs.Tick.{stamps, own_entry, entry_of, stamped, counted, permitted, allowed, ticked}
 use Rattle.tt_log.specs.Events.{by_event, charged, shut_down, stepped, takes}
 use Rattle.tt_log.specs.History.{table_of, journal_of, AreFor}
