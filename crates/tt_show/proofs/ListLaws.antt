@@ -9,7 +9,7 @@ use Rattle.tt_lines.specs.Digits.{IsPiece}
 use Rattle.tt_lines.specs.Lines.{HasNo, lines_of, IsFirstBad}
 use Rattle.tt_lines.proofs.Breaks.{has_no-test, first_is, no_sides}
 use Rattle.tt_show.specs.declared.family.Family.{Family}
-use Rattle.tt_show.specs.declared.family.Family.TheVariants.{Game}
+use Rattle.tt_show.specs.declared.family.Family.TheVariants.{Game, Admin, Coord, Stun, Turn}
 use Rattle.tt_show.specs.ListLines.{ListLine}
 use Rattle.tt_show.specs.Packets.{family_word}
 use Rattle.tt_show.specs.Lists.{line_text, IsLine, IsList, line_shown, list_shown, IsShown}
@@ -18,9 +18,17 @@ use Rattle.tt_show.specs.Lists.{line_text, IsLine, IsList, line_shown, list_show
 
 word_one : (family : Family) → HasNo 32 (family_word family)
 word_one Game = has_no-test 32 (codes "game") refl
+word_one Admin = has_no-test 32 (codes "admin") refl
+word_one Coord = has_no-test 32 (codes "coord") refl
+word_one Stun = has_no-test 32 (codes "stun") refl
+word_one Turn = has_no-test 32 (codes "turn") refl
 
 line_cut : (family : Family) (bytes : List ℕ) → line_text (record { family = family; bytes = bytes }) ≡ family_word family ++ 32 ∷ encode_lower bytes
 line_cut Game bytes = refl
+line_cut Admin bytes = refl
+line_cut Coord bytes = refl
+line_cut Stun bytes = refl
+line_cut Turn bytes = refl
 
 -- what begins with another word is no line
 pub other_word : (text word digits : List ℕ) → text ≡ word ++ 32 ∷ digits → HasNo 32 word → ((family : Family) → word ≢ family_word family) → (line : ListLine) → IsLine line → text ≢ line_text line

@@ -3,10 +3,14 @@ use Rattle.std.specs.Prelude.{ℕ, List, [], ◌∷◌, map}
 use Rattle.tt_frame.specs.FieldForms.{CountWidth, byte, word, Field, u8, u16, u32, u64, up_to, truth, text, digest, optional_digest, raw}
 use Rattle.tt_frame.specs.Rows.{Row, end, rest, ◌▸◌, fixed, counted, marked}
 use Rattle.tt_frame.specs.Tables.{rule_of}
-use Rattle.tt_game.specs.Messages.{messages}
+use Rattle.tt_game.specs.Messages.{messages as game_messages}
+use Rattle.tt_admin.specs.Messages.{messages as admin_messages}
+use Rattle.tt_coord.specs.Coord.{coord_messages}
+use Rattle.tt_coord.specs.Stun.{stun_messages}
+use Rattle.tt_coord.specs.Turn.{turn_messages}
 use Rattle.tt_show.specs.declared.family.Family.{Family}
-use Rattle.tt_show.specs.declared.family.Family.TheVariants.{Game}
-use Rattle.tt_show.specs.Names.{name_of, game_names}
+use Rattle.tt_show.specs.declared.family.Family.TheVariants.{Game, Admin, Coord, Stun, Turn}
+use Rattle.tt_show.specs.Names.{name_of, game_names, admin_names, coord_names, stun_names, turn_names}
 use Rattle.tt_show.specs.declared.forms.Width.{Width}
 use Rattle.tt_show.specs.declared.forms.Width.TheVariants as width
 use Rattle.tt_show.specs.declared.forms.Form.{Form}
@@ -52,8 +56,16 @@ row_of (p ∷ ps) t = with_part p (row_of ps t)
 
 -- the row of a number in the table of a family
 abbrev pub table_row : Family → ℕ → Row
-table_row Game kind = (rule_of messages kind).fields
+table_row Game kind = (rule_of game_messages kind).fields
+table_row Admin kind = (rule_of admin_messages kind).fields
+table_row Coord kind = (rule_of coord_messages kind).fields
+table_row Stun kind = (rule_of stun_messages kind).fields
+table_row Turn kind = (rule_of turn_messages kind).fields
 
 -- the name of a number
 abbrev pub table_name : Family → ℕ → List ℕ
 table_name Game kind = name_of game_names kind
+table_name Admin kind = name_of admin_names kind
+table_name Coord kind = name_of coord_names kind
+table_name Stun kind = name_of stun_names kind
+table_name Turn kind = name_of turn_names kind

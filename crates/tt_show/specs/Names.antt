@@ -49,3 +49,81 @@ game_names =
     ∷ (37, codes "SERVER_SHUTDOWN")
     ∷ (38, codes "SERVER_NEWGAME")
     ∷ []
+
+-- the names of the messages between an admin and the server, which say nothing of who speaks
+abbrev pub admin_names : List (ℕ × List ℕ)
+admin_names =
+    (0, codes "JOIN")
+    ∷ (1, codes "QUIT")
+    ∷ (2, codes "UPDATE_FREQUENCY")
+    ∷ (3, codes "POLL")
+    ∷ (4, codes "CHAT")
+    ∷ (5, codes "RCON")
+    ∷ (6, codes "GAMESCRIPT")
+    ∷ (7, codes "PING")
+    ∷ (8, codes "EXTERNAL_CHAT")
+    ∷ (100, codes "FULL")
+    ∷ (101, codes "BANNED")
+    ∷ (102, codes "ERROR")
+    ∷ (103, codes "PROTOCOL")
+    ∷ (104, codes "WELCOME")
+    ∷ (105, codes "NEWGAME")
+    ∷ (106, codes "SHUTDOWN")
+    ∷ (107, codes "DATE")
+    ∷ (108, codes "CLIENT_JOIN")
+    ∷ (109, codes "CLIENT_INFO")
+    ∷ (110, codes "CLIENT_UPDATE")
+    ∷ (111, codes "CLIENT_QUIT")
+    ∷ (112, codes "CLIENT_ERROR")
+    ∷ (113, codes "COMPANY_NEW")
+    ∷ (114, codes "COMPANY_INFO")
+    ∷ (115, codes "COMPANY_UPDATE")
+    ∷ (116, codes "COMPANY_REMOVE")
+    ∷ (117, codes "COMPANY_ECONOMY")
+    ∷ (118, codes "COMPANY_STATS")
+    ∷ (119, codes "CHAT")
+    ∷ (120, codes "RCON")
+    ∷ (121, codes "CONSOLE")
+    ∷ (122, codes "CMD_NAMES")
+    ∷ (123, codes "CMD_LOGGING_OLD")
+    ∷ (124, codes "GAMESCRIPT")
+    ∷ (125, codes "RCON_END")
+    ∷ (126, codes "PONG")
+    ∷ (127, codes "CMD_LOGGING")
+    ∷ []
+
+-- the names of the messages of the coordinator
+abbrev pub coord_names : List (ℕ × List ℕ)
+coord_names =
+    (0, codes "GC_ERROR")
+    ∷ (1, codes "SERVER_REGISTER")
+    ∷ (2, codes "GC_REGISTER_ACK")
+    ∷ (3, codes "SERVER_UPDATE")
+    ∷ (4, codes "CLIENT_LISTING")
+    ∷ (5, codes "GC_LISTING")
+    ∷ (6, codes "CLIENT_CONNECT")
+    ∷ (7, codes "GC_CONNECTING")
+    ∷ (8, codes "SERCLI_CONNECT_FAILED")
+    ∷ (9, codes "GC_CONNECT_FAILED")
+    ∷ (10, codes "CLIENT_CONNECTED")
+    ∷ (11, codes "GC_DIRECT_CONNECT")
+    ∷ (12, codes "GC_STUN_REQUEST")
+    ∷ (13, codes "SERCLI_STUN_RESULT")
+    ∷ (14, codes "GC_STUN_CONNECT")
+    ∷ (15, codes "GC_NEWGRF_LOOKUP")
+    ∷ (16, codes "GC_TURN_CONNECT")
+    ∷ []
+
+-- the names of the messages to the STUN desk
+abbrev pub stun_names : List (ℕ × List ℕ)
+stun_names =
+    (0, codes "SERCLI_STUN")
+    ∷ []
+
+-- the names of the messages of the TURN server
+abbrev pub turn_names : List (ℕ × List ℕ)
+turn_names =
+    (0, codes "TURN_ERROR")
+    ∷ (1, codes "SERCLI_CONNECT")
+    ∷ (2, codes "TURN_CONNECTED")
+    ∷ []

@@ -5,11 +5,23 @@ use Rattle.tt_frame.specs.Unread.{whole}
 use Rattle.tt_frame.specs.Tables.{Rule, rule_of, read_by}
 use Rattle.tt_frame.specs.Apart.{Parted}
 use Rattle.tt_game.specs.declared.message.GameMsg.{GameMsg}
-use Rattle.tt_game.specs.Messages.{messages}
-use Rattle.tt_game.specs.Apart.{apart}
+use Rattle.tt_game.specs.Messages.{messages as game_messages}
+use Rattle.tt_game.specs.Apart.{apart as game_apart}
+use Rattle.tt_admin.specs.declared.message.AdminMsg.{AdminMsg}
+use Rattle.tt_admin.specs.Messages.{messages as admin_messages}
+use Rattle.tt_admin.specs.Apart.{apart as admin_apart}
+use Rattle.tt_coord.specs.declared.coord.CoordMsg.{CoordMsg}
+use Rattle.tt_coord.specs.Coord.{coord_messages}
+use Rattle.tt_coord.specs.CoordApart.{coord_apart}
+use Rattle.tt_coord.specs.declared.stun.StunMsg.{StunMsg}
+use Rattle.tt_coord.specs.Stun.{stun_messages}
+use Rattle.tt_coord.specs.StunApart.{stun_apart}
+use Rattle.tt_coord.specs.declared.turn.TurnMsg.{TurnMsg}
+use Rattle.tt_coord.specs.Turn.{turn_messages}
+use Rattle.tt_coord.specs.TurnApart.{turn_apart}
 use Rattle.tt_show.specs.declared.family.Family.{Family}
-use Rattle.tt_show.specs.declared.family.Family.TheVariants.{Game}
-use Rattle.tt_show.specs.Names.{name_of, game_names}
+use Rattle.tt_show.specs.declared.family.Family.TheVariants.{Game, Admin, Coord, Stun, Turn}
+use Rattle.tt_show.specs.Names.{name_of, game_names, admin_names, coord_names, stun_names, turn_names}
 use Rattle.tt_show.specs.Texts.{row_text}
 
 -- what a family of messages is shown by: its table, its messages taken apart, and their names
@@ -37,15 +49,39 @@ text_by family p = text_of family (read_by family.table p.kind (whole p.body))
 
 -- the messages of a game
 abbrev pub game : Messages GameMsg
-game = record { table = messages; apart = apart; names = game_names }
+game = record { table = game_messages; apart = game_apart; names = game_names }
+
+-- the messages between an admin and the server
+abbrev pub admin : Messages AdminMsg
+admin = record { table = admin_messages; apart = admin_apart; names = admin_names }
+
+-- the messages of the coordinator
+abbrev pub coord : Messages CoordMsg
+coord = record { table = coord_messages; apart = coord_apart; names = coord_names }
+
+-- the messages to its STUN desk
+abbrev pub stun : Messages StunMsg
+stun = record { table = stun_messages; apart = stun_apart; names = stun_names }
+
+-- the messages of its TURN server
+abbrev pub turn : Messages TurnMsg
+turn = record { table = turn_messages; apart = turn_apart; names = turn_names }
 
 -- the line of a packet of this family
 abbrev pub packet_text : Family → Packet → Option (List ℕ)
 packet_text Game p = text_by game p
+packet_text Admin p = text_by admin p
+packet_text Coord p = text_by coord p
+packet_text Stun p = text_by stun p
+packet_text Turn p = text_by turn p
 
 -- the word that a line of a list begins with
 abbrev pub family_word : Family → List ℕ
 family_word Game = codes "game"
+family_word Admin = codes "admin"
+family_word Coord = codes "coord"
+family_word Stun = codes "stun"
+family_word Turn = codes "turn"
 
 -- a line is appended, where there is one
 abbrev pub Appends : Option (List ℕ) → List ℕ → List ℕ → Type 0

@@ -3,14 +3,26 @@ ghost use Rattle.std.specs.Prelude.{◌≡◌, MatchOption};
 ghost use Rattle.tt_frame.specs.Rows.{unknown};
 ghost use Rattle.tt_show.specs.Forms.{row_of, table_row, table_name};
 
+use crate::admin::admin_row;
+use crate::coord::coord_row;
 use crate::forms::Row;
 use crate::game::game_row;
+use crate::stun::stun_row;
+use crate::turn::turn_row;
 
 /// A family of messages: each has numbers of its own.
 #[derive(Clone, Copy, Debug, PartialEq, Eq, PartialOrd, Ord, Hash)]
 pub enum Family {
     /// The messages between a client and the server of a game.
     Game,
+    /// The messages between an admin and the server.
+    Admin,
+    /// The messages between the coordinator and a server or a client.
+    Coord,
+    /// The messages to the coordinator's STUN desk.
+    Stun,
+    /// The messages between the coordinator's TURN server and a peer.
+    Turn,
 }
 
 /// The row of a number of a family, if a message has it.
@@ -20,5 +32,9 @@ pub(crate) fn row_by(family: Family, kind: u8) -> Option<Row>
 {
     match family {
         Family::Game => game_row(kind),
+        Family::Admin => admin_row(kind),
+        Family::Coord => coord_row(kind),
+        Family::Stun => stun_row(kind),
+        Family::Turn => turn_row(kind),
     }
 }

@@ -2,25 +2,12 @@
 ghost use Rattle.std.specs.Prelude.{◌≡◌, MatchOption};
 ghost use Rattle.tt_frame.specs.Rows.{unknown};
 ghost use Rattle.tt_show.specs.declared.family.Family.TheVariants.{Game};
-ghost use Rattle.tt_show.specs.declared.forms.Tail.TheVariants.{End};
 ghost use Rattle.tt_show.specs.Forms.{row_of, table_row, table_name};
 
 use crate::forms::Form::{Digest, OptionalDigest, Raw, Text, Truth, U8, U16, U32, UpTo};
 use crate::forms::Part::{Counted, One};
-use crate::forms::{Part, Row, Tail, Width};
-
-/// A row of these parts, and nothing behind them.
-fn row(name: &'static [u8], parts: &'static [Part]) -> Row
-    ensures name { result.name.now ≡ name.now }
-    ensures parts { result.parts.now ≡ parts.now }
-    ensures tail { result.tail ≡ End }
-{
-    Row {
-        name,
-        parts,
-        tail: Tail::End,
-    }
-}
+use crate::forms::{Row, Tail, Width};
+use crate::plain::row;
 
 /// The row of a number, if a message has it.
 pub fn game_row(kind: u8) -> Option<Row>

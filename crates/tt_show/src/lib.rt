@@ -6,6 +6,8 @@
 //! `Family`, and a few lines in specs/Names, specs/Packets and specs/Forms.
 #![tactic(auto)]
 
+mod admin;
+mod coord;
 mod family;
 mod fields;
 mod forms;
@@ -14,13 +16,16 @@ mod laws;
 mod list;
 mod list_line;
 mod packet;
+mod plain;
 mod put;
 mod rows;
 mod stream;
+mod stun;
+mod turn;
 mod values;
 
 pub use family::Family;
-pub use laws::one_line;
+pub use laws::{one_admin_line, one_coord_line, one_line, one_stun_line, one_turn_line};
 pub use list::{ShowError, show};
 pub use packet::show_packet;
 pub use stream::show_bytes;

@@ -30,8 +30,8 @@ impl From<OutOfMemory> for ShowError {
     }
 }
 
-/// The text of a list: of each line `game HEX` the text of its bytes. `Line` comes where the input is no list, with the
-/// first bad line; an input of more than 4,294,967,295 lines is answered by `Memory`.
+/// The text of a list: of each line, a family's word and HEX, the text of its bytes. `Line` comes where the input is no
+/// list, with the first bad line; an input of more than 4,294,967,295 lines is answered by `Memory`.
 pub fn show(alloc: Global, input: &[u8]) -> Result<Vec<u8>, ShowError>
     ensures shown { IfOk result (λ text. IsShown input.now text.items) }
     ensures bad { (l : ℕ) → result ≡ Err (Line l) → IsFirstBad IsList (lines_of input.now) l }

@@ -17,6 +17,10 @@ fn family_of(word: &[u8]) -> Option<Family>
 {
     match word {
         b"game" => Some(Family::Game),
+        b"admin" => Some(Family::Admin),
+        b"coord" => Some(Family::Coord),
+        b"stun" => Some(Family::Stun),
+        b"turn" => Some(Family::Turn),
         _ => None,
     }
 }

@@ -1,4 +1,6 @@
-//! Each message once, lines that have no packet, and inputs that are no list.
+//! Each message of a game once, lines that have no packet, and inputs that are no list.
+mod families;
+
 use crate::forms::Form::{Text, Truth, U16, U64};
 use crate::forms::Part::{Counted, Fixed, Marked, One};
 use crate::forms::{Row, Tail, Width};
