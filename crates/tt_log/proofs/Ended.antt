@@ -1,54 +1,33 @@
 -- What a connection was told before it plays, and that it is told no more once it has ended.
-use Rattle.std.proofs.Common.{◌≡◌, ◌⊎◌, inl, inr, ap₂, ℕ, ◌+◌, ◌-◌, ◌≤◌, ◌<◌, List, [], ◌∷◌, ◌++◌, refl, ap, sym, ◌∙◌, true, false, Bool, Option, Some, None, arith, zero, suc}
-use Rattle.std.specs.Prelude.{fold, codes, position, ◌*◌, ◌==◌, drop, take, length, nat_lt, map, find, filter, cond, ◌%◌, not, nat_le, ◌&&◌, ◌||◌, min, is_some, flat_map}
+use Rattle.std.proofs.Common.{◌≡◌, ℕ, ◌+◌, ◌≤◌, ◌<◌, List, [], ◌∷◌, ◌++◌, refl, ap, sym, ◌∙◌, true, false, Bool, Option, Some, None, arith}
+use Rattle.std.specs.Prelude.{fold, ◌*◌, ◌==◌, length, nat_lt, map, cond, nat_le, ◌&&◌, ◌||◌}
 use Rattle.std.specs.List.{AllByRecursion, list_any}
 use Rattle.tt_edge.specs.declared.event.Door.TheVariants.{Main, Side}
 use Rattle.tt_edge.specs.declared.event.Event.{Event}
 use Rattle.tt_edge.specs.declared.event.Event.TheVariants.{Open, Packet, Broken, Shut, Tick, Stop}
 use Rattle.tt_game.specs.declared.message.GameMsg.{GameMsg}
-use Rattle.tt_game.specs.declared.message.GameMsg.TheVariants.{ClientJoin, ClientGameInfo, ClientGamePassword, ClientCompanyPassword, ClientGetmap, ClientMapOk, ClientAck, ClientCommand, ClientChat, ClientSetName, ClientSetPassword, ClientMove, ClientError, ClientQuit, ServerErrorQuit, ServerQuit, ServerError, ServerFrame, ServerJoin, ServerWelcome}
-use Rattle.tt_world.specs.declared.command.Command.{Command}
-use Rattle.tt_world.specs.declared.command.Entry.{Entry}
-use Rattle.tt_rules.specs.Commands.{command_of}
-use Rattle.tt_rules.specs.declared.status.Status.TheVariants.{Map, MapWait, PreActive, Active, Authorized, DoneMap, AuthGame, AuthCompany}
-use Rattle.tt_rules.specs.declared.status.Verdict.{Verdict}
-use Rattle.tt_rules.specs.declared.status.Verdict.TheVariants.{Allowed, Ends}
-use Rattle.tt_log.specs.Origin.{Origin, world_at, at_frame}
-use Rattle.tt_log.specs.Table.{Table, first, member_of, with_member, without_member, digest_of, now_in, playing, welcomed, is_on, is_live}
-use Rattle.tt_log.specs.Member.{Member, is_in, is_welcomed, is_playing, new_member}
-use Rattle.tt_log.specs.Deed.{Said, What, Step, Deed, ◌▹◌, where_, becomes, tells, tells_each, tells_what, tells_playing, msg, map_begin, map_pieces, stamp, entries, end}
-use Rattle.tt_log.specs.Queue.{moved_up, left_place, leaves_queue, begins, changed, downloading, asks, waits}
-use Rattle.tt_log.specs.Ending.{leaves, ends, ends_untold}
-use Rattle.tt_log.specs.Judged.{judged}
-use Rattle.tt_log.specs.PacketRules.{does, client_info, company_step_by, password_step_by, enters, becomes_active, asks_company, acknowledges, has_caught_up, waits_by, is_let_in, is_in_scope, moves, first_company}
-use Rattle.tt_log.specs.Tick.{stamps, drawn, tells_entries, stamped, counted, permitted, told_frame, allowed, moved_if, all_moved, foundings, founders_moved, synced, mapped, if_downloading, next_pieces, is_done, told_pieces, pieces_of, map_left, late, ends_if, limited, each_limited, timed, ticked}
-use Rattle.tt_log.specs.Events.{read_msg, opened, arrives, counted_in, by_verdict, to_member, by_event, charged, closed, shut_down, is_stop, last_frame, stepped, takes, names_live, deed}
+use Rattle.tt_log.specs.Origin.{Origin}
+use Rattle.tt_log.specs.Table.{Table, first, member_of, is_on, is_live}
+use Rattle.tt_log.specs.Member.{Member, is_playing}
+use Rattle.tt_log.specs.Deed.{Said, What, Step, msg, map_begin, map_pieces, stamp, entries, end}
+use Rattle.tt_log.specs.Tick.{pieces_of}
+use Rattle.tt_log.specs.Events.{stepped, deed}
 use Rattle.tt_log.specs.History.{table_of}
-use Rattle.tt_log.specs.Steps.{Filling, Telling, telling, filled, messages_of, filling, tellings}
+use Rattle.tt_log.specs.Steps.{Filling, Telling, telling, filled, messages_of, filling}
 use Rattle.tt_log.specs.Told.{told_to, kept_if, heard_from}
-use Rattle.tt_log.specs.Told as told
-use Rattle.std.specs.List.{position_or_len}
-use Rattle.std.proofs.lemmas.Bool.{ltb-true, le-leb, eqb-true, eqb-false, leb-true, eq-eqb, ltb-false, lt-ltb}
-use Rattle.tt_game.specs.declared.message.GameMsg.TheVariants.{ServerCommand}
+use Rattle.std.proofs.lemmas.Bool.{ltb-true, le-leb, eqb-true, eq-eqb, ltb-false}
 use Rattle.tt_rules.specs.Statuses.{rank}
-use Rattle.tt_rules.specs.Verdict.{permits, verdict_of, first_reason, refusal}
 use Rattle.tt_log.specs.Deed.{game, sync}
 use Rattle.tt_log.specs.Told.{is_entry}
-use Rattle.tt_log.specs.Judged.{unless, refused}
-use Rattle.tt_log.specs.Table.{living_in}
-use Rattle.tt_log.proofs.Clock.{taken, ends_by}
 use Rattle.std.proofs.Common.{append-nil, append_assoc}
 use Rattle.std.proofs.lemmas.List.Sums.{fold-append}
 use Rattle.tt_game.specs.declared.message.GameMsg.TheVariants.{ServerMapData, ServerMapDone}
 use Rattle.tt_log.specs.Told.{heard, told_by}
-use Rattle.tt_log.specs.Steps.{piece_messages}
-use Rattle.tt_log.specs.PacketRules.{told_command}
-use Rattle.tt_log.specs.Origin.{above}
 use Rattle.tt_log.specs.Tick.{pieces_of}
 use Rattle.tt_log.proofs.Going.{heard-append}
-use Rattle.tt_log.proofs.Apart.{all-append, IsOther, NotIn, IsNotOn, NoneOn, Apart, IsApart, Passes, Spares, KnowsOpened, is-other-lt, step-passes, step-knows, deed-passes, missed, step-missed, apart-not-live}
+use Rattle.tt_log.proofs.Apart.{all-append, IsOther, NotIn, NoneOn, Apart, Passes, Spares, KnowsOpened, step-passes, step-knows, deed-passes, missed, apart-not-live}
 use Rattle.tt_log.proofs.Malformed.{conns, live-conns, found-on}
-use Rattle.tt_log.proofs.Phases.{Phase, Early, Queued, InGame, fits, Suits, Place, Holds, Has, is_command, Quiet, AllQuiet, WhileQuiet, Later, GoesBy, AllOption, found-all}
+use Rattle.tt_log.proofs.Phases.{Phase, Early, Queued, InGame, fits, Suits, Place, Has, is_command, AllQuiet, WhileQuiet, Later, GoesBy, AllOption, found-all}
 use Rattle.tt_log.proofs.Onward.{Opens, deed-goes}
 
 -- ---- what quiet steps tell
@@ -154,20 +133,20 @@ step-by true c o e t said is knows kept =
     let nothing : told_by o t e c ≡ [] = missed c o (filling o t s) (deed o e t).told p.misses in
     let before : t.openings < c = omega (arith, l, p.openings) in
     record {
-        phase = Early;
-        holds = record { suits = apart-suits c Early s.members p.apart.members; place = p.apart.queue };
-        unopened = λ later. refl;
-        plain = rw (nothing, append-nil said) (early-plain kept.phase said (kept.unopened before) kept.plain);
+      phase = Early;
+      holds = record { suits = apart-suits c Early s.members p.apart.members; place = p.apart.queue };
+      unopened = λ later. refl;
+      plain = rw (nothing, append-nil said) (early-plain kept.phase said (kept.unopened before) kept.plain);
     }
 step-by false c o e t said is knows kept =
     let s : Table = stepped o t e in
     let l : c ≤ s.openings = ltb-false s.openings c is in
     let g : GoesBy c kept.phase (deed o e t) = deed-goes c kept.phase o e t (opens-early c kept.phase e t kept.unopened) kept.holds in
     record {
-        phase = g.to;
-        holds = g.holds;
-        unopened = λ above. absurd (omega (arith, l, above));
-        plain = plain-then kept.phase g.to said (told_by o t e c) g.later kept.plain (while-plain g.to c o (filling o t s) (deed o e t).told g.quiet);
+      phase = g.to;
+      holds = g.holds;
+      unopened = λ above. absurd (omega (arith, l, above));
+      plain = plain-then kept.phase g.to said (told_by o t e c) g.later kept.plain (while-plain g.to c o (filling o t s) (deed o e t).told g.quiet);
     }
 
 from-kept : (c : ℕ) (o : Origin) (es : List Event) (t : Table) (said : List Said) → KnowsOpened t → IsKept c t said → IsKept c (fold (stepped o) t es) (said ++ heard_from o t es c)

@@ -1,5 +1,5 @@
 -- What events add to the journal.
-use Rattle.std.proofs.Common.{◌≡◌, ℕ, suc, zero, ◌+◌, ◌≤◌, ◌<◌, List, [], ◌∷◌, ◌++◌, refl, ap, sym, ◌∙◌, true, false, Bool, arith, append-nil, append_assoc}
+use Rattle.std.proofs.Common.{◌≡◌, ℕ, ◌+◌, ◌≤◌, List, [], ◌∷◌, ◌++◌, refl, ap, sym, ◌∙◌, true, false, Bool, arith, append-nil, append_assoc}
 use Rattle.std.specs.Prelude.{fold, map, flat_map, take, nat_lt}
 use Rattle.std.proofs.lemmas.Bool.{ltb-true}
 use Rattle.std.proofs.lemmas.List.Sums.{fold-append}
@@ -12,7 +12,7 @@ use Rattle.tt_lockstep.proofs.Journals.{AreUpTo-more, AreAbove-less, AreAbove-ap
 use Rattle.tt_log.specs.Origin.{Origin, IsJournal, game_of, world_at}
 use Rattle.tt_log.specs.Table.{Table, first}
 use Rattle.tt_log.specs.Member.{Member}
-use Rattle.tt_log.specs.Deed.{Deed, where_}
+use Rattle.tt_log.specs.Deed.{where_}
 use Rattle.tt_log.specs.Tick.{stamps, own_entry, entry_of, stamped, counted, permitted, allowed, ticked}
 use Rattle.tt_log.specs.Events.{by_event, charged, shut_down, stepped, takes}
 use Rattle.tt_log.specs.History.{table_of, journal_of, AreFor}
@@ -66,10 +66,10 @@ ticked-adds o t =
     let later : SameClock (allowed o u).table (ticked o t).table = later-same o t in
     let up : u.top ≤ (allowed o u).table.top = raised-top (nat_lt u.top u.frame) (u.frame + o.setup.frame_freq) u (λ is. omega (arith, ltb-true u.top u.frame is)) in
     record {
-        rises = omega (arith, later.top, up, (stamped-same t).top);
-        more = stamps t;
-        journal = later.journal ∙ raised-journal (nat_lt u.top u.frame) (u.frame + o.setup.frame_freq) u ∙ (stamped-same t).journal;
-        are_for = stamps-for t;
+      rises = omega (arith, later.top, up, (stamped-same t).top);
+      more = stamps t;
+      journal = later.journal ∙ raised-journal (nat_lt u.top u.frame) (u.frame + o.setup.frame_freq) u ∙ (stamped-same t).journal;
+      are_for = stamps-for t;
     }
 
 event-adds : (o : Origin) (e : Event) (t : Table) → Adds t (by_event o e t).table
@@ -118,10 +118,10 @@ from-grows o (e ∷ es) t =
     let a : Adds t u = step-adds o t e in
     let g : Grows o u (fold (stepped o) u es) = from-grows o es u in
     record {
-        rises = omega (arith, a.rises, g.rises);
-        more = a.more ++ g.more;
-        journal = g.journal ∙ ap (λ (xs : List Entry). xs ++ g.more) a.journal ∙ append_assoc t.journal a.more g.more;
-        are_above = AreAbove-append (game_of o) t.top a.more g.more (for-above o t.top a.more a.are_for) (AreAbove-less (game_of o) t.top u.top g.more g.are_above a.rises);
+      rises = omega (arith, a.rises, g.rises);
+      more = a.more ++ g.more;
+      journal = g.journal ∙ ap (λ (xs : List Entry). xs ++ g.more) a.journal ∙ append_assoc t.journal a.more g.more;
+      are_above = AreAbove-append (game_of o) t.top a.more g.more (for-above o t.top a.more a.are_for) (AreAbove-less (game_of o) t.top u.top g.more g.are_above a.rises);
     }
 
 -- ---- the journal does not fall
@@ -149,8 +149,8 @@ pub record IsStamped (o : Origin) (journal : List Entry) (top : ℕ) : Type 0 wh
 
 adds-stamped : (o : Origin) (t u : Table) → Adds t u → IsStamped o t.journal t.top → IsStamped o u.journal u.top
 adds-stamped o t u a kept = rw a.journal (record {
-    rising = rising-append o 0 (t.top + 1) t.journal a.more kept.rising kept.stamped a.are_for (omega arith);
-    stamped = AreUpTo-more (game_of o) (t.top + 1) (u.top + 1) (t.journal ++ a.more) (up_to-append o (t.top + 1) t.journal a.more kept.stamped (up_to-for o (t.top + 1) a.more a.are_for)) (omega (arith, a.rises));
+  rising = rising-append o 0 (t.top + 1) t.journal a.more kept.rising kept.stamped a.are_for (omega arith);
+  stamped = AreUpTo-more (game_of o) (t.top + 1) (u.top + 1) (t.journal ++ a.more) (up_to-append o (t.top + 1) t.journal a.more kept.stamped (up_to-for o (t.top + 1) a.more a.are_for)) (omega (arith, a.rises));
 })
 
 from-stamped : (o : Origin) (es : List Event) (t : Table) → IsStamped o t.journal t.top → IsStamped o (fold (stepped o) t es).journal (fold (stepped o) t es).top

@@ -1,47 +1,29 @@
 -- Every rule brings a connection only further, and tells it no command of the journal before it plays.
-use Rattle.std.proofs.Common.{◌≡◌, ◌⊎◌, inl, inr, ap₂, ℕ, ◌+◌, ◌-◌, ◌≤◌, ◌<◌, List, [], ◌∷◌, ◌++◌, refl, ap, sym, ◌∙◌, true, false, Bool, Option, Some, None, arith, zero, suc}
-use Rattle.std.specs.Prelude.{fold, codes, position, ◌*◌, ◌==◌, drop, take, length, nat_lt, map, find, filter, cond, ◌%◌, not, nat_le, ◌&&◌, ◌||◌, min, is_some, flat_map}
-use Rattle.std.specs.List.{AllByRecursion, list_any}
-use Rattle.tt_edge.specs.declared.event.Door.TheVariants.{Main, Side}
-use Rattle.tt_edge.specs.declared.event.Event.{Event}
-use Rattle.tt_edge.specs.declared.event.Event.TheVariants.{Open, Packet, Broken, Shut, Tick, Stop}
+use Rattle.std.proofs.Common.{◌≡◌, inl, inr, ℕ, ◌+◌, ◌≤◌, List, [], ◌∷◌, ◌++◌, refl, ◌∙◌, true, false, Bool, Option, Some, None, arith}
+use Rattle.std.specs.Prelude.{◌==◌, length, map, filter, not, nat_le, ◌&&◌}
+use Rattle.std.specs.List.{list_any}
 use Rattle.tt_game.specs.declared.message.GameMsg.{GameMsg}
-use Rattle.tt_game.specs.declared.message.GameMsg.TheVariants.{ClientJoin, ClientGameInfo, ClientGamePassword, ClientCompanyPassword, ClientGetmap, ClientMapOk, ClientAck, ClientCommand, ClientChat, ClientSetName, ClientSetPassword, ClientMove, ClientError, ClientQuit, ServerErrorQuit, ServerQuit, ServerError, ServerFrame, ServerJoin, ServerWelcome}
+use Rattle.tt_game.specs.declared.message.GameMsg.TheVariants.{ClientJoin, ClientGameInfo, ClientGamePassword, ClientCompanyPassword, ClientGetmap, ClientMapOk, ClientAck, ClientCommand, ClientChat, ClientSetName, ClientSetPassword, ClientMove, ClientError, ClientQuit, ServerErrorQuit, ServerQuit, ServerFrame, ServerJoin, ServerWelcome}
 use Rattle.tt_world.specs.declared.command.Command.{Command}
-use Rattle.tt_world.specs.declared.command.Entry.{Entry}
 use Rattle.tt_rules.specs.Commands.{command_of}
-use Rattle.tt_rules.specs.declared.status.Status.TheVariants.{Map, MapWait, PreActive, Active, Authorized, DoneMap, AuthGame, AuthCompany}
+use Rattle.tt_rules.specs.declared.status.Status.TheVariants.{MapWait, PreActive, Active, Authorized, AuthGame, AuthCompany}
 use Rattle.tt_rules.specs.declared.status.Verdict.{Verdict}
 use Rattle.tt_rules.specs.declared.status.Verdict.TheVariants.{Allowed, Ends}
-use Rattle.tt_log.specs.Origin.{Origin, world_at, at_frame}
-use Rattle.tt_log.specs.Table.{Table, first, member_of, with_member, without_member, digest_of, now_in, playing, welcomed, is_on, is_live}
-use Rattle.tt_log.specs.Member.{Member, is_in, is_welcomed, is_playing, new_member}
-use Rattle.tt_log.specs.Deed.{Said, What, Step, Deed, ◌▹◌, where_, becomes, tells, tells_each, tells_what, tells_playing, msg, map_begin, map_pieces, stamp, entries, end}
-use Rattle.tt_log.specs.Queue.{moved_up, left_place, leaves_queue, begins, changed, downloading, asks, waits}
-use Rattle.tt_log.specs.Ending.{leaves, ends, ends_untold}
+use Rattle.tt_log.specs.Origin.{Origin}
+use Rattle.tt_log.specs.Table.{Table, with_member, digest_of, now_in, playing, welcomed}
+use Rattle.tt_log.specs.Member.{Member, is_in}
+use Rattle.tt_log.specs.Deed.{Deed, ◌▹◌, where_, becomes, tells, tells_each, tells_what, tells_playing, msg, entries}
+use Rattle.tt_log.specs.Queue.{moved_up, leaves_queue, asks}
 use Rattle.tt_log.specs.Judged.{judged}
-use Rattle.tt_log.specs.PacketRules.{does, client_info, company_step_by, password_step_by, enters, becomes_active, asks_company, acknowledges, has_caught_up, waits_by, is_let_in, is_in_scope, moves, first_company}
-use Rattle.tt_log.specs.Tick.{stamps, drawn, tells_entries, stamped, counted, permitted, told_frame, allowed, moved_if, all_moved, foundings, founders_moved, synced, mapped, if_downloading, next_pieces, is_done, told_pieces, pieces_of, map_left, late, ends_if, limited, each_limited, timed, ticked}
-use Rattle.tt_log.specs.Events.{read_msg, opened, arrives, counted_in, by_verdict, heard, to_member, by_event, charged, closed, shut_down, is_stop, last_frame, stepped, takes, names_live, deed}
-use Rattle.tt_log.specs.History.{table_of}
-use Rattle.tt_log.specs.Steps.{Filling, Telling, telling, filled, messages_of, filling, tellings}
-use Rattle.tt_log.specs.Told.{told_to, told_by, kept_if, heard_from}
-use Rattle.tt_log.specs.Told as told
-use Rattle.std.specs.List.{position_or_len}
-use Rattle.std.proofs.lemmas.Bool.{eqb-true, eqb-false, leb-true, eq-eqb, ltb-false, lt-ltb}
-use Rattle.tt_game.specs.declared.message.GameMsg.TheVariants.{ServerCommand}
+use Rattle.tt_log.specs.PacketRules.{does, client_info, company_step_by, password_step_by, enters, becomes_active, asks_company, acknowledges, has_caught_up, waits_by, is_let_in, first_company}
+use Rattle.tt_log.specs.Events.{by_verdict, heard}
+use Rattle.std.proofs.lemmas.Bool.{eqb-true}
 use Rattle.tt_rules.specs.Statuses.{rank}
-use Rattle.tt_rules.specs.Verdict.{permits, verdict_of, first_reason, refusal}
-use Rattle.tt_log.specs.Deed.{game, sync}
-use Rattle.tt_log.specs.Told.{is_entry}
+use Rattle.tt_rules.specs.Verdict.{permits, verdict_of, first_reason}
 use Rattle.tt_log.specs.Judged.{unless, refused}
-use Rattle.tt_log.specs.Table.{living_in}
-use Rattle.tt_log.proofs.Clock.{taken, ends_by}
-use Rattle.tt_rules.specs.declared.status.Status.TheVariants.{Inactive}
-use Rattle.tt_rules.specs.Statuses.{is_at}
 use Rattle.tt_log.proofs.Apart.{all-append, IsOther, NotIn, any-not}
 use Rattle.tt_log.proofs.Malformed.{conns}
-use Rattle.tt_log.proofs.Phases.{Phase, Early, Queued, InGame, fits, Suits, OnceIn, Place, Holds, Has, is_command, Quiet, AllQuiet, WhileQuiet, Later, Keeps, Goes, KeepsBy, GoesBy, later-self, goes-kept, then-keeps, then-goes, kept-goes, still-keeps, where-keeps, where-goes, says-keeps, place-live, any-with, put, put-own, early-stays, queued-stays, playing-stays, AllOption, found-all, found-passes, moved-keeps, leaves-queue-keeps, Cut, leaves-queue-cut, place-once, later-end, leaves-goes, ends-goes}
+use Rattle.tt_log.proofs.Phases.{Phase, Early, Queued, InGame, fits, Suits, OnceIn, Place, Has, AllQuiet, KeepsBy, GoesBy, goes-kept, then-keeps, still-keeps, where-keeps, any-with, put, put-own, early-stays, playing-stays, moved-keeps, leaves-queue-keeps, Cut, leaves-queue-cut, place-once, later-end, leaves-goes, ends-goes}
 
 -- ---- packets
 

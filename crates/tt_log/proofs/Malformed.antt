@@ -5,16 +5,15 @@ use Rattle.std.specs.List.{list_any}
 use Rattle.std.proofs.lemmas.Bool.{eqb-true}
 use Rattle.tt_edge.specs.declared.event.Event.TheVariants.{Packet}
 use Rattle.tt_game.specs.declared.message.GameMsg.{GameMsg}
-use Rattle.tt_game.specs.declared.message.GameMsg.TheVariants.{ServerErrorQuit, ServerError}
-use Rattle.tt_world.specs.declared.command.Command.{Command}
+use Rattle.tt_game.specs.declared.message.GameMsg.TheVariants.{ServerErrorQuit}
 use Rattle.tt_log.specs.Origin.{Origin}
-use Rattle.tt_log.specs.Table.{Table, member_of, with_member, without_member, is_on, is_live}
+use Rattle.tt_log.specs.Table.{Table, member_of, without_member, is_on, is_live}
 use Rattle.tt_log.specs.Member.{Member, is_welcomed}
-use Rattle.tt_log.specs.Deed.{Deed, where_, tells_playing}
-use Rattle.tt_log.specs.Queue.{moved_up, left_place, leaves_queue, begins, changed, downloading}
+use Rattle.tt_log.specs.Deed.{where_, tells_playing}
+use Rattle.tt_log.specs.Queue.{moved_up, left_place, begins, changed, downloading}
 use Rattle.tt_log.specs.Ending.{leaves}
 use Rattle.tt_log.specs.Events.{read_msg, heard, to_member, by_event}
-use Rattle.tt_log.proofs.Clock.{SameClock, event-same}
+use Rattle.tt_log.proofs.Clock.{event-same}
 
 -- ---- the connections of the members
 

@@ -1,46 +1,26 @@
 -- Ticks and events bring a connection only further.
-use Rattle.std.proofs.Common.{◌≡◌, ◌⊎◌, inl, inr, ap₂, ℕ, ◌+◌, ◌-◌, ◌≤◌, ◌<◌, List, [], ◌∷◌, ◌++◌, refl, ap, sym, ◌∙◌, true, false, Bool, Option, Some, None, arith, zero, suc}
-use Rattle.std.specs.Prelude.{fold, codes, position, ◌*◌, ◌==◌, drop, take, length, nat_lt, map, find, filter, cond, ◌%◌, not, nat_le, ◌&&◌, ◌||◌, min, is_some, flat_map}
+use Rattle.std.proofs.Common.{◌≡◌, ap₂, ℕ, ◌+◌, ◌-◌, ◌≤◌, List, [], ◌∷◌, ◌++◌, refl, ap, sym, ◌∙◌, true, false, Bool, Option, Some, None, arith}
+use Rattle.std.specs.Prelude.{◌*◌, ◌==◌, length, nat_lt, map, find, filter, cond, ◌%◌, not, nat_le, ◌||◌, is_some}
 use Rattle.std.specs.List.{AllByRecursion, list_any}
 use Rattle.tt_edge.specs.declared.event.Door.TheVariants.{Main, Side}
 use Rattle.tt_edge.specs.declared.event.Event.{Event}
 use Rattle.tt_edge.specs.declared.event.Event.TheVariants.{Open, Packet, Broken, Shut, Tick, Stop}
-use Rattle.tt_game.specs.declared.message.GameMsg.{GameMsg}
-use Rattle.tt_game.specs.declared.message.GameMsg.TheVariants.{ClientJoin, ClientGameInfo, ClientGamePassword, ClientCompanyPassword, ClientGetmap, ClientMapOk, ClientAck, ClientCommand, ClientChat, ClientSetName, ClientSetPassword, ClientMove, ClientError, ClientQuit, ServerErrorQuit, ServerQuit, ServerError, ServerFrame, ServerJoin, ServerWelcome}
-use Rattle.tt_world.specs.declared.command.Command.{Command}
+use Rattle.tt_game.specs.declared.message.GameMsg.TheVariants.{ServerErrorQuit}
 use Rattle.tt_world.specs.declared.command.Entry.{Entry}
-use Rattle.tt_rules.specs.Commands.{command_of}
-use Rattle.tt_rules.specs.declared.status.Status.TheVariants.{Map, MapWait, PreActive, Active, Authorized, DoneMap, AuthGame, AuthCompany}
-use Rattle.tt_rules.specs.declared.status.Verdict.{Verdict}
-use Rattle.tt_rules.specs.declared.status.Verdict.TheVariants.{Allowed, Ends}
+use Rattle.tt_rules.specs.declared.status.Status.TheVariants.{Map, DoneMap}
 use Rattle.tt_log.specs.Origin.{Origin, world_at, at_frame}
-use Rattle.tt_log.specs.Table.{Table, first, member_of, with_member, without_member, digest_of, now_in, playing, welcomed, is_on, is_live}
-use Rattle.tt_log.specs.Member.{Member, is_in, is_welcomed, is_playing, new_member}
-use Rattle.tt_log.specs.Deed.{Said, What, Step, Deed, ◌▹◌, where_, becomes, tells, tells_each, tells_what, tells_playing, msg, map_begin, map_pieces, stamp, entries, end}
-use Rattle.tt_log.specs.Queue.{moved_up, left_place, leaves_queue, begins, changed, downloading, asks, waits}
-use Rattle.tt_log.specs.Ending.{leaves, ends, ends_untold}
-use Rattle.tt_log.specs.Judged.{judged}
-use Rattle.tt_log.specs.PacketRules.{does, client_info, company_step_by, password_step_by, enters, becomes_active, asks_company, acknowledges, has_caught_up, waits_by, is_let_in, is_in_scope, moves, first_company}
+use Rattle.tt_log.specs.Table.{Table, member_of, playing, is_on}
+use Rattle.tt_log.specs.Member.{Member, is_in, is_playing, new_member}
+use Rattle.tt_log.specs.Deed.{Deed, ◌▹◌, where_, becomes, tells_what, map_pieces}
+use Rattle.tt_log.specs.Ending.{ends_untold}
 use Rattle.tt_log.specs.Tick.{stamps, drawn, tells_entries, stamped, counted, permitted, told_frame, allowed, moved_if, all_moved, foundings, founders_moved, synced, mapped, if_downloading, next_pieces, is_done, told_pieces, pieces_of, map_left, late, ends_if, limited, each_limited, timed, ticked}
-use Rattle.tt_log.specs.Events.{read_msg, opened, arrives, counted_in, by_verdict, heard, to_member, by_event, charged, closed, shut_down, is_stop, last_frame, stepped, takes, names_live, deed}
-use Rattle.tt_log.specs.History.{table_of}
-use Rattle.tt_log.specs.Steps.{Filling, Telling, telling, filled, messages_of, filling, tellings}
-use Rattle.tt_log.specs.Told.{told_to, told_by, kept_if, heard_from}
-use Rattle.tt_log.specs.Told as told
-use Rattle.std.specs.List.{position_or_len}
-use Rattle.std.proofs.lemmas.Bool.{eqb-true, eqb-false, leb-true, eq-eqb, ltb-false, lt-ltb}
-use Rattle.tt_game.specs.declared.message.GameMsg.TheVariants.{ServerCommand}
+use Rattle.tt_log.specs.Events.{read_msg, opened, arrives, counted_in, heard, to_member, by_event, charged, closed, shut_down, takes, deed}
+use Rattle.std.proofs.lemmas.Bool.{eqb-true, leb-true}
 use Rattle.tt_rules.specs.Statuses.{rank}
-use Rattle.tt_rules.specs.Verdict.{permits, verdict_of, first_reason, refusal}
-use Rattle.tt_log.specs.Deed.{game, sync}
-use Rattle.tt_log.specs.Told.{is_entry}
-use Rattle.tt_log.specs.Judged.{unless, refused}
-use Rattle.tt_log.specs.Table.{living_in}
 use Rattle.tt_log.proofs.Clock.{taken, ends_by}
-use Rattle.tt_rules.specs.declared.status.Status.TheVariants.{Inactive}
-use Rattle.tt_log.proofs.Apart.{all-append, IsOther, NotIn, any-not}
+use Rattle.tt_log.proofs.Apart.{all-append, NotIn, any-not}
 use Rattle.tt_log.proofs.Malformed.{conns, live-conns, found-on}
-use Rattle.tt_log.proofs.Phases.{Phase, Early, Queued, InGame, fits, Suits, OnceIn, Place, Holds, Has, is_command, Quiet, AllQuiet, WhileQuiet, Later, Keeps, Goes, KeepsBy, GoesBy, later-self, goes-kept, then-keeps, then-goes, kept-goes, still-keeps, where-keeps, where-goes, says-keeps, place-live, any-with, put, early-stays, queued-stays, AllOption, found-all, found-passes, later-end, leaves-goes, ends-goes}
+use Rattle.tt_log.proofs.Phases.{Phase, Early, Queued, InGame, fits, Suits, Place, Has, AllQuiet, KeepsBy, GoesBy, goes-kept, then-keeps, then-goes, still-keeps, where-keeps, where-goes, place-live, put, queued-stays, AllOption, found-all, found-passes, later-end, leaves-goes, ends-goes}
 use Rattle.tt_log.proofs.Further.{IsThere, heard-goes}
 
 -- ---- stamps go to those that play
@@ -103,8 +83,8 @@ told-conns top (m ∷ ms) = ap₂ (λ (x : ℕ) (xs : List ℕ). x ∷ xs) (elim
 
 permitted-keeps : (c top : ℕ) (p : Phase) (t : Table) → Has c p t → KeepsBy c p (permitted top t)
 permitted-keeps c top p t h = record {
-    holds = record { suits = told-suits c top p t.members h.suits; place = place-live p c t.queue (conns t.members) (conns (map (told_frame top) t.members)) (ap (λ (xs : List ℕ). list_any (λ x. x == c) xs) (told-conns top t.members)) h.place };
-    quiet = (refl, tt);
+  holds = record { suits = told-suits c top p t.members h.suits; place = place-live p c t.queue (conns t.members) (conns (map (told_frame top) t.members)) (ap (λ (xs : List ℕ). list_any (λ x. x == c) xs) (told-conns top t.members)) h.place };
+  quiet = (refl, tt);
 }
 
 allowed-keeps : (c : ℕ) (p : Phase) (o : Origin) (t : Table) → Has c p t → KeepsBy c p (allowed o t)
@@ -125,7 +105,7 @@ pieces-keeps c p left m t at s h =
     let d : Deed = tells_what (m.conn ∷ []) map_pieces t ▹ told_pieces (pieces_of 4 left) m in
     let k : KeepsBy c p d = record { holds = put c p (record m { pieces = m.pieces + length (pieces_of 4 left) }) t s h; quiet = (refl, tt) } in
     then-keeps c p d (where_ (not (nat_lt (4 * 1400) (length left))) (is_done m)) k (λ b. where-keeps c p (not (nat_lt (4 * 1400) (length left))) (is_done m) d.table b
-        (λ yes. record { holds = put c p (record m { status = DoneMap }) d.table (λ own. queued-stays p (rank m.status) 7 (omega (arith, at)) (omega (arith, at)) (omega arith) (omega arith) (s own)) b; quiet = tt }))
+    (λ yes. record { holds = put c p (record m { status = DoneMap }) d.table (λ own. queued-stays p (rank m.status) 7 (omega (arith, at)) (omega (arith, at)) (omega arith) (omega arith) (s own)) b; quiet = tt }))
 
 if-downloading-keeps : (c : ℕ) (p : Phase) (m : Option Member) (o : Origin) (t : Table) → AllOption (λ n. is_in Map n ≡ true) m → AllOption (Suits c p) m → Has c p t → KeepsBy c p (if_downloading m o t)
 if-downloading-keeps c p None o t is s h = still-keeps c p t h

@@ -1,43 +1,21 @@
 -- How far a connection has come: it only comes further, and stands once in the queue just while it waits or downloads.
-use Rattle.std.proofs.Common.{◌≡◌, ◌⊎◌, inl, inr, ap₂, ℕ, ◌+◌, ◌-◌, ◌≤◌, ◌<◌, List, [], ◌∷◌, ◌++◌, refl, ap, sym, ◌∙◌, true, false, Bool, Option, Some, None, arith, zero, suc}
-use Rattle.std.specs.Prelude.{fold, codes, position, ◌*◌, ◌==◌, drop, take, length, nat_lt, map, find, filter, cond, ◌%◌, not, nat_le, ◌&&◌, ◌||◌, min, is_some, flat_map}
+use Rattle.std.proofs.Common.{◌≡◌, ◌⊎◌, inl, inr, ap₂, ℕ, ◌+◌, ◌≤◌, ◌<◌, List, [], ◌∷◌, ◌++◌, refl, ap, sym, ◌∙◌, true, false, Bool, Option, Some, None, arith, zero, suc}
+use Rattle.std.specs.Prelude.{◌==◌, drop, take, length, nat_lt, map, find, cond, not, ◌&&◌}
 use Rattle.std.specs.List.{AllByRecursion, list_any}
-use Rattle.tt_edge.specs.declared.event.Door.TheVariants.{Main, Side}
-use Rattle.tt_edge.specs.declared.event.Event.{Event}
-use Rattle.tt_edge.specs.declared.event.Event.TheVariants.{Open, Packet, Broken, Shut, Tick, Stop}
 use Rattle.tt_game.specs.declared.message.GameMsg.{GameMsg}
-use Rattle.tt_game.specs.declared.message.GameMsg.TheVariants.{ClientJoin, ClientGameInfo, ClientGamePassword, ClientCompanyPassword, ClientGetmap, ClientMapOk, ClientAck, ClientCommand, ClientChat, ClientSetName, ClientSetPassword, ClientMove, ClientError, ClientQuit, ServerErrorQuit, ServerQuit, ServerError, ServerFrame, ServerJoin, ServerWelcome}
-use Rattle.tt_world.specs.declared.command.Command.{Command}
-use Rattle.tt_world.specs.declared.command.Entry.{Entry}
-use Rattle.tt_rules.specs.Commands.{command_of}
-use Rattle.tt_rules.specs.declared.status.Status.TheVariants.{Map, MapWait, PreActive, Active, Authorized, DoneMap, AuthGame, AuthCompany}
-use Rattle.tt_rules.specs.declared.status.Verdict.{Verdict}
-use Rattle.tt_rules.specs.declared.status.Verdict.TheVariants.{Allowed, Ends}
-use Rattle.tt_log.specs.Origin.{Origin, world_at, at_frame}
-use Rattle.tt_log.specs.Table.{Table, first, member_of, with_member, without_member, digest_of, now_in, playing, welcomed, is_on, is_live}
-use Rattle.tt_log.specs.Member.{Member, is_in, is_welcomed, is_playing, new_member}
-use Rattle.tt_log.specs.Deed.{Said, What, Step, Deed, ◌▹◌, where_, becomes, tells, tells_each, tells_what, tells_playing, msg, map_begin, map_pieces, stamp, entries, end}
-use Rattle.tt_log.specs.Queue.{moved_up, left_place, leaves_queue, begins, changed, downloading, asks, waits}
-use Rattle.tt_log.specs.Ending.{leaves, ends, ends_untold}
-use Rattle.tt_log.specs.Judged.{judged}
-use Rattle.tt_log.specs.PacketRules.{does, client_info, company_step_by, password_step_by, enters, becomes_active, asks_company, acknowledges, has_caught_up, waits_by, is_let_in, is_in_scope, moves, first_company}
-use Rattle.tt_log.specs.Tick.{stamps, drawn, tells_entries, stamped, counted, permitted, told_frame, allowed, moved_if, all_moved, foundings, founders_moved, synced, mapped, if_downloading, next_pieces, is_done, told_pieces, pieces_of, map_left, late, ends_if, limited, each_limited, timed, ticked}
-use Rattle.tt_log.specs.Events.{read_msg, opened, arrives, counted_in, by_verdict, heard, to_member, by_event, charged, closed, shut_down, is_stop, last_frame, stepped, takes, names_live, deed}
-use Rattle.tt_log.specs.History.{table_of}
-use Rattle.tt_log.specs.Steps.{Filling, Telling, telling, filled, messages_of, filling, tellings}
-use Rattle.tt_log.specs.Told.{told_to, told_by, kept_if, heard_from}
-use Rattle.tt_log.specs.Told as told
+use Rattle.tt_game.specs.declared.message.GameMsg.TheVariants.{ServerErrorQuit, ServerError}
+use Rattle.tt_log.specs.Origin.{Origin}
+use Rattle.tt_log.specs.Table.{Table, member_of, with_member, without_member, playing, is_on}
+use Rattle.tt_log.specs.Member.{Member, is_welcomed}
+use Rattle.tt_log.specs.Deed.{What, Step, Deed, ◌▹◌, where_, becomes, tells, tells_what, tells_playing, msg, map_begin, map_pieces, stamp, entries, end}
+use Rattle.tt_log.specs.Queue.{moved_up, left_place, leaves_queue, begins, changed, downloading, waits}
+use Rattle.tt_log.specs.Ending.{leaves, ends}
 use Rattle.std.specs.List.{position_or_len}
-use Rattle.std.proofs.lemmas.Bool.{eqb-true, eqb-false, leb-true, eq-eqb, ltb-false, lt-ltb}
-use Rattle.tt_game.specs.declared.message.GameMsg.TheVariants.{ServerCommand}
+use Rattle.std.proofs.lemmas.Bool.{eqb-true, eqb-false, ltb-false}
 use Rattle.tt_rules.specs.Statuses.{rank}
-use Rattle.tt_rules.specs.Verdict.{permits, verdict_of, first_reason, refusal}
 use Rattle.tt_log.specs.Deed.{game, sync}
 use Rattle.tt_log.specs.Told.{is_entry}
-use Rattle.tt_log.specs.Judged.{unless, refused}
-use Rattle.tt_log.specs.Table.{living_in}
-use Rattle.tt_log.proofs.Clock.{taken, ends_by}
-use Rattle.tt_log.proofs.Apart.{all-append, all-take, all-drop, all-filter, IsOther, NotIn, IsNotOn, NoneOn, Apart, IsApart}
+use Rattle.tt_log.proofs.Apart.{all-append, all-drop, all-filter, IsOther, NotIn}
 use Rattle.tt_log.proofs.Malformed.{conns, others, with-conns, live-conns, stays-all, found-on}
 
 -- ---- phases
@@ -387,8 +365,8 @@ left-cut true c o t is cut =
     let u : Table = record t { queue = take (place_in c t.queue) t.queue ++ drop (place_in c t.queue + 1) t.queue } in
     let none : NotIn c u.queue = rw (removed-is c t.queue) (cut-none c t.queue cut.once) in
     (moved-keeps c InGame o (place_in c t.queue) (drop (place_in c t.queue + 1) t.queue) u
-        (none-moves c InGame (drop (place_in c t.queue + 1) t.queue) (none-behind c (take (place_in c t.queue) t.queue) (drop (place_in c t.queue + 1) t.queue) none))
-        (record { suits = cut.suits; place = none })).holds
+    (none-moves c InGame (drop (place_in c t.queue + 1) t.queue) (none-behind c (take (place_in c t.queue) t.queue) (drop (place_in c t.queue + 1) t.queue) none))
+    (record { suits = cut.suits; place = none })).holds
 left-cut false c o t is cut = record { suits = cut.suits; place = not-found c t.queue is cut.once }
 
 pub own-leaves : (c : ℕ) (o : Origin) (t : Table) → Cut c t.members t.queue → Has c InGame (leaves_queue o c t).table
@@ -441,7 +419,7 @@ leaves-by false c p o m news t is quiet h =
     let u : Table = without_member m.conn t in
     let d : Deed = tells_what (m.conn ∷ []) end u ▹ where_ (is_welcomed m) (tells_playing news) in
     let k : KeepsBy c p d = then-keeps c p (tells_what (m.conn ∷ []) end u) (where_ (is_welcomed m) (tells_playing news)) (says-keeps c p (m.conn ∷ []) end u refl (without-holds c m.conn p t is h))
-        (λ b. where-keeps c p (is_welcomed m) (tells_playing news) u b (λ yes. news-quiet c p news u quiet b)) in
+    (λ b. where-keeps c p (is_welcomed m) (tells_playing news) u b (λ yes. news-quiet c p news u quiet b)) in
     goes-kept c p (leaves o m news t) (then-keeps c p d (leaves_queue o m.conn) k (λ b. leaves-queue-keeps c m.conn p o d.table is b))
 
 pub leaves-goes : (c : ℕ) (p : Phase) (o : Origin) (m : Member) (news : GameMsg) (t : Table) → is_entry (game news) ≡ false → Has c p t → GoesBy c p (leaves o m news t)

@@ -1,15 +1,14 @@
 -- Events that a table does not take.
-use Rattle.std.proofs.Common.{◌≡◌, ℕ, List, [], ◌∷◌, ◌++◌, refl, ap, sym, ◌∙◌, append-nil, Bool, true, false}
-use Rattle.std.specs.Prelude.{fold, flat_map}
+use Rattle.std.proofs.Common.{◌≡◌, ℕ, List, [], ◌∷◌, ◌++◌, refl, ap, ◌∙◌, append-nil, Bool, true, false}
 use Rattle.std.proofs.lemmas.List.Sums.{fold-append}
 use Rattle.tt_edge.specs.declared.event.Event.{Event}
 use Rattle.tt_log.specs.Origin.{Origin}
 use Rattle.tt_log.specs.Table.{Table, first}
-use Rattle.tt_log.specs.Deed.{Deed, Said, becomes, spelled, where_}
+use Rattle.tt_log.specs.Deed.{Deed, Said, becomes, where_}
 use Rattle.tt_log.specs.Steps.{tellings}
-use Rattle.tt_log.specs.Events.{deed, stepped, takes, by_event, charged, closed}
+use Rattle.tt_log.specs.Events.{deed, stepped, takes}
 use Rattle.tt_log.specs.History.{table_of}
-use Rattle.tt_log.specs.Told.{told_by, told_to, heard_from, heard, sent}
+use Rattle.tt_log.specs.Told.{told_by, told_to, heard}
 use Rattle.tt_log.proofs.Going.{heard-append}
 use Rattle.tt_log.proofs.Clock.{taken}
 

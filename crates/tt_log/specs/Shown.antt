@@ -1,12 +1,12 @@
 -- What a stream shows a client: which message it permits where, and what is made of it. Both ends stand on this one table.
-use Rattle.std.specs.Prelude.{ℕ, ◌+◌, Bool, true, false, not, ◌&&◌, ◌||◌, ◌==◌, nat_le, List, [], ◌∷◌, ◌++◌, length, Option, Some, None}
+use Rattle.std.specs.Prelude.{ℕ, ◌+◌, Bool, true, false, not, ◌==◌, nat_le, List, [], ◌∷◌, ◌++◌, length, Option, Some, None}
 use Rattle.std.specs.Result.{result_ok}
 use Rattle.tt_frame.specs.Packet.{Packet}
 use Rattle.tt_frame.specs.Stream.{End, rest_of, bad_size}
 use Rattle.tt_frame.specs.StreamReading.{reading}
 use Rattle.tt_lockstep.specs.Told as told
 use Rattle.tt_lockstep.specs.Told.{Told}
-use Rattle.tt_lockstep.specs.Dialog.{Dialog, things}
+use Rattle.tt_lockstep.specs.Dialog.{Dialog}
 use Rattle.tt_lockstep.specs.Shown as lockstep
 use Rattle.tt_game.specs.declared.message.GameMsg.{GameMsg}
 use Rattle.tt_game.specs.declared.message.GameMsg.TheVariants.{ServerFull, ServerBanned, ServerError, ServerGameInfo, ServerCheckNewgrfs, ServerNeedGamePassword, ServerNeedCompanyPassword, ServerWelcome, ServerWait, ServerMapBegin, ServerMapSize, ServerMapData, ServerMapDone, ServerJoin, ServerFrame, ServerSync, ServerCommand, ServerChat, ServerClientInfo, ServerMove, ServerErrorQuit, ServerQuit, ServerShutdown}

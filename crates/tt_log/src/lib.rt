@@ -3,4 +3,8 @@
 
 mod laws;
 
-pub use laws::{ended_stays, frame_and_top, journal_rises, malformed_ends_its_own, nobody_behind_the_end, not_yet_told, one_journal_one_world, over_stays, refused_event_changes_nothing, told_goes_on, unopened_hears_nothing};
+pub use laws::{
+    ended_stays, frame_and_top, journal_rises, malformed_ends_its_own, nobody_behind_the_end,
+    not_yet_told, one_journal_one_world, over_stays, refused_event_changes_nothing, told_goes_on,
+    unopened_hears_nothing,
+};

@@ -1,4 +1,4 @@
-use Rattle.std.proofs.Common.{ℕ, List, ap}
+use Rattle.std.proofs.Common.{List, ap}
 use Rattle.std.specs.Prelude.{flat_map}
 use Rattle.tt_log.specs.Deed.{Said, spelled}
 use Rattle.tt_log.proofs.Ended.{ended-not-live, ended-heard}

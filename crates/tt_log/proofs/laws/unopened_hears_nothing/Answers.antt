@@ -1,7 +1,6 @@
-use Rattle.std.proofs.Common.{ℕ, List, ap}
+use Rattle.std.proofs.Common.{List, ap}
 use Rattle.std.specs.Prelude.{flat_map}
 use Rattle.tt_log.specs.Deed.{Said, spelled}
-use Rattle.tt_log.specs.Table.{first}
 use Rattle.tt_log.proofs.Apart.{none-live, unopened}
 use Rattle.tt_log.proofs.laws.unopened_hears_nothing.Goals as goal
 
