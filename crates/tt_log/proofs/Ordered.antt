@@ -1,33 +1,33 @@
 -- The order of the members.
-use Rattle.std.proofs.Common.{◌≡◌, ap₂, ℕ, ◌+◌, ◌-◌, ◌≤◌, ◌<◌, List, [], ◌∷◌, ◌++◌, refl, ap, sym, ◌∙◌, true, false, Bool, Option, Some, None, arith, zero, suc}
-use Rattle.std.specs.Prelude.{fold, position, ◌*◌, ◌==◌, drop, take, length, nat_lt, map, find, filter, cond, ◌%◌, not, nat_le, ◌&&◌, ◌||◌, min, is_some, flat_map}
-use Rattle.std.specs.List.{AllByRecursion, list_any}
+use Rattle.std.proofs.Common.{◌≡◌, ℕ, ◌+◌, ◌-◌, ◌≤◌, ◌<◌, List, [], ◌∷◌, ◌++◌, refl, true, false, Bool, Option, Some, None, arith}
+use Rattle.std.specs.Prelude.{fold, position, ◌*◌, ◌==◌, length, nat_lt, map, find, cond, ◌%◌, not, nat_le}
+use Rattle.std.specs.List.{AllByRecursion}
 use Rattle.tt_edge.specs.declared.event.Door.TheVariants.{Main, Side}
 use Rattle.tt_edge.specs.declared.event.Event.{Event}
 use Rattle.tt_edge.specs.declared.event.Event.TheVariants.{Open, Packet, Broken, Shut, Tick, Stop}
 use Rattle.tt_game.specs.declared.message.GameMsg.{GameMsg}
-use Rattle.tt_game.specs.declared.message.GameMsg.TheVariants.{ClientJoin, ClientGameInfo, ClientGamePassword, ClientCompanyPassword, ClientGetmap, ClientMapOk, ClientAck, ClientCommand, ClientChat, ClientSetName, ClientSetPassword, ClientMove, ClientError, ClientQuit, ServerErrorQuit, ServerQuit, ServerError, ServerFrame, ServerJoin, ServerWelcome}
+use Rattle.tt_game.specs.declared.message.GameMsg.TheVariants.{ClientJoin, ClientGameInfo, ClientGamePassword, ClientCompanyPassword, ClientGetmap, ClientMapOk, ClientAck, ClientCommand, ClientChat, ClientSetName, ClientSetPassword, ClientMove, ClientError, ClientQuit, ServerErrorQuit, ServerQuit}
 use Rattle.tt_world.specs.declared.command.Command.{Command}
 use Rattle.tt_world.specs.declared.command.Entry.{Entry}
 use Rattle.tt_rules.specs.Commands.{command_of}
-use Rattle.tt_rules.specs.declared.status.Status.TheVariants.{Map, MapWait, PreActive, Active, Authorized, DoneMap, AuthGame, AuthCompany}
+use Rattle.tt_rules.specs.declared.status.Status.TheVariants.{Map, MapWait, PreActive, Active, DoneMap}
 use Rattle.tt_rules.specs.declared.status.Verdict.{Verdict}
 use Rattle.tt_rules.specs.declared.status.Verdict.TheVariants.{Allowed, Ends}
 use Rattle.tt_log.specs.Origin.{Origin, world_at, at_frame}
-use Rattle.tt_log.specs.Table.{Table, first, member_of, with_member, without_member, digest_of, now_in, playing, welcomed, is_on, is_live}
-use Rattle.tt_log.specs.Member.{Member, is_in, is_welcomed, is_playing, new_member}
-use Rattle.tt_log.specs.Deed.{Said, What, Step, Deed, ◌▹◌, where_, becomes, tells, tells_each, tells_what, tells_playing, msg, map_begin, map_pieces, stamp, entries, end}
-use Rattle.tt_log.specs.Queue.{moved_up, left_place, leaves_queue, begins, changed, downloading, asks, waits}
-use Rattle.tt_log.specs.Ending.{leaves, ends, ends_untold}
+use Rattle.tt_log.specs.Table.{Table, first, member_of, with_member, digest_of, now_in, is_on}
+use Rattle.tt_log.specs.Member.{Member, is_in, new_member}
+use Rattle.tt_log.specs.Deed.{Deed, where_}
+use Rattle.tt_log.specs.Queue.{asks}
+use Rattle.tt_log.specs.Ending.{leaves, ends_untold}
 use Rattle.tt_log.specs.Judged.{judged}
-use Rattle.tt_log.specs.PacketRules.{does, client_info, company_step_by, password_step_by, enters, becomes_active, asks_company, acknowledges, has_caught_up, waits_by, is_let_in, is_in_scope, moves, first_company}
-use Rattle.tt_log.specs.Tick.{stamps, drawn, tells_entries, stamped, counted, permitted, told_frame, allowed, moved_if, all_moved, foundings, founders_moved, synced, mapped, if_downloading, next_pieces, is_done, told_pieces, pieces_of, map_left, late, ends_if, limited, each_limited, timed, ticked}
-use Rattle.tt_log.specs.Events.{read_msg, opened, arrives, counted_in, by_verdict, heard, to_member, by_event, charged, closed, shut_down, is_stop, last_frame, stepped, takes, names_live, deed}
+use Rattle.tt_log.specs.PacketRules.{does, company_step_by, password_step_by, enters, becomes_active, asks_company, acknowledges, has_caught_up, waits_by}
+use Rattle.tt_log.specs.Tick.{stamps, drawn, tells_entries, stamped, counted, permitted, told_frame, allowed, moved_if, all_moved, foundings, founders_moved, synced, mapped, if_downloading, next_pieces, is_done, told_pieces, pieces_of, map_left, late, ends_if, limited, each_limited, ticked}
+use Rattle.tt_log.specs.Events.{read_msg, opened, arrives, counted_in, by_verdict, heard, to_member, by_event, charged, shut_down, stepped, takes}
 use Rattle.tt_log.specs.History.{table_of}
 use Rattle.tt_log.proofs.Clock.{taken, ends_by}
 use Rattle.tt_log.specs.History.{AreRising}
-use Rattle.tt_log.proofs.Apart.{KnowsOpened, IsApart, step-rises, step-knows, stepped-taken, closed-openings, arrives-openings}
-use Rattle.tt_log.proofs.Malformed.{SameThere, conns, others, with-conns, moved-there, left-there, leaves-there}
+use Rattle.tt_log.proofs.Apart.{KnowsOpened, step-rises, step-knows, stepped-taken, closed-openings, arrives-openings}
+use Rattle.tt_log.proofs.Malformed.{conns, others, with-conns, moved-there, left-there, leaves-there}
 use Rattle.tt_log.proofs.Onward.{drawn-conns, told-conns}
 
 -- connections rise, and none is above a number

@@ -1,5 +1,5 @@
 -- Who stands in the queue.
-use Rattle.std.proofs.Common.{◌≡◌, ℕ, ◌≤◌, List, [], ◌∷◌, refl, ap, sym, ◌∙◌, true, false, Bool, Some, inl, inr, arith, suc}
+use Rattle.std.proofs.Common.{◌≡◌, ℕ, ◌≤◌, List, [], ◌∷◌, refl, ap, sym, ◌∙◌, true, false, Some, inl, inr, arith, suc}
 use Rattle.std.specs.Prelude.{◌==◌, ◌||◌, filter, length}
 use Rattle.std.specs.List.{list_any}
 use Rattle.std.proofs.lemmas.Bool.{eq-eqb}
