@@ -418,7 +418,7 @@ step-openings o (Open Main peer) t c l =
     is-other-lt (t.openings + 1) c (omega (arith, l, closed-openings (ends_by o (Open Main peer) v) v, arrives-openings (nat_le o.setup.max_clients (length t.members)) (counted_in t)))
 step-openings o other t c l = tt
 
-where-yes : (b : Bool) (rule : Table → Deed) (t : Table) → b ≡ true → where_ b rule t ≡ rule t
+pub where-yes : (b : Bool) (rule : Table → Deed) (t : Table) → b ≡ true → where_ b rule t ≡ rule t
 where-yes true rule t is = refl
 where-yes false rule t is = absurd cc
 

@@ -1,7 +1,8 @@
 //! Laws of the definitions, for every list of events.
 ghost use Rattle.std.specs.Prelude.{◌≡◌, ℕ, [], ◌≤◌, ◌<◌, List, ◌++◌, ◌+◌, ◌∷◌, ◌==◌, filter, fold, length, map, true, false, None, Some};
 ghost use Rattle.tt_edge.specs.declared.event.Event.{Event};
-ghost use Rattle.tt_edge.specs.declared.event.Event.TheVariants.{Packet};
+ghost use Rattle.tt_edge.specs.declared.event.Event.TheVariants.{Packet, Tick};
+ghost use Rattle.tt_edge.specs.Event.{is_tick};
 ghost use Rattle.std.specs.List.{AllByRecursion, list_any};
 ghost use Rattle.tt_log.specs.Member.{Member, is_loading, is_playing};
 ghost use Rattle.tt_log.specs.Events.{by_event, deed, read_msg, stepped, takes};
@@ -112,4 +113,12 @@ pub fn queue_is_of_those_that_load()
 pub fn members_in_order()
     ensures rising { (o : Origin) (es : List Event) → AreRising 0 (map (λ (m : Member). m.conn) (table_of o es).members) }
     ensures opened { (o : Origin) (es : List Event) → AllByRecursion (λ (c : ℕ). c ≤ (table_of o es).openings) (map (λ (m : Member). m.conn) (table_of o es).members) }
+{}
+
+/// Only a tick runs the game, and it runs one frame; any other event leaves the frame, the permitted frame and the journal.
+pub fn a_tick_is_a_frame()
+    ensures runs { (o : Origin) (t : Table) → t.over ≡ false → (stepped o t Tick).frame ≡ t.frame + 1 }
+    ensures frame { (o : Origin) (t : Table) (e : Event) → is_tick e ≡ false → (stepped o t e).frame ≡ t.frame }
+    ensures top { (o : Origin) (t : Table) (e : Event) → is_tick e ≡ false → (stepped o t e).top ≡ t.top }
+    ensures journal { (o : Origin) (t : Table) (e : Event) → is_tick e ≡ false → (stepped o t e).journal ≡ t.journal }
 {}
