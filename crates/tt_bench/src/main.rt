@@ -1,7 +1,8 @@
 //! Each line says how much work was done, and with the word `time` how long that took.
 //!
 //! `tt_bench N` cuts a stream of N join packets into packets, decodes and encodes each, once from large pieces and once
-//! byte by byte, and runs N frames of a game. Then it puts N ticks into a bare hub, and into rooms over a hub by 1, 2 and 4
+//! byte by byte, and runs N frames of a game. It does the same to a stream of N packets of nine kinds, and goes over its
+//! bytes in a plain loop beside. Then it puts N ticks into a bare hub, and into rooms over a hub by 1, 2 and 4
 //! threads, shared evenly among them; what is left over is not put. What it prints is the same at each run;
 //! `tt_bench N time` adds the times, which are not.
 #![tactic(auto)]
@@ -10,7 +11,7 @@ mod rooms;
 mod work;
 
 use crate::rooms::ticks;
-use crate::work::{frames, joins, messages};
+use crate::work::{frames, gone_over, joins, messages, mixed};
 use std::alloc::Global;
 use std::io::Print;
 use std::process::ExitCode;
@@ -101,7 +102,11 @@ fn all_measured<R: Threads + Wait + Clock + Print + Sync>(
     alloc: Global,
     words: &Words,
 ) -> io::Result<bool> {
-    Ok(measured(rt, alloc, words)? && rooms_measured(rt, alloc, words)?)
+    Ok(
+        measured(rt, alloc, words)?
+            && mixed_measured(rt, alloc, words)?
+            && rooms_measured(rt, alloc, words)?,
+    )
 }
 
 /// The ticks of a bare hub, and of rooms by 1, 2 and 4 threads.
@@ -164,6 +169,32 @@ fn measured<R: Clock + Print>(rt: &R, alloc: Global, words: &Words) -> io::Resul
         behind.duration_since(between),
     )?;
     tell(rt, "frames", ran, words.timed, last.duration_since(behind))?;
+    Ok(true)
+}
+
+/// A stream of packets of all kinds, decoded and encoded, and a plain loop over its bytes.
+fn mixed_measured<R: Clock + Print>(rt: &R, alloc: Global, words: &Words) -> io::Result<bool> {
+    let Ok(stream) = mixed(alloc, words.count) else {
+        return Ok(false);
+    };
+    let before = Instant::now(rt)?;
+    let all = messages(alloc, &stream, LARGE);
+    let between = Instant::now(rt)?;
+    let bytes = gone_over(&stream);
+    let last = Instant::now(rt)?;
+    let Ok(all) = all else {
+        return Ok(false);
+    };
+    let first = between.duration_since(before);
+    let second = last.duration_since(between);
+    tell(rt, "messages of nine kinds", all, words.timed, first)?;
+    tell(
+        rt,
+        "bytes of them that are not 0",
+        bytes,
+        words.timed,
+        second,
+    )?;
     Ok(true)
 }
 

@@ -23,6 +23,40 @@ pub fn joins(alloc: Global, count: u32) -> Result<Vec<u8>, OutOfMemory> {
     Ok(stream)
 }
 
+/// Packets with every kind of field, as a game tells and hears them: a join, an acknowledgement, a frame, a word, a
+/// command, a chat, a member, a digest and a piece of a map.
+const MIXED: [&[u8]; 9] = [
+    JOIN,
+    b"\x07\0\x17\x4a\0\0\0",
+    b"\x0b\0\x15\x01\0\0\0\x01\0\0\0",
+    b"\x0b\0\x16\x64\0\0\0\x38\xd4\xbf\x7a",
+    b"\x14\0\x19\0\0\0\x10\x27\0\0\0\0\x08\0\0\0\x02\0\0\0",
+    b"\x0e\0\x1b\x03\0\0\0\0Hello\0",
+    b"\x0c\0\x1d\x03\0\0\0\xffBob\0",
+    b"\x24\0\x090123456789abcdef0123456789abcdef\0",
+    b"\x0b\0\x11OTTN\0\x01\0\0",
+];
+
+/// A stream of so many packets of all these kinds in turn.
+pub fn mixed(alloc: Global, count: u32) -> Result<Vec<u8>, OutOfMemory> {
+    let mut stream = Vec::new(alloc);
+    for number in 0..count as usize {
+        stream.extend_from_slice(MIXED[number % MIXED.len()])?;
+    }
+    Ok(stream)
+}
+
+/// Goes over a stream in a plain loop; answers how many of its bytes aren't 0.
+pub fn gone_over(stream: &[u8]) -> u64 {
+    let mut count = 0u64;
+    for byte in stream {
+        if *byte != 0 {
+            count = count.saturating_add(1);
+        }
+    }
+    count
+}
+
 /// Cuts a stream that comes in pieces of this size, and decodes and encodes each packet; answers how many there were.
 pub fn messages(alloc: Global, stream: &[u8], size: usize) -> Result<u64, OutOfMemory>
     requires { 0 < size }

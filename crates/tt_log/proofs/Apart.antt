@@ -24,7 +24,7 @@ use Rattle.tt_log.specs.PacketRules.{does, client_info, company_step_by, passwor
 use Rattle.tt_log.specs.Tick.{stamps, drawn, tells_entries, stamped, counted, permitted, told_frame, allowed, moved_if, all_moved, foundings, founders_moved, synced, mapped, if_downloading, next_pieces, is_done, told_pieces, pieces_of, map_left, late, ends_if, limited, each_limited, timed, ticked}
 use Rattle.tt_log.specs.Events.{read_msg, opened, arrives, counted_in, by_verdict, heard, to_member, by_event, charged, closed, shut_down, stepped, takes, deed}
 use Rattle.tt_log.specs.History.{table_of}
-use Rattle.tt_log.specs.Steps.{Filling, Telling, telling, filled, messages_of, filling}
+use Rattle.tt_log.specs.Tellings.{Filling, Telling, telling, filled, messages_of, filling}
 use Rattle.tt_log.specs.Told.{told_to, told_by, kept_if, heard_from}
 use Rattle.tt_log.specs.Told as told
 use Rattle.tt_log.proofs.Clock.{taken, ends_by}

@@ -13,7 +13,7 @@ use Rattle.tt_log.specs.Deed.{Said, What, Step, msg, map_begin, map_pieces, stam
 use Rattle.tt_log.specs.Tick.{pieces_of}
 use Rattle.tt_log.specs.Events.{stepped, deed}
 use Rattle.tt_log.specs.History.{table_of}
-use Rattle.tt_log.specs.Steps.{Filling, Telling, telling, filled, messages_of, filling}
+use Rattle.tt_log.specs.Tellings.{Filling, Telling, telling, filled, messages_of, filling}
 use Rattle.tt_log.specs.Told.{told_to, kept_if, heard_from}
 use Rattle.std.proofs.lemmas.Bool.{ltb-true, le-leb, eqb-true, eq-eqb, ltb-false}
 use Rattle.tt_rules.specs.Statuses.{rank}

@@ -5,7 +5,7 @@ use Rattle.tt_edge.specs.declared.event.Event.{Event}
 use Rattle.tt_log.specs.Origin.{Origin}
 use Rattle.tt_log.specs.Table.{Table, first}
 use Rattle.tt_log.specs.Deed.{Deed, Said, becomes, where_}
-use Rattle.tt_log.specs.Steps.{tellings}
+use Rattle.tt_log.specs.Tellings.{tellings}
 use Rattle.tt_log.specs.Events.{deed, stepped, takes}
 use Rattle.tt_log.specs.History.{table_of}
 use Rattle.tt_log.specs.Told.{told_by, told_to, heard}

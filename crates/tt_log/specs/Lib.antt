@@ -1,3 +1,17 @@
+-- Scripts
+pub mod Forms
+pub mod Settings
+pub mod Orders
+pub mod Lines
+pub mod Steps
+pub mod Contents
+pub mod Script
+pub mod Printing
+pub mod Standing
+pub mod Reader
+pub mod Rows
+pub mod Reading
+pub mod Written
 -- The book of a game, in reading order
 pub mod Origin
 pub mod Member
@@ -11,7 +25,7 @@ pub mod PacketRules
 pub mod Tick
 pub mod Events
 pub mod History
-pub mod Steps
+pub mod Tellings
 pub mod Told
 pub mod Stamps
 pub mod NotYet

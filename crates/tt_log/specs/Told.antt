@@ -6,7 +6,7 @@ use Rattle.tt_edge.specs.declared.event.Event.{Event}
 use Rattle.tt_log.specs.Origin.{Origin}
 use Rattle.tt_log.specs.Table.{Table, first}
 use Rattle.tt_log.specs.Deed.{Said, game, spelled}
-use Rattle.tt_log.specs.Steps.{Telling, tellings}
+use Rattle.tt_log.specs.Tellings.{Telling, tellings}
 use Rattle.tt_log.specs.Events.{deed, stepped}
 use Rattle.tt_log.specs.History.{table_of}
 

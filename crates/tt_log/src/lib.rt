@@ -1,7 +1,21 @@
-//! What a game is, event by event: the server's table, what it judges, what each event changes and tells.
+//! What a script is, and what a game is: the definitions that the server, its clients and the replay program stand on.
+//!
+//! **Scripts.** A script means one thing: its bytes spell one script, or there is a first line that is no script line in
+//! its place.
+//!
+//! - `parse_script` gives the script or the number of that line, `print_script` the text that is parsed to it.
+//! - `ScriptReader` reads one line after the other and keeps none, for scripts of millions of lines.
+//! - What a script is stands in specs/: `Forms` (how a word is spelled), the tables `Settings`, `Orders` and `Lines` (the
+//!   words of each kind of line) and `Script` (which lines may stand where). `Reading` and `Rows` are the tables by which
+//!   the code reads; that both say the same is proved.
+//!
+//! **The book of a game.** The server's table, what it judges, and what each event changes and tells, from the start on:
+//! specs/ from `Origin` to `Shown`, in the order in which a reader needs them. A rule is a function from a table to a table
+//! and what is told (`Deed`), and rules are joined one behind the other. `laws` has what follows from them.
 #![tactic(auto)]
 
 mod laws;
+pub mod script;
 
 pub use laws::{
     a_tick_is_a_frame, ended_stays, frame_and_top, journal_rises, malformed_ends_its_own,
@@ -9,3 +23,9 @@ pub use laws::{
     queue_is_of_those_that_load, refused_event_changes_nothing, told_goes_on,
     unopened_hears_nothing,
 };
+pub use script::{
+    Bytes, Line1, Script, ScriptBad, ScriptReader, Setting, Step, parse_script, print_script,
+};
+
+#[cfg(test)]
+mod tests;

@@ -1,11 +1,16 @@
 -- What a call of the program comes to, from its parts.
-use Rattle.std.proofs.Common.{◌≡◌, ◌⊎◌, ℕ, ◌≤◌, List, length, Option, Some, None, IfSome, refl, sym, ap, ap₂, subst, ◌∙◌}
+use Rattle.std.proofs.Common.{◌≡◌, ◌⊎◌, ℕ, zero, suc, ◌≤◌, List, [], ◌∷◌, length, take, Option, Some, None, IfSome, sym, ap, subst, ◌∙◌}
+use Rattle.std.specs.List.{AllByRecursion}
+use Rattle.std.proofs.lemmas.List.{take-map}
 use Rattle.std.specs.Io.KnownBytes.{Appends}
 use Rattle.tt_lines.specs.Lines.{lines_of, IsFirstBad}
 use Rattle.tt_edge.specs.Sink.{AppendsPart}
 use Rattle.tt_replay.specs.declared.form.Form.{Form}
-use Rattle.tt_replay.specs.declared.form.Form.TheVariants.{Run}
+use Rattle.tt_replay.specs.declared.form.Form.TheVariants.{Run, Show}
 use Rattle.tt_replay.specs.Statuses.{form_of, input_limit, IsOfForm, IsAnswer, Answers, IsWritten, IsPartlyWritten, IsRefused, bad_line_text}
+use Rattle.tt_show.specs.ListLines.{ListLine}
+use Rattle.tt_show.specs.Lists as lists
+use Rattle.tt_show.specs.Lists.{IsList, line_text}
 use Rattle.tt_replay.proofs.Lines.{none_bad}
 
 answers : (words : List (List ℕ)) (form : Form) (input bytes read answer : List ℕ) → form_of words ≡ Some form → bytes ≡ input → read ≡ bytes → length bytes ≤ input_limit → IsAnswer form (lines_of read) answer → Answers words input answer
@@ -56,9 +61,20 @@ the_same : (left : Option (List ℕ)) (bytes input : List ℕ) → IfSome left (
 the_same None bytes input whole is = absurd cc
 the_same (Some xs) bytes input whole is = whole ∙ some_is xs input is
 
+-- the first lines of a list are a list
+each_front : (lines : List ListLine) (n : ℕ) → AllByRecursion lists.IsLine lines → AllByRecursion lists.IsLine (take n lines)
+each_front lines zero each = tt
+each_front [] (suc n) each = tt
+each_front (line ∷ lines) (suc n) each = (each.0, each_front lines n each.1)
+
+list_none_bad : (texts : List (List ℕ)) (line : ℕ) → IsList texts → IsFirstBad IsList texts line → ⊥
+list_none_bad texts line fits bad =
+    bad.bad (take line fits.0, record { each = each_front fits.0 line fits.1.each; text = ap (take line) fits.1.text ∙ take-map line_text line fits.0 })
+
 -- an input of a form has no first bad line
 none_bad_of : (form : Form) (texts : List (List ℕ)) (line : ℕ) → IsOfForm form texts → IsFirstBad (IsOfForm form) texts line → ⊥
 none_bad_of Run texts line fits bad = none_bad texts line fits bad
+none_bad_of Show texts line fits bad = list_none_bad texts line fits bad
 
 pub never_refused : (left : Option (List ℕ)) (words : List (List ℕ)) (form other : Form) (bytes read input : List ℕ) (line : ℕ) → IfSome left (λ xs. bytes ≡ xs) → form_of words ≡ Some form → read ≡ bytes → IsFirstBad (IsOfForm form) (lines_of read) line
     → form_of words ≡ Some other → left ≡ Some input → IsOfForm other (lines_of input) → ⊥

@@ -1,6 +1,6 @@
 -- Scripts, line by line.
 use Rattle.std.proofs.Common.{◌≡◌, ◌≢◌, ℕ, zero, suc, ◌+◌, ◌-◌, ◌≤◌, ◌<◌, List, [], ◌∷◌, ◌++◌, length, get_or, take, drop, inl, inr, refl, sym, ap, ap₂, ◌∙◌, arith}
-use Rattle.std.specs.Prelude.{sum_by, codes, map}
+use Rattle.std.specs.Prelude.{sum_by, map}
 use Rattle.std.specs.List.{AllByRecursion}
 use Rattle.std.specs.Fmt.{decimal}
 use Rattle.std.proofs.lemmas.Bool.{cases_lt}
@@ -8,7 +8,7 @@ use Rattle.std.proofs.lemmas.Fmt.{decimal_injective}
 use Rattle.std.proofs.lemmas.List.{take-map}
 use Rattle.std.proofs.lemmas.List.Sums.{sum_by-append, sum_by-take-le}
 use Rattle.tt_lines.specs.Lines.{IsFirstBad}
-use Rattle.tt_replay.specs.Script.{piece_text, body_of, IsLine, IsScript, Spells, IsSpelled, ticks_of, openings_of, settings_of}
+use Rattle.tt_replay.specs.Script.{piece_text, body_of, IsLine, IsScript, IsSpelled, ticks_of, openings_of, settings_of}
 use Rattle.tt_replay.specs.declared.script_line.ScriptLine.{ScriptLine}
 use Rattle.tt_replay.specs.declared.script_line.ScriptLine.TheVariants.{SetSeed, Open, Bytes, Tick}
 use Rattle.tt_replay.proofs.Pieces.{piece_injective}

@@ -5,23 +5,26 @@ use Rattle.std.specs.Fmt.{decimal}
 use Rattle.std.specs.Io.KnownBytes.{Appends}
 use Rattle.tt_lines.specs.Lines.{lines_of, IsFirstBad}
 use Rattle.tt_edge.specs.Sink.{AppendsPart}
+use Rattle.tt_show.specs.ListLines.{ListLine}
+use Rattle.tt_show.specs.Lists as lists
+use Rattle.tt_show.specs.Lists.{IsList, list_shown}
 use Rattle.tt_replay.specs.declared.form.Form.{Form}
-use Rattle.tt_replay.specs.declared.form.Form.TheVariants.{Run}
+use Rattle.tt_replay.specs.declared.form.Form.TheVariants.{Run, Show}
 use Rattle.tt_replay.specs.declared.script_line.ScriptLine.{ScriptLine}
 use Rattle.tt_replay.specs.Script.{Spells, IsSpelled}
 use Rattle.tt_replay.specs.Report.{report}
 
 -- ---- the words
 
--- where the test holds
-abbrev pub when : Bool → Form → Option Form
-when true form = Some form
-when false form = None
+-- a form, where the test holds, and else what is found later
+abbrev pub form_or : Bool → Form → Option Form → Option Form
+form_or true form later = Some form
+form_or false form later = later
 
--- what the words ask for: the one word `run` asks for the report of a script
+-- what the words ask for: the one word `run` asks for the report of a script, the one word `show` for the text of packets
 abbrev pub form_of : List (List ℕ) → Option Form
 form_of [] = None
-form_of (word ∷ []) = when (bytes_eq word (codes "run")) Run
+form_of (word ∷ []) = form_or (bytes_eq word (codes "run")) Run (form_or (bytes_eq word (codes "show")) Show None)
 form_of (word ∷ other ∷ words) = None
 
 -- ---- the input
@@ -33,10 +36,12 @@ input_limit = 67108864
 -- the lines of an input of this form
 abbrev pub IsOfForm : Form → List (List ℕ) → Type 0
 IsOfForm Run texts = IsSpelled texts
+IsOfForm Show texts = IsList texts
 
 -- the text that answers an input of this form
 abbrev pub IsAnswer : Form → List (List ℕ) → List ℕ → Type 0
 IsAnswer Run texts answer = (lines : List ScriptLine) × Spells lines texts × (answer ≡ report lines)
+IsAnswer Show texts answer = (lines : List ListLine) × lists.Spells lines texts × (answer ≡ list_shown lines)
 
 -- ---- what was written
 

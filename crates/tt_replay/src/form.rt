@@ -9,6 +9,8 @@ use tt_frame::Line;
 pub enum Form {
     /// `run`: the report of a script.
     Run,
+    /// `show`: the text of the packets of a list.
+    Show,
 }
 
 /// What the words ask for. None exactly where they are no form of the program's.
@@ -17,6 +19,7 @@ pub fn form_of(words: &[Line]) -> Option<Form>
 {
     match words {
         [word] if word.bytes() == b"run".as_slice() => Some(Form::Run),
+        [word] if word.bytes() == b"show".as_slice() => Some(Form::Show),
         _ => None,
     }
 }

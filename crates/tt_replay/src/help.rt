@@ -1,14 +1,17 @@
 //! What the program says of itself, asked by its first word.
 
 /// How it is used.
-const HELP: &[u8] = b"Writes the report of a game's script.
+const HELP: &[u8] = b"Plays a game's script, or tells packets in words.
 
-Use: tt_replay run < SCRIPT
+Use: tt_replay run < SCRIPT     writes the report of the script's game
+     tt_replay show < LIST      writes the text of a list's packets, a line each
 
-It reads the script from standard input and writes its report to standard output.
-The exit status is 0 when all was done, 2 for unknown words, 3 for an input that is
-no script, 4 and 5 when reading or writing failed, 6 when memory ran out, and 7 for
-an input of more than 64 MiB. Nothing is written to standard error.
+It reads from standard input and writes to standard output. A list has lines
+`game HEX`, each with some bytes of a stream in hexadecimal digits. The exit status
+is 0 when all was done, 2 for unknown words, 3 for an input that is no script or no
+list (its first bad line is written), 4 and 5 when reading or writing failed, 6 when
+memory ran out, and 7 for an input of more than 64 MiB. Nothing is written to
+standard error.
 ";
 
 /// Which version it is.

@@ -21,6 +21,7 @@ use std::alloc::Global;
 use tt_edge::{ReadAllError, Sink, Source, read_all, write_all};
 use tt_frame::{Line, OutOfMemory};
 use tt_lines::{put, put_number};
+use tt_show::{ShowError, show};
 
 /// All was done as said.
 const DONE: u8 = 0;
@@ -47,7 +48,7 @@ const TOO_LONG: u8 = 7;
 const INPUT_LIMIT: u32 = 64 << 20;
 
 /// Answers the input that the source gives, as the words ask, and writes the answer to the sink: `run` reads a script
-/// and writes its report. Of an input that isn't of the form that is asked for the first bad line is told.
+/// and writes its report, `show` reads a list of packets and writes their text. Of an input that isn't of the form that is asked for the first bad line is told.
 ///
 /// It waits for nobody, and returns over every source that answers its calls: at most one byte past the limit is
 /// read, and each read takes at least one.
@@ -115,6 +116,7 @@ fn answer_of(alloc: Global, form: Form, input: &[u8]) -> Result<Vec<u8>, ScriptE
 {
     match form {
         Form::Run => run(alloc, input),
+        Form::Show => show_list(alloc, input),
     }
 }
 
@@ -130,6 +132,18 @@ fn run(alloc: Global, input: &[u8]) -> Result<Vec<u8>, ScriptError>
     match report_of_script(alloc, &lines) {
         Ok(report) => Ok(report),
         Err(_) => Err(ScriptError::Memory),
+    }
+}
+
+/// The text of the list that the bytes spell, or its first bad line.
+fn show_list(alloc: Global, input: &[u8]) -> Result<Vec<u8>, ScriptError>
+    ensures answer { IfOk result (λ answer. IsAnswer Form.Show (lines_of input.now) answer.items) }
+    ensures bad { (line : ℕ) → result ≡ Err (BadLine line) → IsFirstBad (IsOfForm Form.Show) (lines_of input.now) line }
+{
+    match show(alloc, input) {
+        Ok(text) => Ok(text),
+        Err(ShowError::Line(line)) => Err(ScriptError::BadLine(line)),
+        Err(ShowError::Memory) => Err(ScriptError::Memory),
     }
 }
 

@@ -155,6 +155,40 @@ fn a_sink_that_fails_leaves_status_3(rt: HostRuntime) -> Result<(), Fail> {
     Ok(())
 }
 
+/// Lists of packets, and the text of each.
+fn lists() -> [(&'static [u8], &'static [u8]); 8] {
+    [
+        (b"", b""),
+        (
+            b"game 11000231332e34000d000000416e6e00ff\n",
+            b"CLIENT_JOIN 31332e34 13 416e6e 255\n",
+        ),
+        (b"game 04000600", b"SERVER_CHECK_NEWGRFS 0\n"),
+        (b"game 04000308", b"SERVER_ERROR 8\n"),
+        (b"game 03000404000315", b"CLIENT_GAME_INFO\nbad at 3\n"),
+        (b"game 0200", b"bad at 0\n"),
+        (b"game 0b0015", b"partial 3\n"),
+        (
+            b"game 04000308\ngame 0200\ngame 0b0015\n",
+            b"SERVER_ERROR 8\nbad at 0\npartial 3\n",
+        ),
+    ]
+}
+
+#[test]
+fn a_list_is_shown(rt: HostRuntime) -> Result<(), Fail> {
+    let alloc = rt.alloc();
+    for (list, text) in lists() {
+        let trial = call(alloc, b"show", list, (None, None), 4096)?;
+        assert_eq!(rt; trial.status, 0);
+        assert_eq!(rt; trial.written.as_slice(), text);
+    }
+    let bad = call(alloc, b"show", b"game 0200\ngame 020\n", (None, None), 7)?;
+    assert_eq!(rt; bad.status, 3);
+    assert_eq!(rt; bad.written.as_slice(), b"script: line 2\n".as_slice());
+    Ok(())
+}
+
 /// The join packet of a client named Ann, with the revision of the server, in digits.
 const JOIN: &[u8] = b"11000231332e34000d000000416e6e00ff";
 

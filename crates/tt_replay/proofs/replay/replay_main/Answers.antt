@@ -1,4 +1,4 @@
-use Rattle.std.proofs.Common.{◌≡◌, ◌⊎◌, inr, ⊎_elim, Some, sym, ◌∙◌}
+use Rattle.std.proofs.Common.{◌≡◌, Some}
 use Rattle.tt_replay.specs.Statuses.{form_of}
 use Rattle.tt_replay.proofs.Answering.{written, partly, refused, never_refused}
 use Rattle.tt_replay.proofs.replay.replay_main.Goals as goal

@@ -1,0 +1,4 @@
+pub mod Items
+pub mod Marks
+pub mod Messages
+pub mod Apart

@@ -1,0 +1,29 @@
+//! What holds of all messages. These functions do nothing: their contracts are the laws.
+ghost use Rattle.std.specs.Prelude.{◌≡◌, ℕ, ◌+◌, ◌<◌, ◌≤◌, ◌^◌, List, ◌++◌, length, Ok};
+ghost use Rattle.tt_frame.specs.Packet.{Packet, packet};
+ghost use Rattle.tt_frame.specs.Framing.{BeginsWith};
+ghost use Rattle.tt_frame.specs.Unread.{whole};
+ghost use Rattle.tt_frame.specs.Tables.{read_by};
+ghost use Rattle.tt_admin.specs.Messages.{messages, Spells};
+ghost use Rattle.tt_admin.specs.declared.message.AdminMsg.{AdminMsg};
+
+/// A message has one spelling.
+pub fn one_spelling()
+    ensures { (m : AdminMsg) (kind other : ℕ) (body bytes : List ℕ)
+        → Spells m kind body → Spells m other bytes → (kind ≡ other) × (body ≡ bytes) }
+{}
+
+/// A message's packet has at most 32,767 bytes.
+pub fn small_packets()
+    ensures { (m : AdminMsg) (kind : ℕ) (body : List ℕ) → Spells m kind body → length body + 3 ≤ 32767 }
+{}
+
+/// What is spelled is read.
+pub fn round_trip()
+    ensures whole { (m : AdminMsg) (kind : ℕ) (body : List ℕ) → Spells m kind body → read_by messages kind (whole body) ≡ Ok m }
+    // So is the first packet of a stream that begins with the message's packet, whatever follows it.
+    ensures followed { (m : AdminMsg) (kind : ℕ) (body more : List ℕ) (limit : ℕ) (p : Packet) (rest : List ℕ)
+        → Spells m kind body → length body + 3 ≤ limit → limit < 2 ^ 16
+        → BeginsWith limit (packet kind body ++ more) p rest
+        → (read_by messages p.kind (whole p.body) ≡ Ok m) × (rest ≡ more) }
+{}

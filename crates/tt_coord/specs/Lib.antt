@@ -1,0 +1,8 @@
+pub mod Items
+pub mod Fixed
+pub mod Coord
+pub mod CoordApart
+pub mod Stun
+pub mod StunApart
+pub mod Turn
+pub mod TurnApart

@@ -1,0 +1,426 @@
+-- The text of a script spells it, and what the bytes spell can be printed.
+use Rattle.std.proofs.Common.{◌≡◌, Result, Ok, Err, ℕ, suc, ◌<◌, ◌≤◌, List, [], ◌∷◌, ◌++◌, length, take, map, Bool, true, false, not, cond, refl, sym, ap, ap₂, subst, ◌∙◌, append_assoc, arith}
+use Rattle.std.specs.Prelude.{◌==◌, sum_by, fold, filter, IfOk}
+use Rattle.std.specs.List.{AllByRecursion, flat_map, list_all}
+use Rattle.std.proofs.lemmas.Bool.{eqb-true}
+use Rattle.std.proofs.lemmas.Str.{IsUtf8-nil}
+use Rattle.std.proofs.lemmas.List.Sums.{sum_by-append, sum_by-cons, fold-append}
+use Rattle.std.proofs.lemmas.Grind.{flat_map-append}
+use Rattle.tt_frame.proofs.TextLaws.{is_text-from_IsText}
+use Rattle.tt_lines.specs.Lines.{HasNo, lines_of}
+use Rattle.tt_log.specs.declared.script.bad.ScriptBad.{ScriptBad}
+use Rattle.tt_log.specs.Forms.{number, text, hex, key, IsTextFrom, Word, named, word, rest, word_text, WordFits, behind_blanks, parted}
+use Rattle.tt_log.specs.Settings.{setting_words, place_of, with_setting, settings_of, is_plain}
+use Rattle.tt_log.specs.Orders.{words_by}
+use Rattle.tt_log.specs.Lines.{line_words, IsLine, openings_of}
+use Rattle.tt_log.specs.Steps.{step_words, step_text, IsStep, opens, Precedes}
+use Rattle.tt_log.specs.Contents.{Contents}
+use Rattle.tt_log.specs.Script.{InOrder, IsSteps, setup_with, setup_of, line_in, lines_in, contents_of, Spells}
+use Rattle.tt_log.specs.Printing.{IsSetting, IsTold, IsScript, told_settings, told_steps, step_line, script_text}
+use Rattle.tt_log.specs.Written.{setting_text, line_text}
+use Rattle.tt_lines.proofs.Breaks.{has_no-cons, has_no-append, has_no-test}
+use Rattle.tt_lines.specs.Lines.{HasNo}
+use Rattle.tt_lines.proofs.HexDigits.{lower_one}
+use Rattle.tt_log.proofs.FormLaws.{text_one, number_one}
+use Rattle.tt_lines.proofs.LineLaws.{lines-within}
+use Rattle.tt_log.specs.declared.script.line.Line1.{Line1}
+use Rattle.tt_log.specs.declared.script.line.Line1.TheVariants.{Open, Side, Bytes, Shut, Tick, Stop, Join, Up, Down, Run, Pump, Do, Forge, Expect}
+use Rattle.tt_log.specs.declared.script.setting.Setting.{Setting}
+use Rattle.tt_log.specs.declared.script.setting.Setting.TheVariants.{Seed, FrameFreq, SyncFreq, Clients, Init, PassLimit, Download, Join as JoinLimit, Lag, Cost, Pw, Admin}
+use Rattle.tt_log.specs.declared.script.step.Step.{Step}
+use Rattle.tt_log.specs.declared.script.step.Step.TheVariants.{Set, Line}
+use Rattle.tt_world.specs.Setup.{plain}
+use Rattle.tt_world.specs.declared.setup.Setup.{Setup}
+use Rattle.tt_world.specs.declared.command.Code.{Code}
+use Rattle.tt_world.specs.declared.command.Code.TheVariants.{IncreaseLoan, DecreaseLoan, Give, PlaceSign, RenameSign, RenameCompany, RenamePresident, Pause, NewCompany}
+
+-- ---- lists
+
+all_append : {A : Type 0} (P : A → Type 0) (xs ys : List A) → AllByRecursion P xs → AllByRecursion P ys → AllByRecursion P (xs ++ ys)
+all_append P [] ys all more = more
+all_append P (x ∷ xs) ys all more = (all.0, all_append P xs ys all.1 more)
+
+all_map : {A B : Type 0} (f : A → B) (P : B → Type 0) (Q : A → Type 0) → ((x : A) → Q x → P (f x)) → (xs : List A) → AllByRecursion Q xs → AllByRecursion P (map f xs)
+all_map f P Q each [] all = tt
+all_map f P Q each (x ∷ xs) all = (each x all.0, all_map f P Q each xs all.1)
+
+filter_by : {A : Type 0} (P : A → Type 0) (x : A) (kept : List A) (t : Bool) → P x → AllByRecursion P kept → AllByRecursion P (cond t (x ∷ kept) kept)
+filter_by P x kept true one all = (one, all)
+filter_by P x kept false one all = all
+
+all_filter : {A : Type 0} (P : A → Type 0) (p : A → Bool) (xs : List A) → AllByRecursion P xs → AllByRecursion P (filter p xs)
+all_filter P p [] all = tt
+all_filter P p (x ∷ xs) all = filter_by P x (filter p xs) (p x) all.0 (all_filter P p xs all.1)
+
+all_each : {A : Type 0} (P Q : A → Type 0) → ((x : A) → P x → Q x) → (xs : List A) → AllByRecursion P xs → AllByRecursion Q xs
+all_each P Q each [] all = tt
+all_each P Q each (x ∷ xs) all = (each x all.0, all_each P Q each xs all.1)
+
+-- ---- the text
+
+abbrev differs : Setting → Bool
+differs setting = not (is_plain setting)
+
+told_by : (x : Setting) (xs : List Setting) (t : Bool) → flat_map setting_text xs ≡ flat_map step_line (map Set (filter differs xs))
+    → cond t [] (step_line (Set x)) ++ flat_map setting_text xs ≡ flat_map step_line (map Set (cond (not t) (x ∷ filter differs xs) (filter differs xs)))
+told_by x xs true rec = rec
+told_by x xs false rec = ap (λ (u : List ℕ). step_line (Set x) ++ u) rec
+
+told_is : (xs : List Setting) → flat_map setting_text xs ≡ flat_map step_line (map Set (filter differs xs))
+told_is [] = refl
+told_is (x ∷ xs) = told_by x xs (is_plain x) (told_is xs)
+
+lines_are : (lines : List Line1) → flat_map line_text lines ≡ flat_map step_line (map Line lines)
+lines_are [] = refl
+lines_are (line ∷ lines) = ap (λ (u : List ℕ). line_text line ++ u) (lines_are lines)
+
+-- what was written is the text of the script
+pub text_is : (s : Setup) (lines : List Line1) → flat_map setting_text (settings_of s) ++ flat_map line_text lines ≡ script_text (record { setup = s; lines = lines })
+text_is s lines =
+    ap₂ (λ (a b : List ℕ). a ++ b) (told_is (settings_of s)) (lines_are lines) ∙ sym (flat_map-append step_line (map Set (told_settings s)) (map Line lines))
+
+-- ---- no line feed within a line
+
+-- what is left to say of a word besides its value
+abbrev IsOne : Word → Type 0
+IsOne (named w) = list_all (λ b. not (b == 10)) w ≡ true
+IsOne (word (number least most) n) = Unit {0}
+IsOne (word (text least most) content) = Unit {0}
+IsOne (word hex piece) = Unit {0}
+IsOne (word key w) = HasNo 10 w
+IsOne (rest content) = Unit {0}
+
+word_one : (w : Word) → WordFits w → IsOne w → HasNo 10 (word_text w)
+word_one (named w) fits one = has_no-test 10 w one
+word_one (word (number least most) n) fits one = number_one 10 least most n (omega arith) fits
+word_one (word (text least most) content) fits one = text_one 10 content least most (omega arith) fits
+word_one (word hex piece) fits one = lower_one 10 piece (omega arith) fits.bytes
+word_one (word key w) fits one = one
+word_one (rest content) fits one = fits
+
+behind_one : (ws : List Word) → AllByRecursion WordFits ws → AllByRecursion IsOne ws → HasNo 10 (behind_blanks ws)
+behind_one [] fits one = λ i lt. absurd (omega (arith, lt))
+behind_one (w ∷ ws) fits one =
+    has_no-cons 10 32 (word_text w ++ behind_blanks ws) (λ is. omega (arith, is))
+    (has_no-append 10 (word_text w) (behind_blanks ws) (word_one w fits.0 one.0) (behind_one ws fits.1 one.1))
+
+parted_one : (ws : List Word) → AllByRecursion WordFits ws → AllByRecursion IsOne ws → HasNo 10 (parted ws)
+parted_one [] fits one = λ i lt. absurd (omega (arith, lt))
+parted_one (w ∷ ws) fits one = has_no-append 10 (word_text w) (behind_blanks ws) (word_one w fits.0 one.0) (behind_one ws fits.1 one.1)
+
+setting_one : (setting : Setting) → AllByRecursion IsOne (setting_words setting)
+setting_one (Seed x) = (refl, (tt, tt))
+setting_one (FrameFreq x) = (refl, (tt, tt))
+setting_one (SyncFreq x) = (refl, (tt, tt))
+setting_one (Clients x) = (refl, (tt, tt))
+setting_one (Init x) = (refl, (tt, tt))
+setting_one (PassLimit x) = (refl, (tt, tt))
+setting_one (Download x) = (refl, (tt, tt))
+setting_one (JoinLimit x) = (refl, (tt, tt))
+setting_one (Lag x) = (refl, (tt, tt))
+setting_one (Cost x) = (refl, (tt, tt))
+setting_one (Pw x) = (refl, (tt, tt))
+setting_one (Admin x) = (refl, (tt, tt))
+
+order_one : (code : Code) (n to : ℕ) (content : List ℕ) → AllByRecursion IsOne (words_by code n to content)
+order_one IncreaseLoan n to content = (refl, (tt, tt))
+order_one DecreaseLoan n to content = (refl, (tt, tt))
+order_one Give n to content = (refl, (tt, (tt, tt)))
+order_one PlaceSign n to content = (refl, (tt, (tt, tt)))
+order_one RenameSign n to content = (refl, (tt, (tt, tt)))
+order_one RenameCompany n to content = (refl, (tt, tt))
+order_one RenamePresident n to content = (refl, (tt, tt))
+order_one Pause n to content = tt
+order_one NewCompany n to content = tt
+
+line_one : (line : Line1) → AllByRecursion IsOne (line_words line)
+line_one Open = (refl, tt)
+line_one Side = (refl, tt)
+line_one (Bytes conn piece) = (refl, (tt, (tt, tt)))
+line_one (Shut conn) = (refl, (tt, tt))
+line_one (Tick n) = (refl, (tt, tt))
+line_one Stop = (refl, tt)
+line_one (Join name company password other) = (refl, (tt, (tt, (tt, (tt, tt)))))
+line_one (Up conn n) = (refl, (tt, (tt, tt)))
+line_one (Down conn n) = (refl, (tt, (tt, tt)))
+line_one (Run conn n) = (refl, (tt, (tt, tt)))
+line_one (Pump conn) = (refl, (tt, tt))
+line_one (Do conn command) = (refl, (tt, order_one command.code command.number command.to command.text))
+line_one (Forge conn piece) = (refl, (tt, (tt, tt)))
+line_one (Expect content) = (refl, (tt, tt))
+
+step_one : (step : Step) → IsStep step → HasNo 10 (step_text step)
+step_one (Set setting) fits = parted_one (step_words (Set setting)) (tt, fits) (refl, setting_one setting)
+step_one (Line line) fits = parted_one (line_words line) fits.0 (line_one line)
+
+lines_written : (steps : List Step) → AllByRecursion IsStep steps → lines_of (flat_map step_line steps) ≡ map step_text steps
+lines_written [] each = refl
+lines_written (step ∷ steps) each =
+    ap lines_of (append_assoc (step_text step) (10 ∷ []) (flat_map step_line steps))
+    ∙ lines-within (step_text step) (flat_map step_line steps) (step_one step each.0)
+    ∙ ap (λ (t : List (List ℕ)). step_text step ∷ t) (lines_written steps each.1)
+
+-- ---- the order
+
+-- settings of rising places, none below k
+abbrev Up_from : ℕ → List Setting → Type 0
+Up_from k [] = Unit {0}
+Up_from k (x ∷ xs) = (k ≤ place_of x) × Up_from (suc (place_of x)) xs
+
+up_less : (j k : ℕ) (xs : List Setting) → j ≤ k → Up_from k xs → Up_from j xs
+up_less j k [] le up = tt
+up_less j k (x ∷ xs) le up = (omega (arith, le, up.0), up.1)
+
+up_by : (k : ℕ) (x : Setting) (xs : List Setting) (t : Bool) → k ≤ place_of x → Up_from (suc (place_of x)) xs → Up_from k (cond t (x ∷ xs) xs)
+up_by k x xs true le up = (le, up)
+up_by k x xs false le up = up_less k (suc (place_of x)) xs (omega (arith, le)) up
+
+up_filter : (p : Setting → Bool) (k : ℕ) (xs : List Setting) → Up_from k xs → Up_from k (filter p xs)
+up_filter p k [] up = tt
+up_filter p k (x ∷ xs) up = up_by k x (filter p xs) (p x) up.0 (up_filter p (suc (place_of x)) xs up.1)
+
+lines_free : (before : Step) (lines : List Line1) → AllByRecursion (Precedes before) (map Line lines)
+lines_free before [] = tt
+lines_free before (line ∷ lines) = (tt, lines_free before lines)
+
+lines_order : (lines : List Line1) → InOrder (map Line lines)
+lines_order [] = tt
+lines_order (line ∷ lines) = (lines_free (Line line) lines, lines_order lines)
+
+above : (before : Setting) (k : ℕ) (xs : List Setting) → place_of before < k → Up_from k xs → AllByRecursion (Precedes (Set before)) (map Set xs)
+above before k [] lt up = tt
+above before k (x ∷ xs) lt up = (omega (arith, lt, up.0), above before (suc (place_of x)) xs (omega (arith, lt, up.0)) up.1)
+
+up_order : (k : ℕ) (xs : List Setting) (lines : List Line1) → Up_from k xs → InOrder (map Set xs ++ map Line lines)
+up_order k [] lines up = lines_order lines
+up_order k (x ∷ xs) lines up = (
+  all_append (Precedes (Set x)) (map Set xs) (map Line lines) (above x (suc (place_of x)) xs (omega arith) up.1) (lines_free (Set x) lines),
+  up_order (suc (place_of x)) xs lines up.1,
+)
+
+settings_up : (s : Setup) → Up_from 0 (settings_of s)
+settings_up s = (omega arith, (omega arith, (omega arith, (omega arith, (omega arith, (omega arith, (omega arith, (omega arith, (omega arith, (omega arith, (omega arith, (omega arith, tt))))))))))))
+
+-- ---- the setup
+
+-- settings that change nothing where they are plain
+abbrev Changes : Setup → List Setting → Type 0
+Changes st [] = Unit {0}
+Changes st (x ∷ xs) = (is_plain x ≡ true → with_setting st x ≡ st) × Changes (with_setting st x) xs
+
+changed_by : (st : Setup) (x : Setting) (xs : List Setting) (t : Bool) → is_plain x ≡ t → (is_plain x ≡ true → with_setting st x ≡ st)
+    → fold setup_with (with_setting st x) (map Set (filter differs xs)) ≡ fold with_setting (with_setting st x) xs
+    → fold setup_with st (map Set (cond (not t) (x ∷ filter differs xs) (filter differs xs))) ≡ fold with_setting (with_setting st x) xs
+changed_by st x xs true e same rec = ap (λ (u : Setup). fold setup_with u (map Set (filter differs xs))) (sym (same e)) ∙ rec
+changed_by st x xs false e same rec = rec
+
+changed : (st : Setup) (xs : List Setting) → Changes st xs → fold setup_with st (map Set (filter differs xs)) ≡ fold with_setting st xs
+changed st [] changes = refl
+changed st (x ∷ xs) changes = changed_by st x xs (is_plain x) refl changes.0 (changed (with_setting st x) xs changes.1)
+
+same_number : (st : Setup) (make : ℕ → Setting) (n p : ℕ) → (n == p) ≡ true → with_setting st (make n) ≡ with_setting st (make p)
+same_number st make n p e = ap (λ (v : ℕ). with_setting st (make v)) (eqb-true n p e)
+
+empty_text : (content : List ℕ) → length content ≡ 0 → content ≡ []
+empty_text [] e = refl
+empty_text (b ∷ content) e = absurd (omega (arith, e))
+
+same_text : (st : Setup) (make : List ℕ → Setting) (content : List ℕ) → (length content == 0) ≡ true → with_setting st (make content) ≡ with_setting st (make [])
+same_text st make content e = ap (λ (v : List ℕ). with_setting st (make v)) (empty_text content (eqb-true (length content) 0 e))
+
+-- the plain setup with the first k settings of another
+abbrev with_first : ℕ → Setup → Setup
+with_first k s = fold with_setting plain (take k (settings_of s))
+
+all_change : (s : Setup) → Changes plain (settings_of s)
+all_change s = (
+  (λ e. same_number (with_first 0 s) Seed s.seed plain.seed e),
+  (
+    (λ e. same_number (with_first 1 s) FrameFreq s.frame_freq plain.frame_freq e),
+    (
+      (λ e. same_number (with_first 2 s) SyncFreq s.sync_freq plain.sync_freq e),
+      (
+        (λ e. same_number (with_first 3 s) Clients s.max_clients plain.max_clients e),
+        (
+          (λ e. same_number (with_first 4 s) Init s.init plain.init e),
+          (
+            (λ e. same_number (with_first 5 s) PassLimit s.pass_limit plain.pass_limit e),
+            (
+              (λ e. same_number (with_first 6 s) Download s.download plain.download e),
+              (
+                (λ e. same_number (with_first 7 s) JoinLimit s.join plain.join e),
+                (
+                  (λ e. same_number (with_first 8 s) Lag s.lag plain.lag e),
+                  (
+                    (λ e. same_number (with_first 9 s) Cost s.cost plain.cost e),
+                    (
+                      (λ e. same_text (with_first 10 s) Pw s.password e),
+                      (
+                        (λ e. same_text (with_first 11 s) Admin s.admin_password e),
+                        tt,
+                      ),
+                    ),
+                  ),
+                ),
+              ),
+            ),
+          ),
+        ),
+      ),
+    ),
+  ),
+)
+
+ap3 : {A B C D : Type 0} (f : A → B → C → D) {a a' : A} {b b' : B} {c c' : C} → a ≡ a' → b ≡ b' → c ≡ c' → f a b c ≡ f a' b' c'
+ap3 f {a' = a'} {b = b} {b' = b'} {c = c} p q r = ap (λ x. f x b c) p ∙ ap (λ y. f a' y c) q ∙ ap (λ z. f a' b' z) r
+
+setup_back : (s : Setup) → IsTold s → fold with_setting plain (settings_of s) ≡ s
+setup_back s told = ap3 (λ (a b c : List ℕ). let made : Setup = record { name = a; revision = b; id = c; seed = s.seed; frame_freq = s.frame_freq; sync_freq = s.sync_freq; max_clients = s.max_clients; init = s.init; pass_limit = s.pass_limit; download = s.download; join = s.join; lag = s.lag; cost = s.cost; password = s.password; admin_password = s.admin_password } in made) (sym told.name) (sym told.revision) (sym told.id)
+
+lines_keep : (st : Setup) (lines : List Line1) → fold setup_with st (map Line lines) ≡ st
+lines_keep st [] = refl
+lines_keep st (line ∷ lines) = lines_keep st lines
+
+told_setup : (script : Contents) → IsTold script.setup → setup_of (told_steps script) ≡ script.setup
+told_setup script told =
+    fold-append setup_with plain (map Set (told_settings script.setup)) (map Line script.lines)
+    ∙ lines_keep (fold setup_with plain (map Set (told_settings script.setup))) script.lines
+    ∙ changed plain (settings_of script.setup) (all_change script.setup)
+    ∙ setup_back script.setup told
+
+no_lines : (xs : List Setting) → lines_in (map Set xs) ≡ []
+no_lines [] = refl
+no_lines (x ∷ xs) = no_lines xs
+
+own_lines : (lines : List Line1) → lines_in (map Line lines) ≡ lines
+own_lines [] = refl
+own_lines (line ∷ lines) = ap (λ (t : List Line1). line ∷ t) (own_lines lines)
+
+told_lines : (script : Contents) → lines_in (told_steps script) ≡ script.lines
+told_lines script =
+    flat_map-append line_in (map Set (told_settings script.setup)) (map Line script.lines) ∙ ap₂ (λ (a b : List Line1). a ++ b) (no_lines (told_settings script.setup)) (own_lines script.lines)
+
+no_openings : (xs : List Setting) → sum_by opens (map Set xs) ≡ 0
+no_openings [] = refl
+no_openings (x ∷ xs) = omega (arith, sum_by-cons opens (Set x) (map Set xs), no_openings xs)
+
+own_openings : (lines : List Line1) → sum_by opens (map Line lines) ≡ sum_by openings_of lines
+own_openings [] = refl
+own_openings (line ∷ lines) = omega (arith, sum_by-cons opens (Line line) (map Line lines), own_openings lines, sum_by-cons openings_of line lines)
+
+-- ---- the text of a script spells it
+
+told_is_steps : (script : Contents) → IsScript script → IsSteps (told_steps script)
+told_is_steps script is =
+    let sets = map Set (told_settings script.setup) in
+    let others = map Line script.lines in
+    record {
+      each = all_append IsStep sets others
+          (all_map Set IsStep IsSetting (λ x fits. fits) (told_settings script.setup) (all_filter IsSetting differs (settings_of script.setup) is.setup.settings))
+          (all_map Line IsStep IsLine (λ x fits. fits) script.lines is.lines);
+      order = up_order 0 (told_settings script.setup) script.lines (up_filter differs 0 (settings_of script.setup) (settings_up script.setup));
+      openings = omega (arith, is.openings, sum_by-append opens sets others, no_openings (told_settings script.setup), own_openings script.lines);
+    }
+
+pub spelled_text : (script : Contents) → IsScript script → Spells script (lines_of (script_text script))
+spelled_text script is =
+    let steps = told_is_steps script is in
+    record {
+      steps = told_steps script;
+      is = steps;
+      text = lines_written (told_steps script) steps.each;
+      makes = ap₂ (λ (a : Setup) (b : List Line1). let made : Contents = record { setup = a; lines = b } in made) (sym (told_setup script is.setup)) (sym (told_lines script));
+    }
+
+-- ---- what the bytes spell is of the grammar
+
+no_text : IsTextFrom 0 32 []
+no_text = record {
+  bytes = λ i. omega arith;
+  some = omega arith;
+  text = is_text-from_IsText 32 [] (record { utf8 = IsUtf8-nil; shown = λ i d lt. absurd (omega (arith, lt)) }) (omega arith);
+}
+
+plain_told : IsTold plain
+plain_told = record {
+  settings = (
+    (tt, ((omega arith, omega arith, omega arith), tt)),
+    (
+      (tt, ((omega arith, omega arith, omega arith), tt)),
+      (
+        (tt, ((omega arith, omega arith, omega arith), tt)),
+        (
+          (tt, ((omega arith, omega arith, omega arith), tt)),
+          (
+            (tt, ((omega arith, omega arith, omega arith), tt)),
+            (
+              (tt, ((omega arith, omega arith, omega arith), tt)),
+              (
+                (tt, ((omega arith, omega arith, omega arith), tt)),
+                (
+                  (tt, ((omega arith, omega arith, omega arith), tt)),
+                  (
+                    (tt, ((omega arith, omega arith, omega arith), tt)),
+                    (
+                      (tt, ((omega arith, omega arith, omega arith), tt)),
+                      (
+                        (tt, (no_text, tt)),
+                        ((tt, (no_text, tt)), tt),
+                      ),
+                    ),
+                  ),
+                ),
+              ),
+            ),
+          ),
+        ),
+      ),
+    ),
+  );
+  name = refl;
+  revision = refl;
+  id = refl;
+}
+
+told_with : (st : Setup) (x : Setting) → IsSetting x → IsTold st → IsTold (with_setting st x)
+told_with st (Seed x) fits told = record { settings = (fits, told.settings.1); name = told.name; revision = told.revision; id = told.id }
+told_with st (FrameFreq x) fits told = record { settings = (told.settings.0, (fits, told.settings.1.1)); name = told.name; revision = told.revision; id = told.id }
+told_with st (SyncFreq x) fits told = record { settings = (told.settings.0, (told.settings.1.0, (fits, told.settings.1.1.1))); name = told.name; revision = told.revision; id = told.id }
+told_with st (Clients x) fits told = record { settings = (told.settings.0, (told.settings.1.0, (told.settings.1.1.0, (fits, told.settings.1.1.1.1)))); name = told.name; revision = told.revision; id = told.id }
+told_with st (Init x) fits told = record { settings = (told.settings.0, (told.settings.1.0, (told.settings.1.1.0, (told.settings.1.1.1.0, (fits, told.settings.1.1.1.1.1))))); name = told.name; revision = told.revision; id = told.id }
+told_with st (PassLimit x) fits told = record { settings = (told.settings.0, (told.settings.1.0, (told.settings.1.1.0, (told.settings.1.1.1.0, (told.settings.1.1.1.1.0, (fits, told.settings.1.1.1.1.1.1)))))); name = told.name; revision = told.revision; id = told.id }
+told_with st (Download x) fits told = record { settings = (told.settings.0, (told.settings.1.0, (told.settings.1.1.0, (told.settings.1.1.1.0, (told.settings.1.1.1.1.0, (told.settings.1.1.1.1.1.0, (fits, told.settings.1.1.1.1.1.1.1))))))); name = told.name; revision = told.revision; id = told.id }
+told_with st (JoinLimit x) fits told = record { settings = (told.settings.0, (told.settings.1.0, (told.settings.1.1.0, (told.settings.1.1.1.0, (told.settings.1.1.1.1.0, (told.settings.1.1.1.1.1.0, (told.settings.1.1.1.1.1.1.0, (fits, told.settings.1.1.1.1.1.1.1.1)))))))); name = told.name; revision = told.revision; id = told.id }
+told_with st (Lag x) fits told = record { settings = (told.settings.0, (told.settings.1.0, (told.settings.1.1.0, (told.settings.1.1.1.0, (told.settings.1.1.1.1.0, (told.settings.1.1.1.1.1.0, (told.settings.1.1.1.1.1.1.0, (told.settings.1.1.1.1.1.1.1.0, (fits, told.settings.1.1.1.1.1.1.1.1.1))))))))); name = told.name; revision = told.revision; id = told.id }
+told_with st (Cost x) fits told = record { settings = (told.settings.0, (told.settings.1.0, (told.settings.1.1.0, (told.settings.1.1.1.0, (told.settings.1.1.1.1.0, (told.settings.1.1.1.1.1.0, (told.settings.1.1.1.1.1.1.0, (told.settings.1.1.1.1.1.1.1.0, (told.settings.1.1.1.1.1.1.1.1.0, (fits, told.settings.1.1.1.1.1.1.1.1.1.1)))))))))); name = told.name; revision = told.revision; id = told.id }
+told_with st (Pw x) fits told = record { settings = (told.settings.0, (told.settings.1.0, (told.settings.1.1.0, (told.settings.1.1.1.0, (told.settings.1.1.1.1.0, (told.settings.1.1.1.1.1.0, (told.settings.1.1.1.1.1.1.0, (told.settings.1.1.1.1.1.1.1.0, (told.settings.1.1.1.1.1.1.1.1.0, (told.settings.1.1.1.1.1.1.1.1.1.0, (fits, told.settings.1.1.1.1.1.1.1.1.1.1.1))))))))))); name = told.name; revision = told.revision; id = told.id }
+told_with st (Admin x) fits told = record { settings = (told.settings.0, (told.settings.1.0, (told.settings.1.1.0, (told.settings.1.1.1.0, (told.settings.1.1.1.1.0, (told.settings.1.1.1.1.1.0, (told.settings.1.1.1.1.1.1.0, (told.settings.1.1.1.1.1.1.1.0, (told.settings.1.1.1.1.1.1.1.1.0, (told.settings.1.1.1.1.1.1.1.1.1.0, (told.settings.1.1.1.1.1.1.1.1.1.1.0, (fits, told.settings.1.1.1.1.1.1.1.1.1.1.1.1)))))))))))); name = told.name; revision = told.revision; id = told.id }
+
+told_fold : (st : Setup) (steps : List Step) → AllByRecursion IsStep steps → IsTold st → IsTold (fold setup_with st steps)
+told_fold st [] each told = told
+told_fold st (Set x ∷ steps) each told = told_fold (with_setting st x) steps each.1 (told_with st x each.0 told)
+told_fold st (Line line ∷ steps) each told = told_fold st steps each.1 told
+
+lines_fit : (steps : List Step) → AllByRecursion IsStep steps → AllByRecursion IsLine (lines_in steps)
+lines_fit [] each = tt
+lines_fit (Set x ∷ steps) each = lines_fit steps each.1
+lines_fit (Line line ∷ steps) each = (each.0, lines_fit steps each.1)
+
+lines_open : (steps : List Step) → sum_by openings_of (lines_in steps) ≡ sum_by opens steps
+lines_open [] = refl
+lines_open (Set x ∷ steps) = omega (arith, lines_open steps, sum_by-cons opens (Set x) steps)
+lines_open (Line line ∷ steps) = omega (arith, lines_open steps, sum_by-cons opens (Line line) steps, sum_by-cons openings_of line (lines_in steps))
+
+pub spelled_script : (script : Contents) (texts : List (List ℕ)) → Spells script texts → IsScript script
+spelled_script script texts spells =
+    let steps = spells.steps in
+    let is : IsScript (contents_of steps) = record {
+      setup = told_fold plain steps spells.is.each plain_told;
+      lines = lines_fit steps spells.is.each;
+      openings = omega (arith, lines_open steps, spells.is.openings);
+    } in
+    subst IsScript (sym spells.makes) is
+
+pub parsed_script : (r : Result Contents ScriptBad) (texts : List (List ℕ)) → IfOk r (λ script. Spells script texts) → IfOk r (λ script. IsScript script)
+parsed_script (Ok script) texts found = spelled_script script texts found
+parsed_script (Err bad) texts found = tt

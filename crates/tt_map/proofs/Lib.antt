@@ -1,0 +1,10 @@
+pub mod Loops
+pub mod ValueLaws
+pub mod CompanyLaws
+pub mod PlaceLaws
+pub mod FreshLaws
+pub mod SignLaws
+pub mod BodyLaws
+pub mod ChunkLaws
+pub mod MapLaws
+pub mod WritingLaws

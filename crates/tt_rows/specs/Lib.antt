@@ -1,0 +1,6 @@
+pub mod Words
+pub mod JoinsGames
+pub mod LimitsGames
+pub mod CommandsGames
+pub mod TalksGames
+pub mod StepsGames
