@@ -404,11 +404,11 @@ missed c o f (s ∷ steps) a = step-missed c s.to (messages_of o f s.what) (fill
 pub is-other-lt : (x c : ℕ) → x < c → IsOther c x
 is-other-lt x c l = search (arith, l)
 
-arrives-openings : (full : Bool) (t : Table) → (arrives full t).table.openings ≡ t.openings
+pub arrives-openings : (full : Bool) (t : Table) → (arrives full t).table.openings ≡ t.openings
 arrives-openings true t = refl
 arrives-openings false t = refl
 
-closed-openings : (b : Bool) (t : Table) → (where_ b shut_down t).table.openings ≡ t.openings
+pub closed-openings : (b : Bool) (t : Table) → (where_ b shut_down t).table.openings ≡ t.openings
 closed-openings true t = refl
 closed-openings false t = refl
 
@@ -418,11 +418,11 @@ step-openings o (Open Main peer) t c l =
     is-other-lt (t.openings + 1) c (omega (arith, l, closed-openings (ends_by o (Open Main peer) v) v, arrives-openings (nat_le o.setup.max_clients (length t.members)) (counted_in t)))
 step-openings o other t c l = tt
 
-where-yes : (b : Bool) (rule : Table → Deed) (t : Table) → b ≡ true → where_ b rule t ≡ rule t
+pub where-yes : (b : Bool) (rule : Table → Deed) (t : Table) → b ≡ true → where_ b rule t ≡ rule t
 where-yes true rule t is = refl
 where-yes false rule t is = absurd cc
 
-stepped-taken : (o : Origin) (e : Event) (t : Table) → takes t e ≡ true → (stepped o t e).openings ≡ (taken o e t).table.openings
+pub stepped-taken : (o : Origin) (e : Event) (t : Table) → takes t e ≡ true → (stepped o t e).openings ≡ (taken o e t).table.openings
 stepped-taken o e t is = ap (λ (d : Deed). d.table.openings) (where-yes (takes t e) (taken o e) t is)
 
 none-on-live : (c : ℕ) (ms : List Member) → NoneOn c ms → is_some (find (is_on c) ms) ≡ false
@@ -440,7 +440,7 @@ spares-far other t = tt
 abbrev pub KnowsOpened : Table → Type 0
 KnowsOpened t = (c : ℕ) → t.openings < c → Apart c t
 
-step-rises : (o : Origin) (e : Event) (t : Table) → KnowsOpened t → t.openings ≤ (stepped o t e).openings
+pub step-rises : (o : Origin) (e : Event) (t : Table) → KnowsOpened t → t.openings ≤ (stepped o t e).openings
 step-rises o e t knows = (deed-passes (t.openings + 2) o e t (λ is. spares-far e t) (knows (t.openings + 2) (omega arith))).openings
 
 spares-later : (o : Origin) (e : Event) (t : Table) (c : ℕ) → (stepped o t e).openings < c → takes t e ≡ true → Spares c t e

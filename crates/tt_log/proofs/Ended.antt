@@ -166,7 +166,7 @@ plays-at Early m said fit is a = a
 plays-at Queued m said fit is a = a
 plays-at InGame m said fit is a = let high : 8 ≤ rank m.status = fit in let low : nat_le 8 (rank m.status) ≡ true = le-leb 8 (rank m.status) high in absurd cc
 
-suits-found : (c : ℕ) (p : Phase) (t : Table) (m : Member) → member_of t c ≡ Some m → Has c p t → Suits c p m
+pub suits-found : (c : ℕ) (p : Phase) (t : Table) (m : Member) → member_of t c ≡ Some m → Has c p t → Suits c p m
 suits-found c p t m is h = suits-by (member_of t c) is (found-all (Suits c p) (is_on c) t.members h.suits)
   where
     suits-by : (x : Option Member) → x ≡ Some m → AllOption (Suits c p) x → Suits c p m
@@ -194,7 +194,7 @@ place-gone Early c q xs gone h = h
 place-gone Queued c q xs gone h = let there : list_any (λ x. x == c) xs ≡ true = h.1 in absurd cc
 place-gone InGame c q xs gone h = h
 
-gone-apart : (c : ℕ) (p : Phase) (t : Table) → is_live t c ≡ false → Has c p t → Apart c t
+pub gone-apart : (c : ℕ) (p : Phase) (t : Table) → is_live t c ≡ false → Has c p t → Apart c t
 gone-apart c p t gone h =
     let none : list_any (λ x. x == c) (conns t.members) ≡ false = sym (live-conns c t.members) ∙ gone in
     record { members = none-there c t.members none; queue = place-gone p c t.queue (conns t.members) none h.place }

@@ -80,11 +80,11 @@ event-adds o (Broken conn) t = adds-none t (by_event o (Broken conn) t).table (e
 event-adds o (Shut conn) t = adds-none t (by_event o (Shut conn) t).table (event-same o (Shut conn) t refl)
 event-adds o Stop t = adds-none t t (record { frame = refl; top = refl; over = refl; journal = refl })
 
-closed-journal : (b : Bool) (t : Table) → (where_ b shut_down t).table.journal ≡ t.journal
+pub closed-journal : (b : Bool) (t : Table) → (where_ b shut_down t).table.journal ≡ t.journal
 closed-journal true t = refl
 closed-journal false t = refl
 
-closed-top : (b : Bool) (t : Table) → (where_ b shut_down t).table.top ≡ t.top
+pub closed-top : (b : Bool) (t : Table) → (where_ b shut_down t).table.top ≡ t.top
 closed-top true t = refl
 closed-top false t = refl
 

@@ -40,12 +40,12 @@ changed-there : (m : Option Member) (change : Member → Member) (t : Table) →
 changed-there None change t = record { conns = refl; own = refl }
 changed-there (Some m) change t = record { conns = with-conns (change m) t.members; own = refl }
 
-moved-there : (o : Origin) (place : ℕ) (xs : List ℕ) (t : Table) → SameThere t (moved_up o place xs t).table
+pub moved-there : (o : Origin) (place : ℕ) (xs : List ℕ) (t : Table) → SameThere t (moved_up o place xs t).table
 moved-there o place [] t = record { conns = refl; own = refl }
 moved-there o zero (x ∷ xs) t = there-then t (begins o x t).table (moved_up o 1 xs (begins o x t).table).table (changed-there (member_of t x) (downloading t) t) (moved-there o 1 xs (begins o x t).table)
 moved-there o (suc place) (x ∷ xs) t = moved-there o (suc (suc place)) xs t
 
-left-there : (o : Origin) (place : Option ℕ) (t : Table) → SameThere t (left_place o place t).table
+pub left-there : (o : Origin) (place : Option ℕ) (t : Table) → SameThere t (left_place o place t).table
 left-there o None t = record { conns = refl; own = refl }
 left-there o (Some place) t =
     let u : Table = record t { queue = take place t.queue ++ drop (place + 1) t.queue } in
@@ -56,7 +56,7 @@ where-there true news t = record { conns = refl; own = refl }
 where-there false news t = record { conns = refl; own = refl }
 
 -- behind its end all is as it was without it
-leaves-there : (o : Origin) (m : Member) (news : GameMsg) (t : Table) → SameThere (without_member m.conn t) (leaves o m news t).table
+pub leaves-there : (o : Origin) (m : Member) (news : GameMsg) (t : Table) → SameThere (without_member m.conn t) (leaves o m news t).table
 leaves-there o m news t =
     let u : Table = without_member m.conn t in
     let v : Table = (where_ (is_welcomed m) (tells_playing news) u).table in

@@ -62,7 +62,7 @@ drawn-suits : (c : ℕ) (p : Phase) (ms : List Member) → AllByRecursion (Suits
 drawn-suits c p [] a = tt
 drawn-suits c p (m ∷ ms) a = (a.0, drawn-suits c p ms a.1)
 
-drawn-conns : (ms : List Member) → conns (map drawn ms) ≡ conns ms
+pub drawn-conns : (ms : List Member) → conns (map drawn ms) ≡ conns ms
 drawn-conns [] = refl
 drawn-conns (m ∷ ms) = ap (λ (xs : List ℕ). m.conn ∷ xs) (drawn-conns ms)
 
@@ -77,7 +77,7 @@ told-suits : (c top : ℕ) (p : Phase) (ms : List Member) → AllByRecursion (Su
 told-suits c top p [] a = tt
 told-suits c top p (m ∷ ms) a = (elim (is_playing m) as (λ b. Suits c p (cond b (record m { told = top }) m)) [ true ↦ a.0 | false ↦ a.0 ], told-suits c top p ms a.1)
 
-told-conns : (top : ℕ) (ms : List Member) → conns (map (told_frame top) ms) ≡ conns ms
+pub told-conns : (top : ℕ) (ms : List Member) → conns (map (told_frame top) ms) ≡ conns ms
 told-conns top [] = refl
 told-conns top (m ∷ ms) = ap₂ (λ (x : ℕ) (xs : List ℕ). x ∷ xs) (elim (is_playing m) as (λ b. (cond b (record m { told = top }) m).conn ≡ m.conn) [ true ↦ refl | false ↦ refl ]) (told-conns top ms)
 

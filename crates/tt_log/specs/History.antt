@@ -1,5 +1,5 @@
 -- What a list of events makes of a game.
-use Rattle.std.specs.Prelude.{◌≡◌, ℕ, true, List, [], ◌∷◌, fold}
+use Rattle.std.specs.Prelude.{◌≡◌, ◌<◌, ℕ, true, List, [], ◌∷◌, fold}
 use Rattle.std.specs.List.{AllByRecursion}
 use Rattle.tt_edge.specs.declared.event.Event.{Event}
 use Rattle.tt_world.specs.declared.command.Entry.{Entry}
@@ -15,6 +15,11 @@ table_of o events = fold (stepped o) first events
 -- the journal behind the events, and the world
 abbrev pub journal_of : Origin → List Event → List Entry
 journal_of o events = (table_of o events).journal
+
+-- numbers that rise, from above one on
+abbrev pub AreRising : ℕ → List ℕ → Type 0
+AreRising n [] = Unit {0}
+AreRising n (x ∷ xs) = (n < x) × AreRising x xs
 
 -- each of these entries is for this frame
 abbrev pub AreFor : ℕ → List Entry → Type 0

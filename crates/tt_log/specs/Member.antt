@@ -1,8 +1,8 @@
 -- A member: a connection that came in by the main door and has not ended.
-use Rattle.std.specs.Prelude.{ℕ, Bool, List, [], length, codes}
+use Rattle.std.specs.Prelude.{ℕ, Bool, ◌||◌, List, [], length, codes}
 use Rattle.tt_world.specs.declared.command.Command.{Command}
 use Rattle.tt_rules.specs.declared.status.Status.{Status}
-use Rattle.tt_rules.specs.declared.status.Status.TheVariants.{Inactive}
+use Rattle.tt_rules.specs.declared.status.Status.TheVariants.{Inactive, MapWait, Map, DoneMap}
 use Rattle.tt_rules.specs.declared.status.Standing.{Standing}
 use Rattle.tt_rules.specs.Statuses as status
 
@@ -40,6 +40,10 @@ is_playing m = status.is_playing m.status
 
 abbrev pub is_in : Status → Member → Bool
 is_in wanted m = status.is_at wanted m.status
+
+-- it asked for the map, and has not entered the game
+abbrev pub is_loading : Member → Bool
+is_loading m = is_in MapWait m || is_in Map m || is_in DoneMap m
 
 -- what a verdict looks at of it
 abbrev pub standing_of : Member → Standing

@@ -137,7 +137,7 @@ moves_on place other = place
 abbrev pub unless_parted : Told WorldState Entry → Place → Place
 unless_parted told.End place = Parted
 unless_parted told.Stray place = Parted
-unless_parted other place = place
+unless_parted _ place = place
 
 abbrev pub place_behind : Place → GameMsg → Place
 place_behind place msg = unless_parted (told_at place msg) (moves_on place msg)

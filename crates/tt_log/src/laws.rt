@@ -1,12 +1,13 @@
 //! Laws of the definitions, for every list of events.
-ghost use Rattle.std.specs.Prelude.{◌≡◌, ℕ, [], ◌≤◌, ◌<◌, List, ◌++◌, ◌+◌, ◌∷◌, ◌==◌, fold, true, false, None, Some};
+ghost use Rattle.std.specs.Prelude.{◌≡◌, ℕ, [], ◌≤◌, ◌<◌, List, ◌++◌, ◌+◌, ◌∷◌, ◌==◌, filter, fold, length, map, true, false, None, Some};
 ghost use Rattle.tt_edge.specs.declared.event.Event.{Event};
-ghost use Rattle.tt_edge.specs.declared.event.Event.TheVariants.{Packet};
-ghost use Rattle.std.specs.List.{AllByRecursion};
-ghost use Rattle.tt_log.specs.Member.{Member, is_playing};
+ghost use Rattle.tt_edge.specs.declared.event.Event.TheVariants.{Packet, Tick};
+ghost use Rattle.tt_edge.specs.Event.{is_tick};
+ghost use Rattle.std.specs.List.{AllByRecursion, list_any};
+ghost use Rattle.tt_log.specs.Member.{Member, is_loading, is_playing};
 ghost use Rattle.tt_log.specs.Events.{by_event, deed, read_msg, stepped, takes};
 ghost use Rattle.tt_log.specs.Deed.{Said, becomes};
-ghost use Rattle.tt_log.specs.History.{AreFor, journal_of, table_of, world_behind};
+ghost use Rattle.tt_log.specs.History.{AreFor, AreRising, journal_of, table_of, world_behind};
 ghost use Rattle.tt_log.specs.Origin.{IsJournal, Origin, above, folded, game_of, world_at};
 ghost use Rattle.tt_lockstep.specs.Journal.{AreAbove, AreUpTo};
 ghost use Rattle.tt_world.specs.declared.command.Entry.{Entry};
@@ -99,4 +100,25 @@ pub fn ended_stays()
 pub fn not_yet_told()
     ensures { (o : Origin) (es : List Event) (conn : ℕ) (m : Member) → member_of (table_of o es) conn ≡ Some m → is_playing m ≡ false
         → AllByRecursion (λ (s : Said). is_entry s ≡ false) (heard o es conn) }
+{}
+
+/// Who waits for the map or is told it stands once in the queue, and nobody else does.
+pub fn queue_is_of_those_that_load()
+    ensures members { (o : Origin) (es : List Event) (conn : ℕ) (m : Member) → member_of (table_of o es) conn ≡ Some m → list_any (λ (c : ℕ). c == conn) (table_of o es).queue ≡ is_loading m }
+    ensures others { (o : Origin) (es : List Event) (conn : ℕ) → is_live (table_of o es) conn ≡ false → list_any (λ (c : ℕ). c == conn) (table_of o es).queue ≡ false }
+    ensures once { (o : Origin) (es : List Event) (conn : ℕ) → length (filter (λ (c : ℕ). c == conn) (table_of o es).queue) ≤ 1 }
+{}
+
+/// The members stand in the order of their connections, each on one of its own, and each connection was opened.
+pub fn members_in_order()
+    ensures rising { (o : Origin) (es : List Event) → AreRising 0 (map (λ (m : Member). m.conn) (table_of o es).members) }
+    ensures opened { (o : Origin) (es : List Event) → AllByRecursion (λ (c : ℕ). c ≤ (table_of o es).openings) (map (λ (m : Member). m.conn) (table_of o es).members) }
+{}
+
+/// Only a tick runs the game, and it runs one frame; any other event leaves the frame, the permitted frame and the journal.
+pub fn a_tick_is_a_frame()
+    ensures runs { (o : Origin) (t : Table) → t.over ≡ false → (stepped o t Tick).frame ≡ t.frame + 1 }
+    ensures frame { (o : Origin) (t : Table) (e : Event) → is_tick e ≡ false → (stepped o t e).frame ≡ t.frame }
+    ensures top { (o : Origin) (t : Table) (e : Event) → is_tick e ≡ false → (stepped o t e).top ≡ t.top }
+    ensures journal { (o : Origin) (t : Table) (e : Event) → is_tick e ≡ false → (stepped o t e).journal ≡ t.journal }
 {}

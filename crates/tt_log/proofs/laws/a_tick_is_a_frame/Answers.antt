@@ -1,0 +1,15 @@
+use Rattle.tt_log.proofs.Ticking.{tick-runs, no-tick}
+use Rattle.tt_log.specs.Events.{takes}
+use Rattle.tt_log.proofs.laws.a_tick_is_a_frame.Goals as goal
+
+pub returns-clause-runs : goal.returns-clause-runs
+returns-clause-runs c o t going = tick-runs o t going
+
+pub returns-clause-frame : goal.returns-clause-frame
+returns-clause-frame c o t e other = (no-tick (takes t e) o e t other).frame
+
+pub returns-clause-top : goal.returns-clause-top
+returns-clause-top c o t e other = (no-tick (takes t e) o e t other).top
+
+pub returns-clause-journal : goal.returns-clause-journal
+returns-clause-journal c o t e other = (no-tick (takes t e) o e t other).journal
