@@ -11,7 +11,7 @@ use Rattle.tt_replay.specs.Statuses.{form_of, input_limit, IsOfForm, IsAnswer, A
 use Rattle.tt_show.specs.ListLines.{ListLine}
 use Rattle.tt_show.specs.Lists as lists
 use Rattle.tt_show.specs.Lists.{IsList, line_text}
-use Rattle.tt_replay.proofs.Lines.{none_bad}
+use Rattle.tt_replay.proofs.Steps.{none_bad}
 
 answers : (words : List (List ℕ)) (form : Form) (input bytes read answer : List ℕ) → form_of words ≡ Some form → bytes ≡ input → read ≡ bytes → length bytes ≤ input_limit → IsAnswer form (lines_of read) answer → Answers words input answer
 answers words form input bytes read answer asked whole same within is = record {

@@ -1,5 +1,4 @@
-pub mod Pieces
-pub mod Lines
+pub mod Steps
 pub mod Streams
 pub mod Plays
 pub mod Reports

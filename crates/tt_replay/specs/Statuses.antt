@@ -10,8 +10,8 @@ use Rattle.tt_show.specs.Lists as lists
 use Rattle.tt_show.specs.Lists.{IsList, list_shown}
 use Rattle.tt_replay.specs.declared.form.Form.{Form}
 use Rattle.tt_replay.specs.declared.form.Form.TheVariants.{Run, Show}
-use Rattle.tt_replay.specs.declared.script_line.ScriptLine.{ScriptLine}
-use Rattle.tt_replay.specs.Script.{Spells, IsSpelled}
+use Rattle.tt_log.specs.Contents.{Contents}
+use Rattle.tt_replay.specs.Script.{Plays, IsPlayed}
 use Rattle.tt_replay.specs.Report.{report}
 
 -- ---- the words
@@ -35,12 +35,12 @@ input_limit = 67108864
 
 -- the lines of an input of this form
 abbrev pub IsOfForm : Form → List (List ℕ) → Type 0
-IsOfForm Run texts = IsSpelled texts
+IsOfForm Run texts = IsPlayed texts
 IsOfForm Show texts = IsList texts
 
 -- the text that answers an input of this form
 abbrev pub IsAnswer : Form → List (List ℕ) → List ℕ → Type 0
-IsAnswer Run texts answer = (lines : List ScriptLine) × Spells lines texts × (answer ≡ report lines)
+IsAnswer Run texts answer = (script : Contents) × Plays script texts × (answer ≡ report script)
 IsAnswer Show texts answer = (lines : List ListLine) × lists.Spells lines texts × (answer ≡ list_shown lines)
 
 -- ---- what was written

@@ -10,7 +10,6 @@ mod play;
 mod replay;
 mod report;
 mod script;
-mod script_line;
 
 use crate::help::answer_of;
 use crate::replay::replay_main;

@@ -5,23 +5,21 @@ ghost use Rattle.tt_lines.specs.Lines.{lines_of, IsFirstBad};
 ghost use Rattle.tt_edge.specs.Count.{Rose};
 ghost use Rattle.tt_edge.specs.Sink.{AppendsPart};
 ghost use Rattle.tt_edge.specs.Source.{ConsumesAtMost, ConsumesCount};
-ghost use Rattle.tt_replay.specs.declared.script_line.ScriptLine.{ScriptLine};
 ghost use Rattle.tt_replay.specs.declared.form.Form.{Form};
 ghost use Rattle.tt_replay.specs.declared.script.ScriptError.TheVariants.{BadLine};
-ghost use Rattle.tt_replay.specs.Script.{IsScript};
-ghost use Rattle.tt_replay.specs.Report.{report};
+ghost use Rattle.tt_replay.specs.Script.{IsPlayedWith};
 ghost use Rattle.tt_replay.specs.Statuses.{form_of, input_limit, IsOfForm, IsAnswer, IsWritten, IsPartlyWritten, IsRefused, bad_line_text};
 
 use crate::form::{Form, form_of};
-use crate::play::play_lines;
+use crate::play::play_script;
 use crate::report::report_of;
-use crate::script::{ScriptError, parse_script};
-use crate::script_line::ScriptLine;
+use crate::script::{ScriptError, setup_of};
 use std::alloc::Global;
 use tt_edge::{ReadAllError, Sink, Source, read_all, write_all};
 use tt_frame::{Line, OutOfMemory};
 use tt_lines::{put, put_number};
 use tt_show::{ShowError, show};
+use tt_world::Setup;
 
 /// All was done as said.
 const DONE: u8 = 0;
@@ -125,11 +123,11 @@ fn run(alloc: Global, input: &[u8]) -> Result<Vec<u8>, ScriptError>
     ensures answer { IfOk result (λ answer. IsAnswer Form.Run (lines_of input.now) answer.items) }
     ensures bad { (line : ℕ) → result ≡ Err (BadLine line) → IsFirstBad (IsOfForm Form.Run) (lines_of input.now) line }
 {
-    let lines = match parse_script(alloc, input) {
-        Ok(lines) => lines,
+    let setup = match setup_of(alloc, input) {
+        Ok(setup) => setup,
         Err(error) => return Err(error),
     };
-    match report_of_script(alloc, &lines) {
+    match report_of_script(alloc, &setup, input) {
         Ok(report) => Ok(report),
         Err(_) => Err(ScriptError::Memory),
     }
@@ -147,13 +145,14 @@ fn show_list(alloc: Global, input: &[u8]) -> Result<Vec<u8>, ScriptError>
     }
 }
 
-/// The report of the game that the lines make.
-fn report_of_script(alloc: Global, lines: &[ScriptLine]) -> Result<Vec<u8>, OutOfMemory>
-    requires { IsScript lines.now }
-    ensures text { IfOk result (λ text. text.items ≡ report lines.now) }
+/// The report of the script that the bytes spell, in a game with its setup.
+fn report_of_script(alloc: Global, setup: &Setup, input: &[u8]) -> Result<Vec<u8>, OutOfMemory>
+    requires script { IsPlayedWith setup.now (lines_of input.now) }
+    ensures answer { IfOk result (λ report. IsAnswer Form.Run (lines_of input.now) report.items) }
 {
-    let mut play = play_lines(alloc, lines)?;
-    report_of(alloc, &mut play)
+    let mut play = play_script(alloc, setup, input)?;
+    let report = report_of(alloc, &mut play)?;
+    Ok(report)
 }
 
 /// Tells the first bad line, and answers the status for it. A fault of the sink leaves that status.

@@ -55,8 +55,13 @@ fn run(alloc: Global, script: &[u8]) -> Result<Trial, OutOfMemory> {
 #[test]
 fn a_script_is_reported(rt: HostRuntime) -> Result<(), Fail> {
     let alloc = rt.alloc();
-    let reports: [(&[u8], &[u8]); 5] = [
+    let reports: [(&[u8], &[u8]); 7] = [
         (b"", START),
+        (b"= server 1\n= \n= refused 1", START),
+        (
+            b"= a\ntick 2\n= server 1\ntick 1\n= b",
+            b"server 3 3 d75be1b8 1fffffff 0 3 0\n",
+        ),
         (b"tick 2\ntick 1\n", b"server 3 3 d75be1b8 1fffffff 0 3 0\n"),
         (b"tick 2\ntick 1", b"server 3 3 d75be1b8 1fffffff 0 3 0\n"),
         (b"tick 74\n", b"server 74 74 f9861ef5 4db3a930 1 0 0\n"),
@@ -127,6 +132,50 @@ fn bad_scripts() -> [(&'static [u8], u8); 31] {
         (b"set seeds 1\n", b'1'),
         (b"set seed 1\nopen\ntick 1\nopen", b'4'),
     ]
+}
+
+/// Scripts with a line that is not played yet, and its number, as a digit.
+fn unplayed_scripts() -> [(&'static [u8], u8); 24] {
+    [
+        (b"open\nside\n", b'2'),
+        (b"side\n", b'1'),
+        (b"open\nshut 1\n", b'2'),
+        (b"tick 1\nstop\n", b'2'),
+        (b"join 61 255 - -\n", b'1'),
+        (b"open\nup 1 1\n", b'2'),
+        (b"down 1 1", b'1'),
+        (b"= a\nrun 1 1\n", b'2'),
+        (b"pump 1\n", b'1'),
+        (b"do 1 loan 10000\n", b'1'),
+        (b"forge 1 00\n", b'1'),
+        (b"set frame_freq 1\n", b'1'),
+        (b"set sync_freq 50\n", b'1'),
+        (b"set clients 2\n", b'1'),
+        (b"set init 9\n", b'1'),
+        (b"set password 8\n", b'1'),
+        (b"set download 7\n", b'1'),
+        (b"set join 6\n", b'1'),
+        (b"set seed 1\nset lag 500\nopen\n", b'2'),
+        (b"set cost 100\n", b'1'),
+        (b"set pw 7077\n", b'1'),
+        (b"set admin -\n", b'1'),
+        (b"open\n= a\nopen\n", b'3'),
+        (b"tick 60\n= a\ntick 40\ntick 1\n", b'4'),
+    ]
+}
+
+#[test]
+fn a_line_that_is_not_played_is_told(rt: HostRuntime) -> Result<(), Fail> {
+    let alloc = rt.alloc();
+    for (input, line) in unplayed_scripts() {
+        let trial = run(alloc, input)?;
+        let mut told = b"script: line ".to_vec(alloc)?;
+        told.push(line)?;
+        told.push(b'\n')?;
+        assert_eq!(rt; trial.status, 3);
+        assert_eq!(rt; trial.written.as_slice(), told.as_slice());
+    }
+    Ok(())
 }
 
 #[test]

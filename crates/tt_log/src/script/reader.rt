@@ -71,8 +71,9 @@ impl<'a> ScriptReader<'a> {
         // Nothing is left.
         ensures end { IfOk result (λ found. IfNone found ((self.old.rest ≡ []) × (self.new ≡ self.old))) }
 
-        // The line is the first with which what stands so far is no script.
+        // The line, which is the next one, is the first with which what stands so far is no script.
         ensures bad { (bytes : List ℕ) (steps : List Said) (l : ℕ) → IsAt self.old bytes steps → result ≡ Err (bad.Line l) → IsFirstBad IsScriptText (lines_of bytes) l }
+        ensures here { (l : ℕ) → result ≡ Err (bad.Line l) → l ≡ self.old.count + 1 }
         ensures err { OnErr result (self.new ≡ self.old) }
     {
         if self.rest.is_empty() {
