@@ -1,4 +1,5 @@
 pub mod Steps
+pub mod Compared
 pub mod Streams
 pub mod Plays
 pub mod Reports

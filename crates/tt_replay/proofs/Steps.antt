@@ -1,7 +1,7 @@
 -- Scripts that are played, step by step.
 use Rattle.std.proofs.Common.{◌≡◌, ℕ, ◌+◌, ◌-◌, ◌≤◌, List, [], ◌∷◌, ◌++◌, length, take, drop, map, true, refl, sym, ap, subst, ◌∙◌, arith}
 use Rattle.std.specs.Prelude.{sum_by, fold}
-use Rattle.std.specs.List.{AllByRecursion, flat_map}
+use Rattle.std.specs.List.{AllByRecursion}
 use Rattle.std.proofs.lemmas.List.{take-append-drop, take-map, length-map, length-append, append-nil}
 use Rattle.std.proofs.lemmas.List.Sums.{sum_by-append, sum_by-cons, fold-append}
 use Rattle.std.proofs.lemmas.Grind.{flat_map-append}
@@ -17,7 +17,7 @@ use Rattle.tt_log.specs.declared.script.step.Step.{Step}
 use Rattle.tt_log.proofs.ScriptLaws.{steps_take, goes_on, same_steps, one_of, first_of_script}
 use Rattle.tt_world.specs.declared.setup.Setup.{Setup}
 use Rattle.tt_replay.specs.declared.play.Play.{Play}
-use Rattle.tt_replay.specs.Script.{is_built, ticks_in, IsBuilt, Plays, IsPlayed, IsPlayedWith, MayFollow}
+use Rattle.tt_replay.specs.Script.{is_built, ticks_in, IsBuilt, IsPlayed, IsPlayedWith, MayFollow}
 use Rattle.tt_replay.specs.Played.{nothing, done, played}
 use Rattle.tt_replay.specs.Playing.{IsAt, PlayedTo}
 

@@ -4,6 +4,7 @@
 //! says how it went; docs/PROTOCOL.md tells scripts, reports and statuses.
 #![tactic(auto)]
 
+mod expecting;
 mod form;
 mod help;
 mod play;

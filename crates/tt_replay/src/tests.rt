@@ -391,3 +391,76 @@ fn a_sink_that_fails_has_a_front_of_the_report(rt: HostRuntime) -> Result<(), Fa
     assert_eq!(rt; whole.written.as_slice(), START);
     Ok(())
 }
+
+/// Scripts that are checked, the status of each, and what is written.
+fn checked() -> [(&'static [u8], u8, &'static [u8]); 9] {
+    [
+        (b"= server 0 0 00000000 00000000 0 0 0", 0, b"agrees\n"),
+        (b"= server 1\n", 1, b"differs at line 1\n"),
+        (b"", 1, b"differs at line 1\n"),
+        (
+            b"tick 2\n= server 3 3 d75be1b8 1fffffff 0 3 0\ntick 1\n",
+            0,
+            b"agrees\n",
+        ),
+        (
+            b"= server 0 0 00000000 00000000 0 0 0\n= \n",
+            1,
+            b"differs at line 2\n",
+        ),
+        (
+            b"bytes 1 00\n= server 0 0 00000000 00000000 0 0 0\n",
+            1,
+            b"differs at line 2\n",
+        ),
+        (
+            b"= server 0 0 00000000 00000000 0 0 0\nbytes 1 00\n= refused 1\n",
+            0,
+            b"agrees\n",
+        ),
+        (
+            b"= server 0 0 00000000 00000000 0 0 0\nbytes 1 00\n= refused 2\n= a\n",
+            1,
+            b"differs at line 2\n",
+        ),
+        (b"= server 1\nside\n", 3, b"script: line 2\n"),
+    ]
+}
+
+#[test]
+fn a_report_is_compared(rt: HostRuntime) -> Result<(), Fail> {
+    let alloc = rt.alloc();
+    for (script, status, text) in checked() {
+        let trial = call(alloc, b"check", script, (None, None), 4096)?;
+        assert_eq!(rt; trial.status, status);
+        assert_eq!(rt; trial.written.as_slice(), text);
+    }
+    Ok(())
+}
+
+#[test]
+fn a_sink_that_fails_leaves_status_1(rt: HostRuntime) -> Result<(), Fail> {
+    let alloc = rt.alloc();
+    let told = b"differs at line 1\n";
+    for place in 0..18usize {
+        let trial = call(
+            alloc,
+            b"check",
+            b"= server 1\n",
+            (None, Some(place as u64)),
+            1,
+        )?;
+        assert_eq!(rt; trial.status, 1);
+        assert_eq!(rt; trial.written.as_slice(), &told[..place]);
+    }
+    let fault = call(
+        alloc,
+        b"check",
+        b"= server 0 0 00000000 00000000 0 0 0",
+        (None, Some(3)),
+        1,
+    )?;
+    assert_eq!(rt; fault.status, 5);
+    assert_eq!(rt; fault.written.as_slice(), b"agr".as_slice());
+    Ok(())
+}

@@ -1,5 +1,4 @@
-use Rattle.std.proofs.Common.{◌≡◌, ◌+◌, Err, List, [], ◌∷◌, ◌++◌, sym, ap, subst, ◌∙◌, arith}
-use Rattle.tt_edge.specs.Event.{opens}
+use Rattle.std.proofs.Common.{◌+◌, Err, [], ◌∷◌, ◌++◌, sym, ap, subst, ◌∙◌, arith}
 use Rattle.tt_hub.specs.Stepped.{table_of}
 use Rattle.tt_lines.specs.Lines.{lines_of}
 use Rattle.tt_log.specs.Steps as steps
