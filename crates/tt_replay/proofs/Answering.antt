@@ -1,17 +1,17 @@
 -- What a call of the program comes to, from its parts.
-use Rattle.std.proofs.Common.{◌≡◌, ◌⊎◌, ℕ, zero, suc, ◌≤◌, List, [], ◌∷◌, length, take, Option, Some, None, IfSome, sym, ap, subst, ◌∙◌}
+use Rattle.std.proofs.Common.{◌≡◌, ◌⊎◌, ℕ, zero, suc, ◌≤◌, List, [], ◌∷◌, length, take, Option, Some, None, IfSome, inl, inr, sym, ap, subst, ◌∙◌}
 use Rattle.std.specs.List.{AllByRecursion}
 use Rattle.std.proofs.lemmas.List.{take-map}
 use Rattle.std.specs.Io.KnownBytes.{Appends}
 use Rattle.tt_lines.specs.Lines.{lines_of, IsFirstBad}
 use Rattle.tt_edge.specs.Sink.{AppendsPart}
 use Rattle.tt_replay.specs.declared.form.Form.{Form}
-use Rattle.tt_replay.specs.declared.form.Form.TheVariants.{Run, Show}
-use Rattle.tt_replay.specs.Statuses.{form_of, input_limit, IsOfForm, IsAnswer, Answers, IsWritten, IsPartlyWritten, IsRefused, bad_line_text}
+use Rattle.tt_replay.specs.declared.form.Form.TheVariants.{Run, Check, Show}
+use Rattle.tt_replay.specs.Statuses.{form_of, input_limit, IsOfForm, IsAnswer, Answers, IsWritten, IsPartlyWritten, IsRefused, IsDiffering, IsOther, bad_line_text, differs_text}
 use Rattle.tt_show.specs.ListLines.{ListLine}
 use Rattle.tt_show.specs.Lists as lists
 use Rattle.tt_show.specs.Lists.{IsList, line_text}
-use Rattle.tt_replay.proofs.Lines.{none_bad}
+use Rattle.tt_replay.proofs.Steps.{none_bad}
 
 answers : (words : List (List ℕ)) (form : Form) (input bytes read answer : List ℕ) → form_of words ≡ Some form → bytes ≡ input → read ≡ bytes → length bytes ≤ input_limit → IsAnswer form (lines_of read) answer → Answers words input answer
 answers words form input bytes read answer asked whole same within is = record {
@@ -54,6 +54,18 @@ refused (Some input) words form bytes read line failed before after whole asked 
   written = told;
 }
 
+-- the first place that differs was told
+pub differing : (left : Option (List ℕ)) (words : List (List ℕ)) (form : Form) (bytes read : List ℕ) (place : ℕ) (failed : Type 0) (before after : Option (List ℕ)) → IfSome left (λ input. bytes ≡ input) → form_of words ≡ Some form → form ≡ Check → read ≡ bytes → length bytes ≤ input_limit
+    → IsOther (lines_of read) place → Appends before after (differs_text place) ⊎ (failed × AppendsPart before after (differs_text place)) → IfSome left (IsDiffering words failed before after)
+differing None words form bytes read place failed before after whole asked is same within other told = tt
+differing (Some input) words form bytes read place failed before after whole asked is same within other told = record {
+  asked = asked ∙ ap Some is;
+  within = subst (λ (xs : List ℕ). length xs ≤ input_limit) whole within;
+  place = place;
+  other = subst (λ (xs : List ℕ). IsOther (lines_of xs) place) (same ∙ whole) other;
+  written = told;
+}
+
 some_is : {A : Type 0} (a b : A) → ◌≡◌ {A = Option A} (Some a) (Some b) → a ≡ b
 some_is a b e = cc
 
@@ -74,6 +86,7 @@ list_none_bad texts line fits bad =
 -- an input of a form has no first bad line
 none_bad_of : (form : Form) (texts : List (List ℕ)) (line : ℕ) → IsOfForm form texts → IsFirstBad (IsOfForm form) texts line → ⊥
 none_bad_of Run texts line fits bad = none_bad texts line fits bad
+none_bad_of Check texts line fits bad = none_bad texts line fits bad
 none_bad_of Show texts line fits bad = list_none_bad texts line fits bad
 
 pub never_refused : (left : Option (List ℕ)) (words : List (List ℕ)) (form other : Form) (bytes read input : List ℕ) (line : ℕ) → IfSome left (λ xs. bytes ≡ xs) → form_of words ≡ Some form → read ≡ bytes → IsFirstBad (IsOfForm form) (lines_of read) line
@@ -82,3 +95,8 @@ never_refused left words form other bytes read input line whole asked same bad a
     let one : form ≡ other = some_is form other (sym asked ∙ also) in
     let text : read ≡ input = same ∙ the_same left bytes input whole is in
     none_bad_of other (lines_of input) line fits (subst (λ (f : Form). IsFirstBad (IsOfForm f) (lines_of input) line) one (subst (λ (xs : List ℕ). IsFirstBad (IsOfForm form) (lines_of xs) line) text bad))
+
+-- what differs was checked
+pub checked_alone : (status : ℕ) (words : List (List ℕ)) (form other : Form) → form_of words ≡ Some form → form_of words ≡ Some other → form ≡ Check → (status ≡ 1) ⊎ (status ≡ 6) → (status ≡ 0) ⊎ (status ≡ 6) ⊎ ((status ≡ 1) × (other ≡ Check))
+checked_alone status words form other asked also is (inl one) = inr (inr (one, some_is other form (sym also ∙ asked) ∙ is))
+checked_alone status words form other asked also is (inr six) = inr (inl six)

@@ -1,5 +1,5 @@
-pub mod Pieces
-pub mod Lines
+pub mod Steps
+pub mod Compared
 pub mod Streams
 pub mod Plays
 pub mod Reports

@@ -1,10 +1,9 @@
 -- Lines, done one after another.
-use Rattle.std.proofs.Common.{◌≡◌, ℕ, zero, suc, ◌+◌, ◌<◌, ◌≤◌, Bool, true, false, not, ◌&&◌, cond, List, [], ◌∷◌, ◌++◌, length, drop, take, replicate, get_or, refl, sym, ap, ap₂, subst, ◌∙◌, append_assoc, arith}
-use Rattle.std.specs.Prelude.{eqb, sum_by}
-use Rattle.std.specs.List.{AllByRecursion}
-use Rattle.std.proofs.lemmas.List.{append-nil, drop-drop, length-drop, take_more, get_or-drop}
+use Rattle.std.proofs.Common.{◌≡◌, ℕ, zero, suc, ◌+◌, ◌≤◌, Bool, true, false, not, ◌&&◌, cond, List, [], ◌∷◌, ◌++◌, length, drop, replicate, refl, sym, ap, ap₂, subst, ◌∙◌, append_assoc, arith}
+use Rattle.std.specs.Prelude.{eqb}
+use Rattle.std.proofs.lemmas.List.{append-nil, drop-drop, length-drop, get_or-drop}
 use Rattle.std.proofs.lemmas.Bool.{and_parts, eqb-true, ne_eqb, both_ways, true≢false}
-use Rattle.std.proofs.lemmas.List.Sums.{sum_by-append, sum_by_more_le, fold-append}
+use Rattle.std.proofs.lemmas.List.Sums.{sum_by-append}
 use Rattle.tt_frame.specs.Packet.{IsBytes}
 use Rattle.tt_frame.specs.Stream.{IsPartial, IsBadSize, rest_of}
 use Rattle.tt_frame.specs.StreamReading.{reading, reading_within}
@@ -22,11 +21,8 @@ use Rattle.tt_hub.specs.Stepped.{changed, stepped, table_of}
 use Rattle.tt_hub.specs.Hub.{is_live}
 use Rattle.tt_hub.specs.Laws.{table_of-push, sane, closed-there}
 use Rattle.tt_replay.specs.declared.play.Play.{Play}
-use Rattle.tt_replay.specs.declared.script_line.ScriptLine.{ScriptLine}
-use Rattle.tt_replay.specs.declared.script_line.ScriptLine.TheVariants as line
-use Rattle.tt_replay.specs.Script.{IsLine}
-use Rattle.tt_lines.specs.Digits.{IsPiece}
-use Rattle.tt_replay.specs.Played.{Played, nothing, reader_limit, stream_events, added, until_ended, nobody, with_piece, done, played}
+use Rattle.tt_log.specs.declared.script.line.Line1.TheVariants as line
+use Rattle.tt_replay.specs.Played.{Played, reader_limit, stream_events, added, until_ended, nobody, with_piece, done}
 use Rattle.tt_replay.specs.Playing.{IsAt}
 use Rattle.tt_replay.proofs.Streams.{read_packet, read_partial, events_packet, events_partial, events_bad_size, read_joined, added_is}
 
@@ -149,7 +145,7 @@ live_opened setup events conn live none =
     let t = sane setup events in
     omega (arith, t.some (live_parts setup events conn live).1, t.conn, t.count, none)
 
-pub at_piece : (setup : Setup) (play next : Play) (p : Played) (conn end : ℕ) (piece bytes : List ℕ) → IsAt setup play p → IsPiece piece → is_live setup play.hub.events conn ≡ true → bytes ≡ play.rest.items ++ piece
+pub at_piece : (setup : Setup) (play next : Play) (p : Played) (conn end : ℕ) (piece bytes : List ℕ) → IsAt setup play p → IsBytes piece → is_live setup play.hub.events conn ≡ true → bytes ≡ play.rest.items ++ piece
     → next.hub.setup ≡ setup → next.hub.events ≡ until_ended setup conn play.hub.events (stream_events conn bytes) → next.hub.taken ≡ play.hub.taken → next.refused ≡ play.refused
     → (is_there (table_of setup next.hub.events).standing ≡ true → (reading reader_limit bytes).1 ≡ rest_of (drop end bytes)) → next.rest.items ≡ drop end bytes
     → opens next.hub.events ≡ opens play.hub.events → IsAt setup next (with_piece setup conn piece p)
@@ -157,8 +153,8 @@ at_piece setup play next p conn end piece bytes at is live joined kept_setup eve
     let live_then : is_live setup p.events conn ≡ true = rw (← at.events) live in
     let there = (live_parts setup p.events conn live_then).1 in
     let so_far = at.rest there in
-    let all = bytes_append p.fed piece at.bytes is.bytes in
-    let both = bytes_append play.rest.items piece at.kept is.bytes in
+    let all = bytes_append p.fed piece at.bytes is in
+    let both = bytes_append play.rest.items piece at.kept is in
     let adds = added_is conn p.fed play.rest.items piece at.bytes all both so_far in
     let now : next.hub.events ≡ until_ended setup conn p.events (added conn p.fed piece) =
     events ∙ ap₂ (λ (es : List Event) (xs : List ℕ). until_ended setup conn es (stream_events conn xs)) at.events joined ∙ ap (until_ended setup conn p.events) (sym adds) in
@@ -247,24 +243,3 @@ at_ticks setup play next p n at kept_setup events taken refused rest = record {
   unkept = λ none. rest ∙ at.unkept (sym (opens-ticks n p.events) ∙ none);
   rest = λ there. at.rest (still_there setup n p.events there) ∙ ap rest_of (sym rest);
 }
-
--- ---- the lines of a script
-
--- the lines so far and the next one count no more than all
-pub next_within : (f : ScriptLine → ℕ) (lines : List ScriptLine) (i so_far most : ℕ) (next : ScriptLine) → i < length lines → next ≡ get_or lines i next → so_far ≡ sum_by f (take i lines) → sum_by f lines ≤ most → so_far + f next ≤ most
-next_within f lines i so_far most next within is counted few =
-    let same : f next ≡ f (get_or lines i next) = ap f is in
-    omega (arith, sum_by_more_le f lines i next within, same, counted, few)
-
-pub next_sum : (f : ScriptLine → ℕ) (lines : List ScriptLine) (i : ℕ) (next : ScriptLine) → i < length lines → next ≡ get_or lines i next → sum_by f (take (i + 1) lines) ≡ sum_by f (take i lines) + f next
-next_sum f lines i next within is =
-    ap (sum_by f) (take_more lines i next within) ∙ ap (λ (l : ScriptLine). sum_by f (take i lines ++ l ∷ [])) (sym is) ∙ omega (arith, sum_by-append f (take i lines) (next ∷ []))
-
-pub next_played : (setup : Setup) (lines : List ScriptLine) (i : ℕ) (next : ScriptLine) → i < length lines → next ≡ get_or lines i next → played setup (take (i + 1) lines) ≡ done setup (played setup (take i lines)) next
-next_played setup lines i next within is =
-    ap (played setup) (take_more lines i next within) ∙ ap (λ (l : ScriptLine). played setup (take i lines ++ l ∷ [])) (sym is) ∙ fold-append (done setup) nothing (take i lines) (next ∷ [])
-
-pub next_line : (lines : List ScriptLine) (i : ℕ) (d : ScriptLine) → AllByRecursion IsLine lines → i < length lines → IsLine (get_or lines i d)
-next_line [] i d each within = absurd (omega (arith, within))
-next_line (l ∷ lines) zero d each within = each.0
-next_line (l ∷ lines) (suc i) d each within = next_line lines i d each.1 (omega (arith, within))

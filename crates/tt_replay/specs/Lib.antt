@@ -2,4 +2,5 @@ pub mod Script
 pub mod Played
 pub mod Report
 pub mod Playing
+pub mod Expected
 pub mod Statuses

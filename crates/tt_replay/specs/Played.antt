@@ -9,8 +9,8 @@ use Rattle.tt_edge.specs.declared.event.Event.{Event}
 use Rattle.tt_edge.specs.declared.event.Event.TheVariants as event
 use Rattle.tt_world.specs.declared.setup.Setup.{Setup}
 use Rattle.tt_hub.specs.Hub.{is_live}
-use Rattle.tt_replay.specs.declared.script_line.ScriptLine.{ScriptLine}
-use Rattle.tt_replay.specs.declared.script_line.ScriptLine.TheVariants.{SetSeed, Open, Bytes, Tick}
+use Rattle.tt_log.specs.declared.script.line.Line1.{Line1}
+use Rattle.tt_log.specs.declared.script.line.Line1.TheVariants.{Open, Bytes, Tick}
 
 -- the events so far, all bytes that were fed to the one connection, and how many lines were refused
 pub record Played : Type 0 where
@@ -62,13 +62,13 @@ with_piece setup conn piece p = record p { events = until_ended setup conn p.eve
 abbrev pub one_refused : Played → Played
 one_refused p = record p { refused = p.refused + 1 }
 
--- a line of a game with this setup; what a line sets is in the setup already, and a piece of a connection that isn't
--- live is refused, and changes nothing else
-abbrev pub done : Setup → Played → ScriptLine → Played
-done setup p (SetSeed seed) = p
+-- A line of a game with this setup. A piece of a connection that isn't live is refused, and changes nothing else. An
+-- expected line does nothing, and the other lines are in no script that is played.
+abbrev pub done : Setup → Played → Line1 → Played
 done setup p Open = record p { events = p.events ++ event.Open Main nobody ∷ [] }
 done setup p (Bytes conn piece) = if is_live setup p.events conn then with_piece setup conn piece p else one_refused p
 done setup p (Tick n) = record p { events = p.events ++ replicate n event.Tick }
+done setup p line = p
 
-abbrev pub played : Setup → List ScriptLine → Played
+abbrev pub played : Setup → List Line1 → Played
 played setup lines = fold (done setup) nothing lines

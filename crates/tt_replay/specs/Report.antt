@@ -14,8 +14,7 @@ use Rattle.tt_world.specs.declared.sign.Sign.{Sign}
 use Rattle.tt_world.specs.World.{WorldState, company_of}
 use Rattle.tt_hub.specs.Stepped.{table_of}
 use Rattle.tt_hub.specs.Hub.{world_of, is_live, sent}
-use Rattle.tt_replay.specs.declared.script_line.ScriptLine.{ScriptLine}
-use Rattle.tt_replay.specs.Script.{setup_of}
+use Rattle.tt_log.specs.Contents.{Contents}
 use Rattle.tt_replay.specs.Played.{Played, played}
 
 -- ---- a connection
@@ -98,5 +97,5 @@ report_of setup p =
     ++ refused_line p.refused
 
 -- the report of a script
-abbrev pub report : List ScriptLine → List ℕ
-report lines = report_of (setup_of lines) (played (setup_of lines) lines)
+abbrev pub report : Contents → List ℕ
+report script = report_of script.setup (played script.setup script.lines)

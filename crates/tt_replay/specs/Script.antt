@@ -1,79 +1,68 @@
--- What a script is: lines, each with one spelling.
-use Rattle.std.specs.Prelude.{◌≡◌, ℕ, ◌^◌, ◌<◌, ◌≤◌, List, [], ◌∷◌, ◌++◌, codes, sum_by, map, drop}
+-- Which scripts are played.
+use Rattle.std.specs.Prelude.{◌≡◌, ℕ, ◌≤◌, List, Bool, true, false, sum_by}
 use Rattle.std.specs.List.{AllByRecursion}
-use Rattle.std.specs.Fmt.{decimal}
-use Rattle.hex.specs.Hex.{encode_lower}
-use Rattle.tt_lines.specs.Digits.{IsPiece}
+use Rattle.tt_log.specs.Contents.{Contents}
+use Rattle.tt_log.specs.Steps.{opens}
+use Rattle.tt_log.specs.Script.{Spells}
+use Rattle.tt_log.specs.declared.script.line.Line1.{Line1}
+use Rattle.tt_log.specs.declared.script.line.Line1.TheVariants.{Open, Bytes, Tick, Expect}
+use Rattle.tt_log.specs.declared.script.setting.Setting.{Setting}
+use Rattle.tt_log.specs.declared.script.setting.Setting.TheVariants.{Seed}
+use Rattle.tt_log.specs.declared.script.step.Step.{Step}
+use Rattle.tt_log.specs.declared.script.step.Step.TheVariants.{Set, Line}
 use Rattle.tt_world.specs.declared.setup.Setup.{Setup}
-use Rattle.tt_world.specs.Setup.{plain}
-use Rattle.tt_replay.specs.declared.script_line.ScriptLine.{ScriptLine}
-use Rattle.tt_replay.specs.declared.script_line.ScriptLine.TheVariants.{SetSeed, Open, Bytes, Tick}
 
--- a connection's number, and the bytes of a piece as pairs of hexadecimal digits
-abbrev pub piece_text : ℕ → List ℕ → List ℕ
-piece_text conn piece = decimal conn ++ 32 ∷ encode_lower piece
+-- the settings that are played: the seed
+abbrev pub is_setting_built : Setting → Bool
+is_setting_built (Seed seed) = true
+is_setting_built setting = false
 
--- a line's text
-abbrev pub body_of : ScriptLine → List ℕ
-body_of (SetSeed seed) = codes "set seed " ++ decimal seed
-body_of Open = codes "open"
-body_of (Bytes conn piece) = codes "bytes " ++ piece_text conn piece
-body_of (Tick n) = codes "tick " ++ decimal n
+-- the lines that are played: openings at the main door, pieces, ticks, and expected lines
+abbrev pub is_line_built : Line1 → Bool
+is_line_built Open = true
+is_line_built (Bytes conn piece) = true
+is_line_built (Tick n) = true
+is_line_built (Expect line) = true
+is_line_built line = false
 
--- what a line may have: a seed below 2 ^ 32, a connection below 2 ^ 32 and a piece, or 1 to 1,000,000 ticks
-abbrev pub IsLine : ScriptLine → Type 0
-IsLine (SetSeed seed) = seed < 2 ^ 32
-IsLine Open = Unit {0}
-IsLine (Bytes conn piece) = (conn < 2 ^ 32) × IsPiece piece
-IsLine (Tick n) = (1 ≤ n) × (n ≤ 1000000)
+-- what is played of a script's lines, settings included
+abbrev pub is_built : Step → Bool
+is_built (Set setting) = is_setting_built setting
+is_built (Line line) = is_line_built line
 
 -- how many ticks a line asks for
-abbrev pub ticks_of : ScriptLine → ℕ
-ticks_of (SetSeed seed) = 0
-ticks_of Open = 0
-ticks_of (Bytes conn piece) = 0
+abbrev pub ticks_of : Line1 → ℕ
 ticks_of (Tick n) = n
+ticks_of line = 0
 
--- whether a line opens a connection
-abbrev pub openings_of : ScriptLine → ℕ
-openings_of (SetSeed seed) = 0
-openings_of Open = 1
-openings_of (Bytes conn piece) = 0
-openings_of (Tick n) = 0
+-- a setting asks for none
+abbrev pub ticks_in : Step → ℕ
+ticks_in (Set setting) = 0
+ticks_in (Line line) = ticks_of line
 
--- whether a line sets something of the game
-abbrev pub settings_of : ScriptLine → ℕ
-settings_of (SetSeed seed) = 1
-settings_of Open = 0
-settings_of (Bytes conn piece) = 0
-settings_of (Tick n) = 0
+-- the lines of a script that is played: each is, and there are at most one opening and at most 100 ticks in sum
+pub record IsBuilt (steps : List Step) : Type 0 where
+  pub each : AllByRecursion (λ step. is_built step ≡ true) steps
+  pub openings : sum_by opens steps ≤ 1
+  pub ticks : sum_by ticks_in steps ≤ 100
 
--- the lines of a script: each in its range, no setting behind the first line, at most one opening, and at most 100
--- ticks in sum
-pub record IsScript (lines : List ScriptLine) : Type 0 where
-  pub each : AllByRecursion IsLine lines
-  pub settings : sum_by settings_of (drop 1 lines) ≡ 0
-  pub openings : sum_by openings_of lines ≤ 1
-  pub ticks : sum_by ticks_of lines ≤ 100
+-- the lines of an input spell the script, and it is played
+pub record Plays (script : Contents) (texts : List (List ℕ)) : Type 0 where
+  pub spelled : Spells script texts
+  pub built : IsBuilt spelled.steps
 
--- the lines of an input spell the script
-pub record Spells (lines : List ScriptLine) (texts : List (List ℕ)) : Type 0 where
-  pub script : IsScript lines
-  pub text : texts ≡ map body_of lines
+-- the lines of an input spell a script that is played
+abbrev pub IsPlayed : List (List ℕ) → Type 0
+IsPlayed texts = (script : Contents) × Plays script texts
 
--- the lines of an input spell a script
-pub record IsSpelled (texts : List (List ℕ)) : Type 0 where
-  pub lines : List ScriptLine
-  pub spelled : Spells lines texts
+-- the lines of an input spell a script that is played in a game with this setup
+pub record IsPlayedWith (setup : Setup) (texts : List (List ℕ)) : Type 0 where
+  pub script : Contents
+  pub plays : Plays script texts
+  pub made : setup ≡ script.setup
 
--- the plain setup with another seed
-abbrev pub with_seed : ℕ → Setup
-with_seed seed = record plain { seed = seed }
-
--- the setup of a script's game: its first line may set the seed
-abbrev pub setup_of : List ScriptLine → Setup
-setup_of [] = plain
-setup_of (SetSeed seed ∷ lines) = with_seed seed
-setup_of (Open ∷ lines) = plain
-setup_of (Bytes conn piece ∷ lines) = plain
-setup_of (Tick n ∷ lines) = plain
+-- what may stand behind lines that leave so many openings and ticks
+pub record MayFollow (openings ticks : ℕ) (step : Step) : Type 0 where
+  pub built : is_built step ≡ true
+  pub openings_left : opens step ≤ openings
+  pub ticks_left : ticks_in step ≤ ticks

@@ -9,10 +9,11 @@ use Rattle.tt_show.specs.ListLines.{ListLine}
 use Rattle.tt_show.specs.Lists as lists
 use Rattle.tt_show.specs.Lists.{IsList, list_shown}
 use Rattle.tt_replay.specs.declared.form.Form.{Form}
-use Rattle.tt_replay.specs.declared.form.Form.TheVariants.{Run, Show}
-use Rattle.tt_replay.specs.declared.script_line.ScriptLine.{ScriptLine}
-use Rattle.tt_replay.specs.Script.{Spells, IsSpelled}
+use Rattle.tt_replay.specs.declared.form.Form.TheVariants.{Run, Check, Show}
+use Rattle.tt_log.specs.Contents.{Contents}
+use Rattle.tt_replay.specs.Script.{Plays, IsPlayed}
 use Rattle.tt_replay.specs.Report.{report}
+use Rattle.tt_replay.specs.Expected.{expected_lines, DifferAt}
 
 -- ---- the words
 
@@ -21,10 +22,12 @@ abbrev pub form_or : Bool → Form → Option Form → Option Form
 form_or true form later = Some form
 form_or false form later = later
 
--- what the words ask for: the one word `run` asks for the report of a script, the one word `show` for the text of packets
+-- What the words ask for: the one word `run` asks for the report of a script, the one word `check` whether the report is
+-- as the script expects it, the one word `show` for the text of packets.
 abbrev pub form_of : List (List ℕ) → Option Form
 form_of [] = None
-form_of (word ∷ []) = form_or (bytes_eq word (codes "run")) Run (form_or (bytes_eq word (codes "show")) Show None)
+form_of (word ∷ []) =
+    form_or (bytes_eq word (codes "run")) Run (form_or (bytes_eq word (codes "check")) Check (form_or (bytes_eq word (codes "show")) Show None))
 form_of (word ∷ other ∷ words) = None
 
 -- ---- the input
@@ -35,12 +38,26 @@ input_limit = 67108864
 
 -- the lines of an input of this form
 abbrev pub IsOfForm : Form → List (List ℕ) → Type 0
-IsOfForm Run texts = IsSpelled texts
+IsOfForm Run texts = IsPlayed texts
+IsOfForm Check texts = IsPlayed texts
 IsOfForm Show texts = IsList texts
 
--- the text that answers an input of this form
+-- the text for a report that is as its script expects it
+abbrev pub agrees_text : List ℕ
+agrees_text = codes "agrees\n"
+
+-- the report of a script is as the script expects it
+abbrev pub Agrees : Contents → Type 0
+Agrees script = lines_of (report script) ≡ expected_lines script.lines
+
+-- it isn't, first at this place
+abbrev pub DiffersAt : Contents → ℕ → Type 0
+DiffersAt script place = DifferAt place (lines_of (report script)) (expected_lines script.lines)
+
+-- the text that answers an input of this form; a script that is checked has it where the report is as expected
 abbrev pub IsAnswer : Form → List (List ℕ) → List ℕ → Type 0
-IsAnswer Run texts answer = (lines : List ScriptLine) × Spells lines texts × (answer ≡ report lines)
+IsAnswer Run texts answer = (script : Contents) × Plays script texts × (answer ≡ report script)
+IsAnswer Check texts answer = (script : Contents) × Plays script texts × Agrees script × (answer ≡ agrees_text)
 IsAnswer Show texts answer = (lines : List ListLine) × lists.Spells lines texts × (answer ≡ list_shown lines)
 
 -- ---- what was written
@@ -77,3 +94,20 @@ pub record IsRefused (words : List (List ℕ)) (failed : Type 0) (before after :
   pub line : ℕ
   pub bad : IsFirstBad (IsOfForm form) (lines_of input) line
   pub written : Appends before after (bad_line_text line) ⊎ (failed × AppendsPart before after (bad_line_text line))
+
+-- what is written of the first place where a report is not as expected
+abbrev pub differs_text : ℕ → List ℕ
+differs_text place = codes "differs at line " ++ decimal place ++ codes "\n"
+
+-- an input whose report is not as it expects, first at this place
+abbrev pub IsOther : List (List ℕ) → ℕ → Type 0
+IsOther texts place = (script : Contents) × Plays script texts × DiffersAt script place
+
+-- The input is a script that is checked, and its report is not as it expects. The first place was told, whole, or in part
+-- where the sink failed.
+pub record IsDiffering (words : List (List ℕ)) (failed : Type 0) (before after : Option (List ℕ)) (input : List ℕ) : Type 0 where
+  pub asked : form_of words ≡ Some Check
+  pub within : length input ≤ input_limit
+  pub place : ℕ
+  pub other : IsOther (lines_of input) place
+  pub written : Appends before after (differs_text place) ⊎ (failed × AppendsPart before after (differs_text place))

@@ -9,6 +9,8 @@ use tt_frame::Line;
 pub enum Form {
     /// `run`: the report of a script.
     Run,
+    /// `check`: whether the report of a script is as the script expects it.
+    Check,
     /// `show`: the text of the packets of a list.
     Show,
 }
@@ -19,6 +21,7 @@ pub fn form_of(words: &[Line]) -> Option<Form>
 {
     match words {
         [word] if word.bytes() == b"run".as_slice() => Some(Form::Run),
+        [word] if word.bytes() == b"check".as_slice() => Some(Form::Check),
         [word] if word.bytes() == b"show".as_slice() => Some(Form::Show),
         _ => None,
     }

@@ -4,13 +4,13 @@
 //! says how it went; docs/PROTOCOL.md tells scripts, reports and statuses.
 #![tactic(auto)]
 
+mod expecting;
 mod form;
 mod help;
 mod play;
 mod replay;
 mod report;
 mod script;
-mod script_line;
 
 use crate::help::answer_of;
 use crate::replay::replay_main;

@@ -1,7 +1,7 @@
 //! The lines of a script, done on a hub in order.
 //!
 //! A play keeps the hub, the bytes of the one connection that are no whole packet yet, and how many lines were refused.
-ghost use Rattle.std.specs.Prelude.{◌≡◌, ◌+◌, ◌<◌, ◌≤◌, [], ◌∷◌, ◌++◌, true, false, length, drop, IfOk, OnOk, OnErr, replicate};
+ghost use Rattle.std.specs.Prelude.{◌≡◌, ◌+◌, ◌<◌, ◌≤◌, [], ◌∷◌, ◌++◌, true, false, length, drop, IfOk, OnOk, OnErr, replicate, fold};
 ghost use Rattle.tt_frame.specs.Packet.{IsBytes};
 ghost use Rattle.tt_frame.specs.Stream.{rest_of};
 ghost use Rattle.tt_frame.specs.StreamReading.{reading};
@@ -10,17 +10,19 @@ ghost use Rattle.tt_world.specs.declared.setup.Setup.{Setup};
 ghost use Rattle.tt_hub.specs.Table.{is_taken, is_there};
 ghost use Rattle.tt_hub.specs.Stepped.{table_of};
 ghost use Rattle.tt_hub.specs.Hub.{is_live};
-ghost use Rattle.std.specs.List.{AllByRecursion};
-ghost use Rattle.tt_lines.specs.Digits.{IsPiece};
-ghost use Rattle.tt_replay.specs.Script.{IsScript, IsLine, ticks_of, openings_of, setup_of};
-ghost use Rattle.tt_replay.specs.Played.{Played, nothing, reader_limit, stream_events, until_ended, with_piece, done, played};
-ghost use Rattle.tt_replay.specs.Playing.{IsAt};
+ghost use Rattle.tt_lines.specs.Lines.{lines_of};
+ghost use Rattle.tt_log.specs.Lines.{openings_of};
+ghost use Rattle.tt_log.specs.Script.{line_in};
+ghost use Rattle.tt_log.specs.Steps.{opens as step_opens};
+ghost use Rattle.tt_replay.specs.Script.{is_built, is_line_built, ticks_of, ticks_in, IsPlayedWith};
+ghost use Rattle.tt_replay.specs.Played.{Played, nothing, reader_limit, stream_events, until_ended, with_piece, done};
+ghost use Rattle.tt_replay.specs.Playing.{IsAt, PlayedTo};
 
-use crate::script_line::ScriptLine;
 use std::alloc::Global;
 use tt_edge::{Body, Core, CoreErr, Door, Event, Peer};
 use tt_frame::{Next, OutOfMemory, first_of};
 use tt_hub::Hub;
+use tt_log::{Line1, ScriptBad, ScriptReader, Step};
 use tt_world::Setup;
 
 /// The largest packet that is read.
@@ -43,28 +45,26 @@ pub struct Play {
     pub refused: u32,
 }
 
-/// Does the lines of a script in order, on a hub that is made for it.
-pub fn play_lines(alloc: Global, lines: &[ScriptLine]) -> Result<Play, OutOfMemory>
-    requires { IsScript lines.now }
-    ensures played { IfOk result (λ play. IsAt (setup_of lines.now) play (played (setup_of lines.now) lines.now)) }
+/// Does the lines of a script in order, on a hub that is made for it with the script's setup. They are read one after
+/// the other, and none is kept.
+pub fn play_script(alloc: Global, setup: &Setup, bytes: &[u8]) -> Result<Play, OutOfMemory>
+    requires script { IsPlayedWith setup.now (lines_of bytes.now) }
+    ensures played { IfOk result (λ play. PlayedTo (lines_of bytes.now) play) }
 {
-    let mut play = begun(alloc, &setup_of(lines))?;
-    for line in lines {
-        do_line(alloc, &mut play, line)?;
+    let mut play = begun(alloc, setup)?;
+    let mut reader = ScriptReader::new(bytes);
+    loop {
+        match reader.next(alloc) {
+            Ok(Some(step)) => {
+                if let Err(_) = do_step(alloc, &mut play, step) {
+                    return Err(OutOfMemory);
+                }
+            }
+            Ok(None) => return Ok(play),
+            Err(ScriptBad::Line(_)) => unreachable!(),
+            Err(ScriptBad::Memory) => return Err(OutOfMemory),
+        }
     }
-    Ok(play)
-}
-
-/// The setup of the game: its first line may set the seed.
-fn setup_of(lines: &[ScriptLine]) -> Setup
-    requires each { AllByRecursion IsLine lines.now }
-    ensures setup { result ≡ setup_of lines.now }
-{
-    let mut setup = Setup::plain();
-    if let [ScriptLine::SetSeed(seed), ..] = lines {
-        setup.seed = *seed;
-    }
-    setup
 }
 
 /// A play of no lines yet.
@@ -79,22 +79,38 @@ fn begun(alloc: Global, setup: &Setup) -> Result<Play, OutOfMemory>
     })
 }
 
+/// Does one line, settings included. What a setting says is in the setup of the game already.
+fn do_step(alloc: Global, play: &mut Play, step: Step) -> Result<(), OutOfMemory>
+    requires built { is_built step ≡ true }
+    requires early { (table_of play.old.hub.setup play.old.hub.events).frame + ticks_in step ≤ 100 }
+    requires few { opens play.old.hub.events + step_opens step ≤ 1 }
+    ensures at { (p : Played) → IsAt play.old.hub.setup play.old p → OnOk result (IsAt play.old.hub.setup play.new (fold (done play.old.hub.setup) p (line_in step))) }
+    ensures setup { play.new.hub.setup ≡ play.old.hub.setup }
+    ensures frame { OnOk result ((table_of play.old.hub.setup play.new.hub.events).frame ≡ (table_of play.old.hub.setup play.old.hub.events).frame + ticks_in step) }
+    ensures openings { OnOk result (opens play.new.hub.events ≡ opens play.old.hub.events + step_opens step) }
+{
+    match step {
+        Step::Set(_setting) => Ok(()),
+        Step::Line(line) => do_line(alloc, play, &line),
+    }
+}
+
 /// Does one line.
-fn do_line(alloc: Global, play: &mut Play, line: &ScriptLine) -> Result<(), OutOfMemory>
+fn do_line(alloc: Global, play: &mut Play, line: &Line1) -> Result<(), OutOfMemory>
+    requires built { is_line_built line.now ≡ true }
     requires early { (table_of play.old.hub.setup play.old.hub.events).frame + ticks_of line.now ≤ 100 }
     requires few { opens play.old.hub.events + openings_of line.now ≤ 1 }
-    ensures at { (p : Played) → IsAt play.old.hub.setup play.old p → IsLine line.now → OnOk result (IsAt play.old.hub.setup play.new (done play.old.hub.setup p line.now)) }
+    ensures at { (p : Played) → IsAt play.old.hub.setup play.old p → OnOk result (IsAt play.old.hub.setup play.new (done play.old.hub.setup p line.now)) }
     ensures setup { play.new.hub.setup ≡ play.old.hub.setup }
     ensures frame { OnOk result ((table_of play.old.hub.setup play.new.hub.events).frame ≡ (table_of play.old.hub.setup play.old.hub.events).frame + ticks_of line.now) }
     ensures openings { OnOk result (opens play.new.hub.events ≡ opens play.old.hub.events + openings_of line.now) }
 {
     match line {
-        ScriptLine::SetSeed(_) => Ok(()),
-        ScriptLine::Open => {
+        Line1::Open => {
             open(&mut play.hub)?;
             Ok(())
         }
-        ScriptLine::Bytes(conn, piece) => {
+        Line1::Bytes(conn, piece) => {
             if play.hub.live(*conn) {
                 feed(alloc, play, *conn, piece.bytes())?;
                 Ok(())
@@ -103,10 +119,16 @@ fn do_line(alloc: Global, play: &mut Play, line: &ScriptLine) -> Result<(), OutO
                 Ok(())
             }
         }
-        ScriptLine::Tick(n) => {
+        Line1::Tick(n) => {
             run_ticks(&mut play.hub, *n)?;
             Ok(())
         }
+        Line1::Expect(_) => Ok(()),
+        Line1::Side | Line1::Shut(_) | Line1::Stop => unreachable!(),
+        Line1::Join(_, _, _, _) | Line1::Up(_, _) | Line1::Down(_, _) | Line1::Run(_, _) => {
+            unreachable!()
+        }
+        Line1::Pump(_) | Line1::Do(_, _) | Line1::Forge(_, _) => unreachable!(),
     }
 }
 
@@ -153,7 +175,7 @@ fn run_ticks(hub: &mut Hub, n: u32) -> Result<(), OutOfMemory>
 /// Feeds a piece to a connection that is live.
 fn feed(alloc: Global, play: &mut Play, conn: u32, piece: &[u8]) -> Result<(), OutOfMemory>
     requires live { is_live play.old.hub.setup play.old.hub.events conn ≡ true }
-    ensures at { (p : Played) → IsAt play.old.hub.setup play.old p → IsPiece piece.now → OnOk result (IsAt play.old.hub.setup play.new (with_piece play.old.hub.setup conn piece.now p)) }
+    ensures at { (p : Played) → IsAt play.old.hub.setup play.old p → OnOk result (IsAt play.old.hub.setup play.new (with_piece play.old.hub.setup conn piece.now p)) }
     ensures setup { play.new.hub.setup ≡ play.old.hub.setup }
     ensures frame { (table_of play.old.hub.setup play.new.hub.events).frame ≡ (table_of play.old.hub.setup play.old.hub.events).frame }
     ensures openings { opens play.new.hub.events ≡ opens play.old.hub.events }

@@ -1,17 +1,19 @@
-//! Scripts: what the replay program reads, line by line.
+//! Which scripts are played, looked at line by line: no line is kept, however many there are.
 //!
-//! `parse_script` gives the lines that the bytes spell, or their first bad line: the first with which what stands so
-//! far is no script. Each line has one spelling, so a script means one thing.
-ghost use Rattle.std.specs.Prelude.{◌≡◌, ℕ, ◌+◌, Err, IfOk};
+//! `setup_of` gives the setup of the script that the bytes spell, or their first bad line: the first with which what
+//! stands so far is no script, or none that is played.
+ghost use Rattle.std.specs.Prelude.{◌≡◌, ℕ, ◌+◌, true, Err, IfOk, IfSome, IfNone};
 ghost use Rattle.tt_lines.specs.Lines.{lines_of, IsFirstBad};
+ghost use Rattle.tt_log.specs.Steps.{opens};
+ghost use Rattle.tt_log.specs.Script.{setup_with};
 ghost use Rattle.tt_replay.specs.declared.script.ScriptError.TheVariants.{Memory, BadLine};
-ghost use Rattle.tt_replay.specs.Script.{Spells, IsSpelled};
+ghost use Rattle.tt_replay.specs.Script.{is_setting_built, is_line_built, is_built, ticks_of, ticks_in, MayFollow, IsPlayed, IsPlayedWith};
 
-use crate::script_line::{ScriptLine, line_of};
 use std::alloc::{AllocError, AllocFailed, Global};
 use thiserror::Error;
 use tt_frame::OutOfMemory;
-use tt_lines::first_line;
+use tt_log::{Line1, ScriptBad, ScriptReader, Setting, Step};
+use tt_world::Setup;
 
 /// The most ticks that a script may ask for.
 const MOST_TICKS: u32 = 100;
@@ -22,8 +24,7 @@ const MOST_OPENINGS: u32 = 1;
 /// Why bytes gave no script.
 #[derive(Clone, Copy, Debug, PartialEq, Eq, Error)]
 pub enum ScriptError {
-    /// This line, counted from 1, is none, or sets the seed behind another line, or opens a second connection, or asks
-    /// for too many ticks.
+    /// This line, counted from 1, is the first with which what stands so far is no script that is played.
     #[error("line {0} is no line of a script there")]
     BadLine(u32),
     /// Memory ran out.
@@ -55,39 +56,42 @@ impl From<OutOfMemory> for ScriptError {
     }
 }
 
-/// The lines of the script that the bytes spell, or their first bad line. More lines than can be counted in 32 bits are
-/// answered by want of memory.
-pub fn parse_script(alloc: Global, bytes: &[u8]) -> Result<Vec<ScriptLine>, ScriptError>
-    ensures found { IfOk result (λ lines. Spells lines.items (lines_of bytes.now)) }
-    ensures bad { (line : ℕ) → result ≡ Err (BadLine line) → IsFirstBad IsSpelled (lines_of bytes.now) line }
+/// What the lines behind those that were read may still ask for.
+#[derive(Clone, Copy, Debug, PartialEq, Eq)]
+struct Left {
+    /// So many openings.
+    openings: u32,
+    /// So many ticks.
+    ticks: u32,
+}
+
+/// The setup of the script that the bytes spell and that is played, or their first bad line. More lines than can be
+/// counted in 32 bits are answered by want of memory.
+pub fn setup_of(alloc: Global, bytes: &[u8]) -> Result<Setup, ScriptError>
+    ensures found { IfOk result (λ setup. IsPlayedWith setup (lines_of bytes.now)) }
+    ensures bad { (line : ℕ) → result ≡ Err (BadLine line) → IsFirstBad IsPlayed (lines_of bytes.now) line }
 {
-    let mut lines = Vec::new(alloc);
+    let mut reader = ScriptReader::new(bytes);
+    let mut setup = Setup::plain();
     let mut number = 0u32;
-    let mut openings = 0u32;
-    let mut ticks = 0u32;
-    let mut rest = bytes;
-    while !rest.is_empty() {
-        let first = number == 0;
+    let mut left = Left {
+        openings: MOST_OPENINGS,
+        ticks: MOST_TICKS,
+    };
+    loop {
         number = next_number(number)?;
-        let (text, after) = first_line(rest);
-        let Some(line) = line_of(alloc, text)? else {
-            return Err(ScriptError::BadLine(number));
-        };
-        if line.settings() > 0 && !first {
-            return Err(ScriptError::BadLine(number));
+        match reader.next(alloc) {
+            Ok(Some(step)) => {
+                let Some(behind) = take(left, &mut setup, step) else {
+                    return Err(ScriptError::BadLine(number));
+                };
+                left = behind;
+            }
+            Ok(None) => return Ok(setup),
+            Err(ScriptBad::Line(line)) => return Err(ScriptError::BadLine(line)),
+            Err(ScriptBad::Memory) => return Err(ScriptError::Memory),
         }
-        openings += line.openings();
-        if openings > MOST_OPENINGS {
-            return Err(ScriptError::BadLine(number));
-        }
-        ticks += line.ticks();
-        if ticks > MOST_TICKS {
-            return Err(ScriptError::BadLine(number));
-        }
-        lines.push(line)?;
-        rest = after;
     }
-    Ok(lines)
 }
 
 /// The number of the next line.
@@ -95,4 +99,119 @@ fn next_number(number: u32) -> Result<u32, OutOfMemory>
     ensures next { IfOk result (λ next. next ≡ number + 1) }
 {
     number.checked_add(1).ok_or(OutOfMemory)
+}
+
+/// Takes one more line: what it says of the setup is put there, and what is left behind it is the answer. None exactly
+/// where it may not stand there.
+fn take(left: Left, setup: &mut Setup, step: Step) -> Option<Left>
+    ensures may { IfSome result (λ _. MayFollow left.openings left.ticks step) }
+    ensures openings { IfSome result (λ behind. left.openings ≡ behind.openings + opens step) }
+    ensures ticks { IfSome result (λ behind. left.ticks ≡ behind.ticks + ticks_in step) }
+    ensures setup { IfSome result (λ _. setup.new ≡ setup_with setup.old step) }
+    ensures none { IfNone result (MayFollow left.openings left.ticks step → ⊥) }
+{
+    match left_behind(left, &step) {
+        Some(behind) => {
+            apply(setup, step);
+            Some(behind)
+        }
+        None => None,
+    }
+}
+
+/// What is left behind one more line. None exactly where it may not stand there.
+fn left_behind(left: Left, step: &Step) -> Option<Left>
+    ensures may { IfSome result (λ _. MayFollow left.openings left.ticks step.now) }
+    ensures openings { IfSome result (λ behind. left.openings ≡ behind.openings + opens step.now) }
+    ensures ticks { IfSome result (λ behind. left.ticks ≡ behind.ticks + ticks_in step.now) }
+    ensures none { IfNone result (MayFollow left.openings left.ticks step.now → ⊥) }
+{
+    if !is_built(step) {
+        return None;
+    }
+    let Some(openings) = left.openings.checked_sub(openings_in(step)) else {
+        return None;
+    };
+    let Some(ticks) = left.ticks.checked_sub(ticks_in(step)) else {
+        return None;
+    };
+    Some(Left { openings, ticks })
+}
+
+/// Puts what a line says of the setup into it.
+fn apply(setup: &mut Setup, step: Step)
+    ensures setup { setup.new ≡ setup_with setup.old step }
+{
+    match step {
+        Step::Set(setting) => setting.apply(setup),
+        Step::Line(_line) => {}
+    }
+}
+
+/// Whether a line, settings included, is played.
+fn is_built(step: &Step) -> bool
+    ensures built { result ≡ is_built step.now }
+{
+    match step {
+        Step::Set(setting) => is_setting_built(setting),
+        Step::Line(line) => is_line_built(line),
+    }
+}
+
+/// Whether a setting is played.
+fn is_setting_built(setting: &Setting) -> bool
+    ensures built { result ≡ is_setting_built setting.now }
+{
+    match setting {
+        Setting::Seed(_) => true,
+        Setting::FrameFreq(_) | Setting::SyncFreq(_) | Setting::Clients(_) | Setting::Init(_) => {
+            false
+        }
+        Setting::PassLimit(_) | Setting::Download(_) | Setting::Join(_) | Setting::Lag(_) => false,
+        Setting::Cost(_) | Setting::Pw(_) | Setting::Admin(_) => false,
+    }
+}
+
+/// Whether a line behind the settings is played.
+fn is_line_built(line: &Line1) -> bool
+    ensures built { result ≡ is_line_built line.now }
+{
+    match line {
+        Line1::Open | Line1::Bytes(_, _) | Line1::Tick(_) | Line1::Expect(_) => true,
+        Line1::Side | Line1::Shut(_) | Line1::Stop => false,
+        Line1::Join(_, _, _, _) | Line1::Up(_, _) | Line1::Down(_, _) | Line1::Run(_, _) => false,
+        Line1::Pump(_) | Line1::Do(_, _) | Line1::Forge(_, _) => false,
+    }
+}
+
+/// How many connections a line opens.
+fn openings_in(step: &Step) -> u32
+    ensures openings { result ≡ opens step.now }
+{
+    match step {
+        Step::Set(_) => 0,
+        Step::Line(line) => line.openings(),
+    }
+}
+
+/// How many ticks a line asks for.
+fn ticks_in(step: &Step) -> u32
+    ensures ticks { result ≡ ticks_in step.now }
+{
+    match step {
+        Step::Set(_) => 0,
+        Step::Line(line) => ticks_of(line),
+    }
+}
+
+/// How many ticks a line behind the settings asks for.
+fn ticks_of(line: &Line1) -> u32
+    ensures ticks { result ≡ ticks_of line.now }
+{
+    match line {
+        Line1::Tick(n) => *n,
+        Line1::Open | Line1::Side | Line1::Bytes(_, _) | Line1::Shut(_) | Line1::Stop => 0,
+        Line1::Join(_, _, _, _) | Line1::Up(_, _) | Line1::Down(_, _) | Line1::Run(_, _) => 0,
+        Line1::Pump(_) | Line1::Do(_, _) | Line1::Forge(_, _) | Line1::Expect(_) => 0,
+    }
 }

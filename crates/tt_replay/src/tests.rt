@@ -55,8 +55,13 @@ fn run(alloc: Global, script: &[u8]) -> Result<Trial, OutOfMemory> {
 #[test]
 fn a_script_is_reported(rt: HostRuntime) -> Result<(), Fail> {
     let alloc = rt.alloc();
-    let reports: [(&[u8], &[u8]); 5] = [
+    let reports: [(&[u8], &[u8]); 7] = [
         (b"", START),
+        (b"= server 1\n= \n= refused 1", START),
+        (
+            b"= a\ntick 2\n= server 1\ntick 1\n= b",
+            b"server 3 3 d75be1b8 1fffffff 0 3 0\n",
+        ),
         (b"tick 2\ntick 1\n", b"server 3 3 d75be1b8 1fffffff 0 3 0\n"),
         (b"tick 2\ntick 1", b"server 3 3 d75be1b8 1fffffff 0 3 0\n"),
         (b"tick 74\n", b"server 74 74 f9861ef5 4db3a930 1 0 0\n"),
@@ -127,6 +132,50 @@ fn bad_scripts() -> [(&'static [u8], u8); 31] {
         (b"set seeds 1\n", b'1'),
         (b"set seed 1\nopen\ntick 1\nopen", b'4'),
     ]
+}
+
+/// Scripts with a line that is not played yet, and its number, as a digit.
+fn unplayed_scripts() -> [(&'static [u8], u8); 24] {
+    [
+        (b"open\nside\n", b'2'),
+        (b"side\n", b'1'),
+        (b"open\nshut 1\n", b'2'),
+        (b"tick 1\nstop\n", b'2'),
+        (b"join 61 255 - -\n", b'1'),
+        (b"open\nup 1 1\n", b'2'),
+        (b"down 1 1", b'1'),
+        (b"= a\nrun 1 1\n", b'2'),
+        (b"pump 1\n", b'1'),
+        (b"do 1 loan 10000\n", b'1'),
+        (b"forge 1 00\n", b'1'),
+        (b"set frame_freq 1\n", b'1'),
+        (b"set sync_freq 50\n", b'1'),
+        (b"set clients 2\n", b'1'),
+        (b"set init 9\n", b'1'),
+        (b"set password 8\n", b'1'),
+        (b"set download 7\n", b'1'),
+        (b"set join 6\n", b'1'),
+        (b"set seed 1\nset lag 500\nopen\n", b'2'),
+        (b"set cost 100\n", b'1'),
+        (b"set pw 7077\n", b'1'),
+        (b"set admin -\n", b'1'),
+        (b"open\n= a\nopen\n", b'3'),
+        (b"tick 60\n= a\ntick 40\ntick 1\n", b'4'),
+    ]
+}
+
+#[test]
+fn a_line_that_is_not_played_is_told(rt: HostRuntime) -> Result<(), Fail> {
+    let alloc = rt.alloc();
+    for (input, line) in unplayed_scripts() {
+        let trial = run(alloc, input)?;
+        let mut told = b"script: line ".to_vec(alloc)?;
+        told.push(line)?;
+        told.push(b'\n')?;
+        assert_eq!(rt; trial.status, 3);
+        assert_eq!(rt; trial.written.as_slice(), told.as_slice());
+    }
+    Ok(())
 }
 
 #[test]
@@ -340,5 +389,78 @@ fn a_sink_that_fails_has_a_front_of_the_report(rt: HostRuntime) -> Result<(), Fa
     let whole = call(alloc, b"run", b"", (None, Some(35)), 1)?;
     assert_eq!(rt; whole.status, 0);
     assert_eq!(rt; whole.written.as_slice(), START);
+    Ok(())
+}
+
+/// Scripts that are checked, the status of each, and what is written.
+fn checked() -> [(&'static [u8], u8, &'static [u8]); 9] {
+    [
+        (b"= server 0 0 00000000 00000000 0 0 0", 0, b"agrees\n"),
+        (b"= server 1\n", 1, b"differs at line 1\n"),
+        (b"", 1, b"differs at line 1\n"),
+        (
+            b"tick 2\n= server 3 3 d75be1b8 1fffffff 0 3 0\ntick 1\n",
+            0,
+            b"agrees\n",
+        ),
+        (
+            b"= server 0 0 00000000 00000000 0 0 0\n= \n",
+            1,
+            b"differs at line 2\n",
+        ),
+        (
+            b"bytes 1 00\n= server 0 0 00000000 00000000 0 0 0\n",
+            1,
+            b"differs at line 2\n",
+        ),
+        (
+            b"= server 0 0 00000000 00000000 0 0 0\nbytes 1 00\n= refused 1\n",
+            0,
+            b"agrees\n",
+        ),
+        (
+            b"= server 0 0 00000000 00000000 0 0 0\nbytes 1 00\n= refused 2\n= a\n",
+            1,
+            b"differs at line 2\n",
+        ),
+        (b"= server 1\nside\n", 3, b"script: line 2\n"),
+    ]
+}
+
+#[test]
+fn a_report_is_compared(rt: HostRuntime) -> Result<(), Fail> {
+    let alloc = rt.alloc();
+    for (script, status, text) in checked() {
+        let trial = call(alloc, b"check", script, (None, None), 4096)?;
+        assert_eq!(rt; trial.status, status);
+        assert_eq!(rt; trial.written.as_slice(), text);
+    }
+    Ok(())
+}
+
+#[test]
+fn a_sink_that_fails_leaves_status_1(rt: HostRuntime) -> Result<(), Fail> {
+    let alloc = rt.alloc();
+    let told = b"differs at line 1\n";
+    for place in 0..18usize {
+        let trial = call(
+            alloc,
+            b"check",
+            b"= server 1\n",
+            (None, Some(place as u64)),
+            1,
+        )?;
+        assert_eq!(rt; trial.status, 1);
+        assert_eq!(rt; trial.written.as_slice(), &told[..place]);
+    }
+    let fault = call(
+        alloc,
+        b"check",
+        b"= server 0 0 00000000 00000000 0 0 0",
+        (None, Some(3)),
+        1,
+    )?;
+    assert_eq!(rt; fault.status, 5);
+    assert_eq!(rt; fault.written.as_slice(), b"agr".as_slice());
     Ok(())
 }

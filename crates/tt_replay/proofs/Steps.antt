@@ -1,0 +1,179 @@
+-- Scripts that are played, step by step.
+use Rattle.std.proofs.Common.{◌≡◌, ℕ, ◌+◌, ◌-◌, ◌≤◌, List, [], ◌∷◌, ◌++◌, length, take, drop, map, true, refl, sym, ap, subst, ◌∙◌, arith}
+use Rattle.std.specs.Prelude.{sum_by, fold}
+use Rattle.std.specs.List.{AllByRecursion}
+use Rattle.std.proofs.lemmas.List.{take-append-drop, take-map, length-map, length-append, append-nil}
+use Rattle.std.proofs.lemmas.List.Sums.{sum_by-append, sum_by-cons, fold-append}
+use Rattle.std.proofs.lemmas.Grind.{flat_map-append}
+use Rattle.std.proofs.Math.Seq.{take-append_seam}
+use Rattle.tt_lines.specs.Lines.{lines_of, IsFirstBad}
+use Rattle.tt_log.specs.Steps.{step_text, opens}
+use Rattle.tt_log.specs.Contents.{Contents}
+use Rattle.tt_log.specs.Script.{Spells, IsScriptText, setup_of, line_in, lines_in, contents_of}
+use Rattle.tt_log.specs.Standing.{Standing}
+use Rattle.tt_log.specs.Reader as reader
+use Rattle.tt_log.specs.declared.script.line.Line1.{Line1}
+use Rattle.tt_log.specs.declared.script.step.Step.{Step}
+use Rattle.tt_log.proofs.ScriptLaws.{steps_take, goes_on, same_steps, one_of, first_of_script}
+use Rattle.tt_world.specs.declared.setup.Setup.{Setup}
+use Rattle.tt_replay.specs.declared.play.Play.{Play}
+use Rattle.tt_replay.specs.Script.{is_built, ticks_in, IsBuilt, IsPlayed, IsPlayedWith, MayFollow}
+use Rattle.tt_replay.specs.Played.{nothing, done, played}
+use Rattle.tt_replay.specs.Playing.{IsAt, PlayedTo}
+
+-- ---- steps that are played
+
+all_front : {A : Type 0} (P : A → Type 0) (xs ys : List A) → AllByRecursion P (xs ++ ys) → AllByRecursion P xs
+all_front P [] ys all = tt
+all_front P (x ∷ xs) ys all = (all.0, all_front P xs ys all.1)
+
+all_last : {A : Type 0} (P : A → Type 0) (xs : List A) (x : A) → AllByRecursion P (xs ++ x ∷ []) → P x
+all_last P [] x all = all.0
+all_last P (y ∷ xs) x all = all_last P xs x all.1
+
+all_snoc : {A : Type 0} (P : A → Type 0) (xs : List A) (x : A) → AllByRecursion P xs → P x → AllByRecursion P (xs ++ x ∷ [])
+all_snoc P [] x all one = (one, tt)
+all_snoc P (y ∷ xs) x all one = (all.0, all_snoc P xs x all.1 one)
+
+pub sum_snoc : (f : Step → ℕ) (steps : List Step) (step : Step) → sum_by f (steps ++ step ∷ []) ≡ sum_by f steps + f step
+sum_snoc f steps step = omega (arith, sum_by-append f steps (step ∷ []), sum_by-cons f step [])
+
+-- the first of them are played
+built_front : (steps more : List Step) → IsBuilt (steps ++ more) → IsBuilt steps
+built_front steps more built = record {
+  each = all_front (λ step. is_built step ≡ true) steps more built.each;
+  openings = omega (arith, sum_by-append opens steps more, built.openings);
+  ticks = omega (arith, sum_by-append ticks_in steps more, built.ticks);
+}
+
+built_take : (n : ℕ) (steps : List Step) → IsBuilt steps → IsBuilt (take n steps)
+built_take n steps built = built_front (take n steps) (drop n steps) (subst IsBuilt (sym (take-append-drop n steps)) built)
+
+-- one step more
+pub built_snoc : (steps : List Step) (step : Step) (openings ticks : ℕ) → IsBuilt steps → 1 ≡ openings + sum_by opens steps → 100 ≡ ticks + sum_by ticks_in steps → MayFollow openings ticks step → IsBuilt (steps ++ step ∷ [])
+built_snoc steps step openings ticks built few early may = record {
+  each = all_snoc (λ s. is_built s ≡ true) steps step built.each may.built;
+  openings = omega (arith, sum_snoc opens steps step, few, may.openings_left);
+  ticks = omega (arith, sum_snoc ticks_in steps step, early, may.ticks_left);
+}
+
+pub built_last : (steps : List Step) (step : Step) (openings ticks : ℕ) → IsBuilt (steps ++ step ∷ []) → 1 ≡ openings + sum_by opens steps → 100 ≡ ticks + sum_by ticks_in steps → MayFollow openings ticks step
+built_last steps step openings ticks built few early = record {
+  built = all_last (λ s. is_built s ≡ true) steps step built.each;
+  openings_left = omega (arith, sum_snoc opens steps step, few, built.openings);
+  ticks_left = omega (arith, sum_snoc ticks_in steps step, early, built.ticks);
+}
+
+-- ---- the lines that were read
+
+front_texts : (r : Standing) (bytes : List ℕ) (steps : List Step) (n : ℕ) → reader.IsAt r bytes steps → n ≡ length steps → take n (lines_of bytes) ≡ map step_text steps
+front_texts r bytes steps n at is =
+    let long : n ≡ length (map step_text steps) = is ∙ sym (length-map steps step_text) in
+    ap (take n) at.text ∙ (rw long (take-append_seam (map step_text steps) (lines_of r.rest)))
+
+front_played : (r : Standing) (bytes : List ℕ) (steps : List Step) (n : ℕ) → reader.IsAt r bytes steps → IsBuilt steps → n ≡ length steps → IsPlayed (take n (lines_of bytes))
+front_played r bytes steps n at built is =
+    (contents_of steps, record { spelled = record { steps = steps; is = at.is; text = front_texts r bytes steps n at is; makes = refl }; built = built })
+
+front_within : (r : Standing) (bytes : List ℕ) (steps : List Step) → reader.IsAt r bytes steps → length steps ≤ length (lines_of bytes)
+front_within r bytes steps at = omega (arith, ap length at.text, length-append (map step_text steps) (lines_of r.rest), length-map steps step_text)
+
+-- where nothing is left, these steps are spelled
+abbrev all_read : (r : Standing) (bytes : List ℕ) (steps : List Step) → reader.IsAt r bytes steps → r.rest ≡ [] → Spells (contents_of steps) (lines_of bytes)
+all_read r bytes steps at none = record {
+  steps = steps;
+  is = at.is;
+  text = at.text ∙ ap (λ (t : List ℕ). map step_text steps ++ lines_of t) none ∙ append-nil (map step_text steps);
+  makes = refl;
+}
+
+-- and all of it is played
+pub all_played : (r : Standing) (bytes : List ℕ) (steps : List Step) (setup : Setup) → reader.IsAt r bytes steps → r.rest ≡ [] → IsBuilt steps → setup ≡ setup_of steps → IsPlayedWith setup (lines_of bytes)
+all_played r bytes steps setup at none built made = record {
+  script = contents_of steps;
+  plays = record { spelled = all_read r bytes steps at none; built = built };
+  made = made;
+}
+
+-- ---- the first bad line
+
+-- a line that is none of a script in its place
+pub first_unread : (r : Standing) (bytes : List ℕ) (steps : List Step) (line : ℕ) → reader.IsAt r bytes steps → IsBuilt steps → IsFirstBad IsScriptText (lines_of bytes) line → line ≡ r.count + 1 → IsFirstBad IsPlayed (lines_of bytes) line
+first_unread r bytes steps line at built first here = record {
+  some = first.some;
+  within = first.within;
+  before = front_played r bytes steps (line - 1) at built (omega (arith, here, at.count));
+  bad = λ is. first.bad (is.0, is.1.spelled);
+}
+
+-- a line that is not played in its place
+pub first_unplayed : (r s : Standing) (bytes : List ℕ) (steps : List Step) (step : Step) (openings ticks line : ℕ) → reader.IsAt r bytes steps → reader.IsAt s bytes (steps ++ step ∷ []) → IsBuilt steps
+    → 1 ≡ openings + sum_by opens steps → 100 ≡ ticks + sum_by ticks_in steps → (MayFollow openings ticks step → ⊥) → line ≡ length steps + 1 → IsFirstBad IsPlayed (lines_of bytes) line
+first_unplayed r s bytes steps step openings ticks line at next built few early never here =
+    let long : line ≡ length (steps ++ step ∷ []) = omega (arith, here, length-append steps (step ∷ [])) in
+    let texts = front_texts s bytes (steps ++ step ∷ []) line next long in
+    record {
+      some = omega (arith, here);
+      within = omega (arith, long, front_within s bytes (steps ++ step ∷ []) next);
+      before = front_played r bytes steps (line - 1) at built (omega (arith, here));
+      bad = λ is.
+          let spelled = is.1.spelled in
+          let same : spelled.steps ≡ steps ++ step ∷ [] = same_steps spelled.steps (steps ++ step ∷ []) spelled.is.each next.is.each (sym spelled.text ∙ texts) in
+          never (built_last steps step openings ticks (subst IsBuilt same is.1.built) few early);
+    }
+
+-- the first lines of a script that is played are one
+played_take : (texts : List (List ℕ)) (n : ℕ) → IsPlayed texts → IsPlayed (take n texts)
+played_take texts n is =
+    let spelled = is.1.spelled in (
+      contents_of (take n spelled.steps),
+      record {
+        spelled = record { steps = take n spelled.steps; is = steps_take n spelled.steps spelled.is; text = ap (take n) spelled.text ∙ take-map step_text n spelled.steps; makes = refl };
+        built = built_take n spelled.steps is.1.built;
+      },
+    )
+
+-- so it has no first bad line
+pub none_bad : (texts : List (List ℕ)) (line : ℕ) → IsPlayed texts → IsFirstBad IsPlayed texts line → ⊥
+none_bad texts line is first = first.bad (played_take texts line is)
+
+-- ---- read a second time
+
+-- no line of it is refused
+pub none_unread : (setup : Setup) (texts : List (List ℕ)) (line : ℕ) → IsPlayedWith setup texts → IsFirstBad IsScriptText texts line → ⊥
+none_unread setup texts line is first = first.bad (first_of_script is.script texts line is.plays.spelled)
+
+-- what was read of it is played
+pub read_built : (setup : Setup) (r : Standing) (bytes : List ℕ) (steps : List Step) → IsPlayedWith setup (lines_of bytes) → reader.IsAt r bytes steps → IsBuilt steps
+read_built setup r bytes steps is at =
+    let all = is.plays.spelled in
+    let on = goes_on steps all.steps (lines_of r.rest) at.is.each all.is.each (sym at.text ∙ all.text) in
+    built_front steps on.0 (subst IsBuilt on.1 is.plays.built)
+
+-- and so the last line that was read may stand there
+pub read_last : (setup : Setup) (r : Standing) (bytes : List ℕ) (steps : List Step) (step : Step) → IsPlayedWith setup (lines_of bytes) → reader.IsAt r bytes (steps ++ step ∷ [])
+    → (is_built step ≡ true) × (sum_by opens steps + opens step ≤ 1) × (sum_by ticks_in steps + ticks_in step ≤ 100)
+read_last setup r bytes steps step is at =
+    let built = read_built setup r bytes (steps ++ step ∷ []) is at in (
+      all_last (λ s. is_built s ≡ true) steps step built.each,
+      omega (arith, sum_snoc opens steps step, built.openings),
+      omega (arith, sum_snoc ticks_in steps step, built.ticks),
+    )
+
+-- one line more was done
+pub played_snoc : (setup : Setup) (steps : List Step) (step : Step) → played setup (lines_in (steps ++ step ∷ [])) ≡ fold (done setup) (played setup (lines_in steps)) (line_in step)
+played_snoc setup steps step =
+    let lines : lines_in (steps ++ step ∷ []) ≡ lines_in steps ++ line_in step = flat_map-append line_in steps (step ∷ []) ∙ ap (λ (t : List Line1). lines_in steps ++ t) (append-nil (line_in step)) in
+    ap (played setup) lines ∙ fold-append (done setup) nothing (lines_in steps) (line_in step)
+
+-- all of it was done
+pub played_to : (setup : Setup) (r : Standing) (bytes : List ℕ) (steps : List Step) (play : Play) → IsPlayedWith setup (lines_of bytes) → reader.IsAt r bytes steps → r.rest ≡ [] → IsAt setup play (played setup (lines_in steps)) → PlayedTo (lines_of bytes) play
+played_to setup r bytes steps play is at none done_so =
+    let spelled = all_read r bytes steps at none in
+    let same = one_of is.script (contents_of steps) (lines_of bytes) is.plays.spelled spelled in
+    let made : setup ≡ setup_of steps = is.made ∙ ap (λ (c : Contents). c.setup) same in
+    record {
+      script = contents_of steps;
+      plays = record { spelled = spelled; built = read_built setup r bytes steps is at };
+      at = subst (λ (s : Setup). IsAt s play (played s (lines_in steps))) made done_so;
+    }
