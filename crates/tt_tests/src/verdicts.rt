@@ -38,14 +38,6 @@ fn one_lives() -> Live {
     live
 }
 
-/// Thirty-two digits.
-fn digest() -> Digest {
-    match Digest::new(b"0123456789abcdef0123456789abcdef") {
-        Some(digest) => digest,
-        None => unreachable!(),
-    }
-}
-
 /// The text `Bob`.
 fn name<const N: usize>() -> Text<N>
     requires { 3 ≤ N }
@@ -65,7 +57,7 @@ fn zero<const M: u8>() -> UpTo<M> {
 }
 
 /// Packets on the way into a game, and the places of the statuses that permit each.
-fn joining() -> [(GameMsg, &'static [usize]); 8] {
+fn joining(digest: Digest) -> [(GameMsg, &'static [usize]); 8] {
     let join = GameMsg::ClientJoin {
         revision: name(),
         grf: 13,
@@ -76,8 +68,8 @@ fn joining() -> [(GameMsg, &'static [usize]); 8] {
         (join, &[0]),
         (GameMsg::ClientGameInfo, &[0]),
         (GameMsg::ClientNewgrfsChecked, &[1]),
-        (GameMsg::ClientGamePassword { digest: digest() }, &[2]),
-        (GameMsg::ClientCompanyPassword { digest: digest() }, &[3]),
+        (GameMsg::ClientGamePassword { digest }, &[2]),
+        (GameMsg::ClientCompanyPassword { digest }, &[3]),
         (GameMsg::ClientGetmap, &[4]),
         (GameMsg::ClientMapOk, &[7]),
         (GameMsg::ClientAck { frame: 15 }, &[8, 9]),
@@ -148,7 +140,8 @@ fn is_permitted_at(msg: &GameMsg, places: &[usize]) -> bool {
 
 #[test]
 fn each_status_permits_its_packets(rt: HostRuntime) -> Result<(), Fail> {
-    for (msg, places) in joining() {
+    let digest = Digest::new(b"0123456789abcdef0123456789abcdef").ok_or("a digest")?;
+    for (msg, places) in joining(digest) {
         assert!(rt; is_permitted_at(&msg, places));
     }
     for (msg, places) in playing() {
