@@ -1,3 +1,2 @@
 pub mod MessageLaws
 pub mod MarkLaws
-pub mod SealLaws

@@ -62,7 +62,7 @@ fails fs front n i s at total lt h so_far =
 
 pub fails_as : (X Z : Type 0) (fs : List Field) (view : X → List (Item fs)) (one : Z → Option (Item fs)) (e : Bad) (front : List (Item fs)) (n i : ℕ) (s t u : Unread) (total : Result (List (Item fs) × Unread) ℕ) → i < n → FieldRead one (Err e) t (marked_item_at fs s)
     → with_front fs front (marked_at fs (n - i) s) ≡ total → FieldRead view (Err e) u total
-fails_as X Z fs view one Memory front n i s t u total lt h so_far = tt
+fails_as X Z fs view one Memory front n i s t u total lt h so_far = h
 fails_as X Z fs view one (Malformed at) front n i s t u total lt h so_far = fails fs front n i s at total lt h so_far
 
 -- behind the last mark that may come there is none
@@ -92,7 +92,7 @@ overruns fs front n i s at total le h so_far =
 
 pub overruns_as : (X Z : Type 0) (fs : List Field) (view : X → List (Item fs)) (one : Z → ℕ) (e : Bad) (front : List (Item fs)) (n i : ℕ) (s t u : Unread) (total : Result (List (Item fs) × Unread) ℕ) → n ≤ i → FieldRead one (Err e) t (within_at w8 0 s)
     → with_front fs front (marked_at fs (n - i) s) ≡ total → FieldRead view (Err e) u total
-overruns_as X Z fs view one Memory front n i s t u total le h so_far = tt
+overruns_as X Z fs view one Memory front n i s t u total le h so_far = h
 overruns_as X Z fs view one (Malformed at) front n i s t u total le h so_far = overruns fs front n i s at total le h so_far
 
 -- items, each behind its mark, without the last mark

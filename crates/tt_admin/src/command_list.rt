@@ -5,17 +5,18 @@ ghost use Rattle.std.specs.Cmp.Rules.{comparing};
 ghost use Rattle.std.specs.Cmp.Lexicographic.{pointwise};
 ghost use Rattle.tt_frame.specs.Packet.{packet};
 ghost use Rattle.tt_frame.specs.Text.{is_text};
-ghost use Rattle.tt_frame.specs.Reading.{FieldRead};
+ghost use Rattle.tt_frame.specs.Reading.{FieldRead, FieldReadOrMemory};
 ghost use Rattle.tt_frame.specs.ItemForms.{ItemsFit, item_at, item_spelled, marked_at, marked_spelled};
 ghost use Rattle.tt_frame.specs.Rows.{marked, end};
 ghost use Rattle.tt_frame.specs.Apart.{body_of};
 ghost use Rattle.tt_admin.specs.Items.{command_name, same_command};
 ghost use Rattle.tt_admin.specs.Marks.{marked_item_at};
 
-use crate::sealing::{put_head, seal};
 use std::alloc::Global;
 use std::marker::Model;
-use tt_frame::{Bad, Fields, OutOfMemory, Put, Text, UpTo, number16, text, up_to};
+use tt_frame::{
+    Bad, Fields, OutOfMemory, Put, Text, UpTo, finish, number16, put_head, text, up_to,
+};
 
 /// A command of a game: its code, and its name.
 ///
@@ -153,7 +154,7 @@ fn marked_name(f: &mut Fields) -> Result<Option<CommandName>, Bad>
 
 /// The commands behind their marks.
 pub(crate) fn command_names(alloc: Global, f: &mut Fields) -> Result<CommandNames, Bad>
-    ensures { FieldRead (λ names. names) result f.new (marked_at command_name 255 f.old) }
+    ensures { FieldReadOrMemory (λ names. names) result f.new (marked_at command_name 255 f.old) }
 {
     let mut names = CommandNames::new(alloc);
     for _ in 0..255u8 {
@@ -214,14 +215,6 @@ pub(crate) fn put_command_names(out: &mut Vec<u8>, names: &CommandNames) -> Resu
     ensures err { OnErr result (out.new.items ≡ out.old.items) }
 {
     let start = out.len();
-    match put_all(out, names.as_slice()) {
-        Ok(()) => {
-            seal(out, start);
-            Ok(())
-        }
-        Err(e) => {
-            out.truncate(start);
-            Err(e)
-        }
-    }
+    let written = put_all(out, names.as_slice());
+    finish(out, start, written)
 }

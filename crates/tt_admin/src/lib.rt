@@ -8,7 +8,6 @@ mod command_list;
 mod laws;
 mod message;
 mod reading;
-mod sealing;
 mod update_list;
 mod writing;
 

@@ -2,7 +2,7 @@
 ghost use Rattle.std.specs.Prelude.{◌≡◌, ℕ, ◌⊎◌, IfOk, Ok, Err};
 ghost use Rattle.tt_frame.specs.declared.bad.Bad.TheVariants.{Malformed, Memory};
 ghost use Rattle.tt_frame.specs.Unread.{whole};
-ghost use Rattle.tt_frame.specs.Tables.{MessageRead, StopsBy, read_by};
+ghost use Rattle.tt_frame.specs.Tables.{MessageReadOrMemory, StopsBy, read_by};
 ghost use Rattle.tt_admin.specs.Messages.{messages, Spells};
 ghost use Rattle.tt_admin.specs.declared.message.AdminMsg.{AdminMsg};
 
@@ -19,7 +19,7 @@ use tt_frame::{Bad, Fields, ended};
 /// The message of that number.
 fn by_kind(alloc: Global, kind: u8, f: &mut Fields) -> Result<AdminMsg, Bad>
     requires { f.old.at ≡ 0 }
-    ensures { MessageRead result (read_by messages kind f.old) }
+    ensures { MessageReadOrMemory result (read_by messages kind f.old) }
 {
     match kind {
         0 => asking::admin_join(f),
@@ -64,7 +64,7 @@ fn by_kind(alloc: Global, kind: u8, f: &mut Fields) -> Result<AdminMsg, Bad>
 }
 
 fn read(alloc: Global, kind: u8, body: &[u8]) -> Result<AdminMsg, Bad>
-    ensures { MessageRead result (read_by messages kind (whole body.now)) }
+    ensures { MessageReadOrMemory result (read_by messages kind (whole body.now)) }
 {
     by_kind(alloc, kind, &mut Fields::new(body))
 }
@@ -84,7 +84,7 @@ impl AdminMsg {
         ensures place { (at : ℕ) → result ≡ Err (Malformed at) → StopsBy messages kind body.now at }
 
         // All of this in one: the answer is what reading the body by the table gives.
-        ensures exact { MessageRead result (read_by messages kind (whole body.now)) }
+        ensures exact { MessageReadOrMemory result (read_by messages kind (whole body.now)) }
     {
         read(alloc, kind, body)
     }

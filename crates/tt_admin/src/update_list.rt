@@ -9,10 +9,9 @@ ghost use Rattle.tt_frame.specs.Apart.{body_of};
 ghost use Rattle.tt_admin.specs.Items.{update_type};
 ghost use Rattle.tt_admin.specs.Marks.{marked_item_at};
 
-use crate::sealing::{put_head, seal};
 use arrayvec::ArrayVec;
 use std::marker::Model;
-use tt_frame::{Bad, Fields, OutOfMemory, Put, UpTo, number16, up_to};
+use tt_frame::{Bad, Fields, OutOfMemory, Put, UpTo, finish, number16, put_head, up_to};
 
 /// A type that an admin may ask for, and the bits of how: 1 polled, 2 each day, 4 week, 8 month, 16 quarter, 32 year, 64
 /// at once.
@@ -189,14 +188,6 @@ pub(crate) fn put_update_types(
     ensures err { OnErr result (out.new.items ≡ out.old.items) }
 {
     let start = out.len();
-    match put_all(out, version, types.as_slice()) {
-        Ok(()) => {
-            seal(out, start);
-            Ok(())
-        }
-        Err(e) => {
-            out.truncate(start);
-            Err(e)
-        }
-    }
+    let written = put_all(out, version, types.as_slice());
+    finish(out, start, written)
 }

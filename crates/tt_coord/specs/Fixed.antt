@@ -7,5 +7,5 @@ use Rattle.tt_frame.specs.declared.bad.Bad.TheVariants.{Memory, Malformed}
 -- the byte stood there and what is left is behind it, or the place where it isn't there
 abbrev pub FixedRead : Result (Unit {0}) Bad → Unread → Result Unread ℕ → Type 0
 FixedRead (Ok _) new reading = reading ≡ Ok new
-FixedRead (Err Memory) new reading = Unit {0}
+FixedRead (Err Memory) new reading = ⊥
 FixedRead (Err (Malformed at)) new reading = reading ≡ Err at

@@ -4,17 +4,16 @@ ghost use Rattle.std.specs.Cmp.{partial_equiv_from_equiv};
 ghost use Rattle.std.specs.Cmp.Lexicographic.{pointwise, lists_equiv};
 ghost use Rattle.tt_frame.specs.Text.{is_text};
 ghost use Rattle.tt_frame.specs.Packet.{packet};
-ghost use Rattle.tt_frame.specs.Reading.{FieldRead};
+ghost use Rattle.tt_frame.specs.Reading.{FieldRead, FieldReadOrMemory};
 ghost use Rattle.tt_frame.specs.FieldForms.{byte};
 ghost use Rattle.tt_frame.specs.ItemForms.{ItemsFit, item_at, item_spelled, items_at, items_spelled};
 ghost use Rattle.tt_frame.specs.Rows.{counted, end};
 ghost use Rattle.tt_frame.specs.Apart.{body_of};
 ghost use Rattle.tt_coord.specs.Items.{file, same_file, file_equiv};
 
-use crate::sealing::{put_head, seal};
 use std::alloc::Global;
 use std::marker::Model;
-use tt_frame::{Bad, Fields, OutOfMemory, Put, Text, number32, raw, text};
+use tt_frame::{Bad, Fields, OutOfMemory, Put, Text, finish, number32, put_head, raw, text};
 
 /// A file that is looked up: its index, its number, the sum over its content, and its name.
 ///
@@ -166,7 +165,7 @@ fn one_file(f: &mut Fields) -> Result<LookupFile, Bad>
 /// The next `count` files.
 pub(crate) fn lookup_files(alloc: Global, count: u8, f: &mut Fields) -> Result<LookupFiles, Bad>
     requires { count ≤ 62 }
-    ensures { FieldRead (λ list. list) result f.new (items_at file count f.old) }
+    ensures { FieldReadOrMemory (λ list. list) result f.new (items_at file count f.old) }
 {
     let mut list = LookupFiles::new(alloc);
     for _ in 0..count {
@@ -224,14 +223,6 @@ pub(crate) fn put_lookup_files(out: &mut Vec<u8>, list: &LookupFiles) -> Result<
     ensures err { OnErr result (out.new.items ≡ out.old.items) }
 {
     let start = out.len();
-    match put_all(out, list.as_slice()) {
-        Ok(()) => {
-            seal(out, start);
-            Ok(())
-        }
-        Err(e) => {
-            out.truncate(start);
-            Err(e)
-        }
-    }
+    let written = put_all(out, list.as_slice());
+    finish(out, start, written)
 }

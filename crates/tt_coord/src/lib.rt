@@ -11,7 +11,6 @@ mod file_list;
 mod info;
 mod laws;
 mod parts;
-mod sealing;
 mod server_list;
 mod stun;
 mod turn;

@@ -4,7 +4,7 @@ ghost use Rattle.std.specs.Cmp.{partial_equiv_from_equiv};
 ghost use Rattle.std.specs.Cmp.Lexicographic.{pointwise, lists_equiv};
 ghost use Rattle.tt_frame.specs.Text.{is_text};
 ghost use Rattle.tt_frame.specs.Packet.{packet};
-ghost use Rattle.tt_frame.specs.Reading.{FieldRead};
+ghost use Rattle.tt_frame.specs.Reading.{FieldRead, FieldReadOrMemory};
 ghost use Rattle.tt_frame.specs.FieldForms.{word};
 ghost use Rattle.tt_frame.specs.ItemForms.{ItemsFit, item_at, item_spelled, items_at, items_spelled};
 ghost use Rattle.tt_frame.specs.Rows.{counted, end};
@@ -12,10 +12,11 @@ ghost use Rattle.tt_frame.specs.Apart.{body_of};
 ghost use Rattle.tt_coord.specs.Items.{listed, same_server, server_equiv};
 
 use crate::info::Info;
-use crate::sealing::{put_head, seal};
 use std::alloc::Global;
 use std::marker::Model;
-use tt_frame::{Bad, Fields, OutOfMemory, Put, Text, number8, number32, text, truth};
+use tt_frame::{
+    Bad, Fields, OutOfMemory, Put, Text, finish, number8, number32, put_head, text, truth,
+};
 
 /// A server that is listed: its code, and what it says of its game.
 ///
@@ -156,7 +157,7 @@ fn one_server(f: &mut Fields) -> Result<Listed, Bad>
 /// The next `count` servers.
 pub(crate) fn listed_servers(alloc: Global, count: u16, f: &mut Fields) -> Result<Servers, Bad>
     requires { count ≤ 255 }
-    ensures { FieldRead (λ list. list) result f.new (items_at listed count f.old) }
+    ensures { FieldReadOrMemory (λ list. list) result f.new (items_at listed count f.old) }
 {
     let mut list = Servers::new(alloc);
     for _ in 0..count {
@@ -220,14 +221,6 @@ pub(crate) fn put_listed_servers(out: &mut Vec<u8>, list: &Servers) -> Result<()
     ensures err { OnErr result (out.new.items ≡ out.old.items) }
 {
     let start = out.len();
-    match put_all(out, list.as_slice()) {
-        Ok(()) => {
-            seal(out, start);
-            Ok(())
-        }
-        Err(e) => {
-            out.truncate(start);
-            Err(e)
-        }
-    }
+    let written = put_all(out, list.as_slice());
+    finish(out, start, written)
 }

@@ -1,5 +1,5 @@
 //! The messages between the TURN server and the peers that it connects.
-ghost use Rattle.std.specs.Prelude.{◌≡◌, ℕ, ◌≤◌, ◌+◌, ◌++◌, ◌⊎◌, length, IfOk, OnOk, OnErr, Ok, Err};
+ghost use Rattle.std.specs.Prelude.{◌≡◌, ◌≢◌, ℕ, ◌≤◌, ◌+◌, ◌++◌, length, IfOk, OnOk, OnErr, Ok, Err};
 ghost use Rattle.tt_frame.specs.declared.bad.Bad.TheVariants.{Malformed, Memory};
 ghost use Rattle.tt_frame.specs.Packet.{packet};
 ghost use Rattle.tt_frame.specs.Unread.{whole};
@@ -78,8 +78,9 @@ impl TurnMsg {
     pub fn decode(_alloc: Global, kind: u8, body: &[u8]) -> Result<TurnMsg, Bad>
         // What is read is spelled so.
         ensures found { IfOk result (λ m. TurnSpells m kind body.now) }
-        // What is spelled so is read, unless memory runs out.
-        ensures only { (m : TurnMsg) → TurnSpells m kind body.now → (result ≡ Ok m) ⊎ (result ≡ Err Memory) }
+        // What is spelled so is read, and memory never runs out, since none is taken.
+        ensures only { (m : TurnMsg) → TurnSpells m kind body.now → result ≡ Ok m }
+        ensures never { result ≢ Err Memory }
 
         // It is malformed only where nothing is spelled, and the place is that of the first field that isn't there, or of
         // the first byte behind the last field, or 0 where no message has the number.

@@ -2,7 +2,7 @@
 use Rattle.std.proofs.Common.{◌≡◌, ℕ, suc, ◌+◌, ◌-◌, ◌<◌, ◌≤◌, List, [], ◌∷◌, ◌++◌, length, get_or, take, Result, Ok, Err, refl, sym, ap, ◌∙◌, append_assoc, arith}
 use Rattle.std.proofs.lemmas.List.{append-nil, take_more}
 use Rattle.tt_frame.specs.Unread.{Unread}
-use Rattle.tt_frame.specs.Reading.{◌>>=◌, FieldRead}
+use Rattle.tt_frame.specs.Reading.{◌>>=◌, FieldRead, FieldReadOrMemory}
 use Rattle.tt_frame.specs.declared.bad.Bad.{Bad}
 use Rattle.tt_frame.specs.declared.bad.Bad.TheVariants.{Memory, Malformed}
 use Rattle.tt_frame.specs.FieldForms.{Field}
@@ -40,9 +40,14 @@ is_done fs front n i s total le so_far =
     let one : with_front fs front (items_at fs (n - i) s) ≡ Ok (front, s) = rw k (ap (λ (xs : List (Item fs)). Ok (xs, s)) (append-nil front)) in
     sym so_far ∙ one
 
+-- where memory may run out, an error of a call that takes none is right too
+pub error_or_memory : (X Y : Type 0) (view : X → Y) (e : Bad) (new : Unread) (reading : Result (Y × Unread) ℕ) → FieldRead view (Err e) new reading → FieldReadOrMemory view (Err e) new reading
+error_or_memory X Y view Memory new reading read = tt
+error_or_memory X Y view (Malformed at) new reading read = read
+
 pub fails_as : (X Z : Type 0) (fs : List Field) (view : X → List (Item fs)) (one : Z → Item fs) (e : Bad) (front : List (Item fs)) (n i : ℕ) (s t u : Unread) (total : Result (List (Item fs) × Unread) ℕ) → i < n → FieldRead one (Err e) t (item_at fs s)
     → with_front fs front (items_at fs (n - i) s) ≡ total → FieldRead view (Err e) u total
-fails_as X Z fs view one Memory front n i s t u total lt h so_far = tt
+fails_as X Z fs view one Memory front n i s t u total lt h so_far = h
 fails_as X Z fs view one (Malformed at) front n i s t u total lt h so_far = fails fs front n i s at total lt h so_far
 
 items_spelled-append : (fs : List Field) (xs ys : List (Item fs)) → items_spelled fs (xs ++ ys) ≡ items_spelled fs xs ++ items_spelled fs ys

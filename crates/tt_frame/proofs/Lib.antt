@@ -1,6 +1,7 @@
 pub mod TextLaws
 pub mod PacketLaws
 pub mod StreamLaws
+pub mod FirstLaws
 pub mod RunLaws
 pub mod FrontLaws
 pub mod ZeroSearch
@@ -11,4 +12,5 @@ pub mod TableLaws
 pub mod ApartLaws
 pub mod SizeLaws
 pub mod PartLaws
+pub mod SealLaws
 pub mod ItemLoops

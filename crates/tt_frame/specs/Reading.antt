@@ -75,8 +75,14 @@ abbrev pub FieldTaken : {X Y : Type 0} → (X → Y) → Option X → Unread →
 FieldTaken view None old new reading = (reading ≡ Err old.at) × (new ≡ old)
 FieldTaken view (Some x) old new reading = reading ≡ Ok (view x, new)
 
--- What a function of a decoder answered is what reading gives, unless memory ran out.
+-- What a function of a decoder answered is what reading gives.
 abbrev pub FieldRead : {X Y : Type 0} → (X → Y) → Result X Bad → Unread → Result (Y × Unread) ℕ → Type 0
 FieldRead view (Ok x) new reading = reading ≡ Ok (view x, new)
-FieldRead view (Err Memory) new reading = Unit {0}
+FieldRead view (Err Memory) new reading = ⊥
 FieldRead view (Err (Malformed at)) new reading = reading ≡ Err at
+
+-- the same of a function that takes memory: what reading gives, unless memory ran out
+abbrev pub FieldReadOrMemory : {X Y : Type 0} → (X → Y) → Result X Bad → Unread → Result (Y × Unread) ℕ → Type 0
+FieldReadOrMemory view (Ok x) new reading = reading ≡ Ok (view x, new)
+FieldReadOrMemory view (Err Memory) new reading = Unit {0}
+FieldReadOrMemory view (Err (Malformed at)) new reading = reading ≡ Err at

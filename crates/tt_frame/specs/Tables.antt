@@ -37,8 +37,14 @@ StopsBy table kind body at = RowStops (rule_of table kind).fields (whole body) a
 abbrev pub read_by : {M : Type 0} → List (Rule M) → ℕ → Unread → Result M ℕ
 read_by table kind s = let l = rule_of table kind in row_at l.fields l.make s
 
--- What a function of a decoder answered is what reading gives, unless memory ran out.
+-- What a function of a decoder answered is what reading gives.
 abbrev pub MessageRead : {M : Type 0} → Result M Bad → Result M ℕ → Type 0
 MessageRead (Ok m) reading = reading ≡ Ok m
-MessageRead (Err Memory) reading = Unit {0}
+MessageRead (Err Memory) reading = ⊥
 MessageRead (Err (Malformed at)) reading = reading ≡ Err at
+
+-- the same of a function that takes memory: what reading gives, unless memory ran out
+abbrev pub MessageReadOrMemory : {M : Type 0} → Result M Bad → Result M ℕ → Type 0
+MessageReadOrMemory (Ok m) reading = reading ≡ Ok m
+MessageReadOrMemory (Err Memory) reading = Unit {0}
+MessageReadOrMemory (Err (Malformed at)) reading = reading ≡ Err at

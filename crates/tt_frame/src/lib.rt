@@ -3,9 +3,9 @@
 //! - `Text`, `Name`, `Digest` and `UpTo` are values within their limits: each is made by one tested constructor.
 //! - `Fields` reads a body field by field and `Put` writes fields; `one_field` is the law of reading.
 //! - `Framer` gives the packets of a stream that comes in pieces; `one_reading` and `every_run` are its laws.
-//! - The message crates stand on `text`, `number32`, `ended` and the like for decoding and on `append` for encoding. What a
-//!   table of messages means is in specs/: FieldForms, ItemForms, Rows, Stops, Tables, Apart.
-//! - `OutOfMemory` and `Bad` are the errors. Only `Framer::new`, `Put` and `append` take memory, and nothing waits.
+//! - The message crates stand on `text`, `number32`, `ended` and the like for decoding and on `append` for encoding, or on
+//!   `put_head` and `finish` where a body is written item by item. What a table of messages means is in specs/: FieldForms, ItemForms, Rows, Stops, Tables, Apart.
+//! - `OutOfMemory` and `Bad` are the errors. Only `Framer::new` and what writes take memory, and nothing waits.
 #![tactic(auto)]
 
 mod bad;
@@ -18,6 +18,7 @@ mod laws;
 mod memory;
 mod put;
 mod ranges;
+mod sealing;
 mod texts;
 mod writing;
 
@@ -32,6 +33,7 @@ pub use laws::{every_run, one_field, one_reading, text_test};
 pub use memory::OutOfMemory;
 pub use put::Put;
 pub use ranges::UpTo;
+pub use sealing::{finish, put_head};
 pub use texts::{Line, Name, Short, Text};
 pub use writing::{Part, append};
 

@@ -2,9 +2,9 @@
 ghost use Rattle.std.specs.Prelude.{◌≡◌, [], codes};
 
 use crate::{
-    Bad, Digest, Fields, Framer, Line, Name, Next, Part, Put, Short, UpTo, append, digest,
-    digits_or_none, ended, number8, number16, number32, number64, optional_digest, raw, text,
-    truth, up_to,
+    Bad, Digest, Fields, Framer, Line, Name, Next, OutOfMemory, Part, Put, Short, UpTo, append,
+    digest, digits_or_none, ended, finish, number8, number16, number32, number64, optional_digest,
+    put_head, raw, text, truth, up_to,
 };
 use std::test::Fail;
 
@@ -295,5 +295,24 @@ fn a_packet_is_appended_whole(rt: HostRuntime) -> Result<(), Fail> {
         out.as_slice(),
         [9, 12, 0, 3, 1, 2, 0, 3, 0, 0, 0, 65, 0].as_slice()
     );
+    Ok(())
+}
+
+#[test]
+fn a_packet_written_in_steps_gets_its_size(rt: HostRuntime) -> Result<(), Fail> {
+    let mut out = vec![in rt.alloc(); 9]?;
+    put_head(&mut out, 3)?;
+    let written = Put::u16(&mut out, 513);
+    finish(&mut out, 1, written)?;
+    assert_eq!(rt; out.as_slice(), [9, 5, 0, 3, 1, 2].as_slice());
+    Ok(())
+}
+
+#[test]
+fn a_packet_refused_on_the_way_is_taken_away(rt: HostRuntime) -> Result<(), Fail> {
+    let mut out = vec![in rt.alloc(); 9]?;
+    put_head(&mut out, 3)?;
+    assert_eq!(rt; finish(&mut out, 1, Err(OutOfMemory)), Err(OutOfMemory));
+    assert_eq!(rt; out.as_slice(), [9].as_slice());
     Ok(())
 }

@@ -1,10 +1,11 @@
 //! What an encoder of messages calls: `append(out, number, &parts)` writes one whole packet, or nothing.
-ghost use Rattle.std.specs.Prelude.{◌≡◌, ◌++◌, ◌∷◌, ◌≤◌, ◌+◌, length, take, OnOk, OnErr, vec_len};
+ghost use Rattle.std.specs.Prelude.{◌≡◌, ◌++◌, ◌∷◌, ◌≤◌, length, take, OnOk, OnErr, vec_len};
 ghost use Rattle.tt_frame.specs.Packet.{packet};
-ghost use Rattle.tt_frame.specs.Parts.{part_spelled, parts_spelled, PartFits, PartsFit, sealed};
+ghost use Rattle.tt_frame.specs.Parts.{part_spelled, parts_spelled, PartFits, PartsFit};
 
 use crate::memory::OutOfMemory;
 use crate::put::Put;
+use crate::sealing::{finish, put_head};
 
 /// A part of a body: a field's value.
 #[derive(Clone, Copy)]
@@ -49,26 +50,13 @@ fn put_parts(out: &mut Vec<u8>, parts: &[Part]) -> Result<(), OutOfMemory>
     Ok(())
 }
 
-/// Writes the size of the packet that begins at `start` over its first two bytes.
-#[tactic(auto, unfolding(crate::specs::Parts::sealed))]
-fn seal(out: &mut Vec<u8>, start: usize)
-    requires header { start + 3 ≤ vec_len out.old }
-    requires size { vec_len out.old ≤ start + 32767 }
-    ensures { out.new.items ≡ sealed start out.old.items }
-{
-    let size = (out.len() - start) as u16;
-    let bytes = size.to_le_bytes();
-    out[start] = bytes[0];
-    out[start + 1] = bytes[1];
-}
-
 /// Two bytes for the size, the number, and the parts.
 fn put_all(out: &mut Vec<u8>, kind: u8, parts: &[Part]) -> Result<(), OutOfMemory>
     requires { PartsFit parts.now }
     ensures ok { OnOk result (out.new.items ≡ out.old.items ++ 0 ∷ 0 ∷ kind ∷ parts_spelled parts.now) }
     ensures err { OnErr result (take (vec_len out.old) out.new.items ≡ out.old.items) }
 {
-    out.extend_from_slice(&[0, 0, kind])?;
+    put_head(out, kind)?;
     put_parts(out, parts)
 }
 
@@ -81,14 +69,6 @@ pub fn append(out: &mut Vec<u8>, kind: u8, parts: &[Part]) -> Result<(), OutOfMe
     ensures err { OnErr result (out.new.items ≡ out.old.items) }
 {
     let start = out.len();
-    match put_all(out, kind, parts) {
-        Ok(()) => {
-            seal(out, start);
-            Ok(())
-        }
-        Err(e) => {
-            out.truncate(start);
-            Err(e)
-        }
-    }
+    let written = put_all(out, kind, parts);
+    finish(out, start, written)
 }

@@ -1,5 +1,5 @@
 //! From a packet's number and body to the message. The functions of the fields of each message stand in three groups.
-ghost use Rattle.std.specs.Prelude.{◌≡◌, ℕ, ◌⊎◌, IfOk, Ok, Err};
+ghost use Rattle.std.specs.Prelude.{◌≡◌, ◌≢◌, ℕ, IfOk, Ok, Err};
 ghost use Rattle.tt_frame.specs.declared.bad.Bad.TheVariants.{Malformed, Memory};
 ghost use Rattle.tt_frame.specs.Unread.{whole};
 ghost use Rattle.tt_frame.specs.Tables.{MessageRead, StopsBy, read_by};
@@ -74,8 +74,9 @@ impl GameMsg {
     pub fn decode(_alloc: Global, kind: u8, body: &[u8]) -> Result<GameMsg, Bad>
         // What is read is spelled so.
         ensures found { IfOk result (λ m. Spells m kind body.now) }
-        // What is spelled so is read, unless memory runs out.
-        ensures only { (m : GameMsg) → Spells m kind body.now → (result ≡ Ok m) ⊎ (result ≡ Err Memory) }
+        // What is spelled so is read, and memory never runs out, since none is taken.
+        ensures only { (m : GameMsg) → Spells m kind body.now → result ≡ Ok m }
+        ensures never { result ≢ Err Memory }
 
         // It is malformed only where nothing is spelled, and the place is that of the first field that isn't there, or of
         // the first byte behind the last field, or 0 where no message has the number.

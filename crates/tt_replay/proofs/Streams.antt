@@ -7,30 +7,13 @@ use Rattle.tt_frame.specs.Packet.{Packet, IsBytes, IsWithin, packet_bytes}
 use Rattle.tt_frame.specs.Stream.{stream_of, IsPartial, IsBadSize, End, rest_of, bad_size, Reads}
 use Rattle.tt_frame.specs.StreamReading.{reading}
 use Rattle.tt_frame.specs.Framing.{BeginsWith}
-use Rattle.tt_frame.proofs.StreamLaws.{same_reading, reading_reads, reads_more}
+use Rattle.tt_frame.proofs.StreamLaws.{reading_reads, reads_more}
+use Rattle.tt_frame.proofs.FirstLaws.{read_so, read_packet, read_partial, read_bad_size}
 use Rattle.tt_edge.specs.declared.event.Event.{Event}
 use Rattle.tt_edge.specs.declared.event.Event.TheVariants as event
 use Rattle.tt_replay.specs.Played.{reader_limit, packet_event, end_events, stream_events, added}
 
--- what is read so is the reading
-read_so : (bytes : List ℕ) (packets : List Packet) (end : End) → IsBytes bytes → Reads reader_limit bytes packets end → ((reading reader_limit bytes).0 ≡ packets) × ((reading reader_limit bytes).1 ≡ end)
-read_so bytes packets end fits reads =
-    same_reading reader_limit bytes (reading reader_limit bytes).0 packets (reading reader_limit bytes).1 end (omega arith) (reading_reads reader_limit bytes (omega arith) fits) reads
-
 -- ---- what stands first
-
--- a packet
-pub read_packet : (bytes : List ℕ) (p : Packet) (more : List ℕ) → IsBytes bytes → IsBytes more → BeginsWith reader_limit bytes p more
-    → ((reading reader_limit bytes).0 ≡ p ∷ (reading reader_limit more).0) × ((reading reader_limit bytes).1 ≡ (reading reader_limit more).1)
-read_packet bytes p more fits also first =
-    read_so bytes (p ∷ (reading reader_limit more).0) (reading reader_limit more).1 fits
-    (reads_more reader_limit bytes p more (reading reader_limit more).0 (reading reader_limit more).1 first (reading_reads reader_limit more (omega arith) also))
-
-pub read_partial : (bytes : List ℕ) → IsBytes bytes → IsPartial reader_limit bytes → ((reading reader_limit bytes).0 ≡ []) × ((reading reader_limit bytes).1 ≡ rest_of bytes)
-read_partial bytes fits partial = read_so bytes [] (rest_of bytes) fits (record { splits = record { whole = refl; each = tt }; partial = partial })
-
-pub read_bad_size : (bytes : List ℕ) (n : ℕ) → IsBytes bytes → IsBadSize reader_limit bytes n → ((reading reader_limit bytes).0 ≡ []) × ((reading reader_limit bytes).1 ≡ bad_size n)
-read_bad_size bytes n fits bad = read_so bytes [] (bad_size n) fits (record { rest = bytes; splits = record { whole = refl; each = tt }; bad = bad })
 
 -- the events of a stream, by its reading
 events_by : (conn : ℕ) (bytes : List ℕ) (packets : List Packet) (end : End) → (reading reader_limit bytes).0 ≡ packets → (reading reader_limit bytes).1 ≡ end → stream_events conn bytes ≡ map (packet_event conn) packets ++ end_events conn end
@@ -38,14 +21,14 @@ events_by conn bytes packets end are is = ap₂ (λ (ps : List Packet) (e : End)
 
 pub events_packet : (conn : ℕ) (bytes : List ℕ) (p : Packet) (more : List ℕ) → IsBytes bytes → IsBytes more → BeginsWith reader_limit bytes p more → stream_events conn bytes ≡ event.Packet conn p.kind p.body ∷ stream_events conn more
 events_packet conn bytes p more fits also first =
-    let read = read_packet bytes p more fits also first in
+    let read = read_packet reader_limit bytes p more (omega arith) (omega arith) fits also first in
     events_by conn bytes (p ∷ (reading reader_limit more).0) (reading reader_limit more).1 read.0 read.1
 
 pub events_partial : (conn : ℕ) (bytes : List ℕ) → IsBytes bytes → IsPartial reader_limit bytes → stream_events conn bytes ≡ []
-events_partial conn bytes fits partial = let read = read_partial bytes fits partial in events_by conn bytes [] (rest_of bytes) read.0 read.1
+events_partial conn bytes fits partial = let read = read_partial reader_limit bytes (omega arith) (omega arith) fits partial in events_by conn bytes [] (rest_of bytes) read.0 read.1
 
 pub events_bad_size : (conn : ℕ) (bytes : List ℕ) (n : ℕ) → IsBytes bytes → IsBadSize reader_limit bytes n → stream_events conn bytes ≡ event.Broken conn ∷ []
-events_bad_size conn bytes n fits bad = let read = read_bad_size bytes n fits bad in events_by conn bytes [] (bad_size n) read.0 read.1
+events_bad_size conn bytes n fits bad = let read = read_bad_size reader_limit bytes n (omega arith) (omega arith) fits bad in events_by conn bytes [] (bad_size n) read.0 read.1
 
 -- ---- pieces joined
 
@@ -65,7 +48,7 @@ read_joined fed rest piece fits all both is =
     let cut = subst (λ (e : End). Reads reader_limit fed old e) is (reading_reads reader_limit fed (omega arith) fits) in
     let new = reading reader_limit (rest ++ piece) in
     let joined : stream_of old (rest ++ piece) ≡ fed ++ piece = sym (append_assoc _ rest piece) ∙ ap (λ (xs : List ℕ). xs ++ piece) (sym cut.splits.whole) in
-    read_so (fed ++ piece) (old ++ new.0) new.1 all (rw (← joined) (reads_behind old (rest ++ piece) new.0 new.1 cut.splits.each (reading_reads reader_limit (rest ++ piece) (omega arith) both)))
+    read_so reader_limit (fed ++ piece) (old ++ new.0) new.1 (omega arith) (omega arith) all (rw (← joined) (reads_behind old (rest ++ piece) new.0 new.1 cut.splits.each (reading_reads reader_limit (rest ++ piece) (omega arith) both)))
 
 map-append : (conn : ℕ) (xs ys : List Packet) → map (packet_event conn) (xs ++ ys) ≡ map (packet_event conn) xs ++ map (packet_event conn) ys
 map-append conn [] ys = refl

@@ -10,7 +10,7 @@ use Rattle.std.specs.Int.{w8}
 use Rattle.std.proofs.lemmas.Bool.{ne_eqb}
 use Rattle.std.proofs.lemmas.List.{append-nil, drop_more, nil_from_length, length-drop}
 use Rattle.tt_frame.specs.Unread.{Unread}
-use Rattle.tt_frame.specs.Reading.{◌>>=◌, within_at, FieldRead}
+use Rattle.tt_frame.specs.Reading.{◌>>=◌, within_at, FieldRead, FieldReadOrMemory}
 use Rattle.tt_frame.specs.declared.bad.Bad.{Bad}
 use Rattle.tt_frame.specs.declared.bad.Bad.TheVariants.{Memory, Malformed}
 use Rattle.tt_show.specs.TextReading.{TextRead, fronted, each_read, field_read, counted_read, items_read, marked_read, part_read, tail_read, row_read, WordsPut, RowPut}
@@ -49,8 +49,8 @@ pub stops : (front : List ℕ) (r : TextRead) (at : ℕ) (k : Unread → TextRea
 stops front r at k h = fronted_step front r k ∙ ap (λ (o : TextRead). o >>= λ x. fronted x.0 (k x.1)) h
 
 -- an error of the step is the error of the whole
-pub stops_as : (e : Bad) (front new other : List ℕ) (r whole : TextRead) (t u : Unread) (k : Unread → TextRead) → FieldRead {X = Unit {0}} (λ _. new) (Err e) t (fronted front r)
-    → fronted front (r >>= λ x. fronted x.0 (k x.1)) ≡ whole → FieldRead {X = Unit {0}} (λ _. other) (Err e) u whole
+pub stops_as : (e : Bad) (front new other : List ℕ) (r whole : TextRead) (t u : Unread) (k : Unread → TextRead) → FieldReadOrMemory {X = Unit {0}} (λ _. new) (Err e) t (fronted front r)
+    → fronted front (r >>= λ x. fronted x.0 (k x.1)) ≡ whole → FieldReadOrMemory {X = Unit {0}} (λ _. other) (Err e) u whole
 stops_as Memory front new other r whole t u k h so_far = tt
 stops_as (Malformed at) front new other r whole t u k h so_far = sym so_far ∙ stops front r at k h
 
@@ -65,7 +65,7 @@ each_goes_on read xs i d front new s t whole lt h so_far =
     sym (goes_on front new (read (get_or xs i d) s) t (each_read read (drop (i + 1) xs)) h) ∙ ap (fronted front) (sym (at_place read xs i d s lt)) ∙ so_far
 
 pub each_stops : {A : Type 0} (read : A → Unread → TextRead) (xs : List A) (i : ℕ) (d : A) (e : Bad) (front new other : List ℕ) (s t u : Unread) (whole : TextRead) → i < length xs
-    → FieldRead {X = Unit {0}} (λ _. new) (Err e) t (fronted front (read (get_or xs i d) s)) → fronted front (each_read read (drop i xs) s) ≡ whole → FieldRead {X = Unit {0}} (λ _. other) (Err e) u whole
+    → FieldReadOrMemory {X = Unit {0}} (λ _. new) (Err e) t (fronted front (read (get_or xs i d) s)) → fronted front (each_read read (drop i xs) s) ≡ whole → FieldReadOrMemory {X = Unit {0}} (λ _. other) (Err e) u whole
 each_stops read xs i d e front new other s t u whole lt h so_far =
     stops_as e front new other (read (get_or xs i d) s) whole t u (each_read read (drop (i + 1) xs)) h (ap (fronted front) (sym (at_place read xs i d s lt)) ∙ so_far)
 
@@ -86,7 +86,7 @@ items_go_on one n i front new s t whole lt h so_far =
     sym (goes_on front new (one s) t (items_read one (n - (i + 1))) h) ∙ ap (fronted front) (sym (next_item one n i s lt)) ∙ so_far
 
 pub items_stop : (one : Unread → TextRead) (n i : ℕ) (e : Bad) (front new other : List ℕ) (s t u : Unread) (whole : TextRead) → i < n
-    → FieldRead {X = Unit {0}} (λ _. new) (Err e) t (fronted front (one s)) → fronted front (items_read one (n - i) s) ≡ whole → FieldRead {X = Unit {0}} (λ _. other) (Err e) u whole
+    → FieldReadOrMemory {X = Unit {0}} (λ _. new) (Err e) t (fronted front (one s)) → fronted front (items_read one (n - i) s) ≡ whole → FieldReadOrMemory {X = Unit {0}} (λ _. other) (Err e) u whole
 items_stop one n i e front new other s t u whole lt h so_far =
     stops_as e front new other (one s) whole t u (items_read one (n - (i + 1))) h (ap (fronted front) (sym (next_item one n i s lt)) ∙ so_far)
 
@@ -115,7 +115,7 @@ no_mark one n i at front s whole lt mark so_far =
     sym so_far ∙ last
 
 pub no_mark_as : (one : Unread → TextRead) (n i : ℕ) (e : Bad) (front other : List ℕ) (s t u : Unread) (whole : TextRead) → i < n
-    → FieldRead {X = ℕ} (λ m. m) (Err e) t (within_at w8 1 s) → fronted front (marked_read one (n - i) s) ≡ whole → FieldRead {X = Unit {0}} (λ _. other) (Err e) u whole
+    → FieldRead {X = ℕ} (λ m. m) (Err e) t (within_at w8 1 s) → fronted front (marked_read one (n - i) s) ≡ whole → FieldReadOrMemory {X = Unit {0}} (λ _. other) (Err e) u whole
 no_mark_as one n i Memory front other s t u whole lt mark so_far = tt
 no_mark_as one n i (Malformed at) front other s t u whole lt mark so_far = no_mark one n i at front s whole lt mark so_far
 
@@ -132,7 +132,7 @@ marked_go_on one n i m front new s t u whole lt mark other h so_far =
     sym (goes_on front new (one t) u (marked_read one (n - (i + 1))) h) ∙ ap (fronted front) (sym (next_marked one n i m front s t lt mark other)) ∙ so_far
 
 pub marked_stop : (one : Unread → TextRead) (n i m : ℕ) (e : Bad) (front new old : List ℕ) (s t u v : Unread) (whole : TextRead) → i < n → within_at w8 1 s ≡ Ok (m, t) → (m ≡ 0 → ⊥)
-    → FieldRead {X = Unit {0}} (λ _. new) (Err e) u (fronted front (one t)) → fronted front (marked_read one (n - i) s) ≡ whole → FieldRead {X = Unit {0}} (λ _. old) (Err e) v whole
+    → FieldReadOrMemory {X = Unit {0}} (λ _. new) (Err e) u (fronted front (one t)) → fronted front (marked_read one (n - i) s) ≡ whole → FieldReadOrMemory {X = Unit {0}} (λ _. old) (Err e) v whole
 marked_stop one n i m e front new old s t u v whole lt mark other h so_far =
     stops_as e front new old (one t) whole u v (marked_read one (n - (i + 1))) h (ap (fronted front) (sym (next_marked one n i m front s t lt mark other)) ∙ so_far)
 
@@ -146,7 +146,7 @@ marked_done one n i m front s t whole le mark so_far =
     sym so_far ∙ ap (fronted front) (last_mark one n i s le ∙ ap (λ (o : Result (ℕ × Unread) ℕ). o >>= λ m. Ok ([], m.1)) mark) ∙ fronted_nil front t
 
 pub marked_undone : (one : Unread → TextRead) (n i : ℕ) (e : Bad) (front other : List ℕ) (s t u : Unread) (whole : TextRead) → n ≤ i
-    → FieldRead {X = ℕ} (λ m. m) (Err e) t (within_at w8 0 s) → fronted front (marked_read one (n - i) s) ≡ whole → FieldRead {X = Unit {0}} (λ _. other) (Err e) u whole
+    → FieldRead {X = ℕ} (λ m. m) (Err e) t (within_at w8 0 s) → fronted front (marked_read one (n - i) s) ≡ whole → FieldReadOrMemory {X = Unit {0}} (λ _. other) (Err e) u whole
 marked_undone one n i Memory front other s t u whole le mark so_far = tt
 marked_undone one n i (Malformed at) front other s t u whole le mark so_far =
     sym so_far ∙ ap (fronted front) (last_mark one n i s le ∙ ap (λ (o : Result (ℕ × Unread) ℕ). o >>= λ m. Ok ([], m.1)) mark)
@@ -158,7 +158,9 @@ field_absent f s at h = ap (λ (r : Result (Value f × Unread) ℕ). r >>= λ x.
 
 pub field_stops_as : (X Z : Type 0) (f : Field) (one : X → Value f) (view : Z → List ℕ) (e : Bad) (r : Result Z Bad) (s t u : Unread) → IsErrAnd r (λ d. d ≡ e) → FieldRead one (Err e) t (field_at f s) → FieldRead view r u (field_read f s)
 field_stops_as X Z f one view e (Ok z) s t u same h = absurd same
-field_stops_as X Z f one view e (Err Memory) s t u same h = tt
+field_stops_as X Z f one view e (Err Memory) s t u same h =
+    let P : Bad → Type 0 = λ d. FieldRead one (Err d) t (field_at f s) in
+    subst P (sym same) h
 field_stops_as X Z f one view e (Err (Malformed at)) s t u same h =
     let P : Bad → Type 0 = λ d. FieldRead one (Err d) t (field_at f s) in
     field_absent f s at (subst P (sym same) h)
@@ -174,13 +176,13 @@ counted_goes_on one w max n s t before text h is =
 
 -- ---- rows
 
-pub words_stop : (e : Bad) (parts : List Part) (last : Tail) (s t : Unread) (before new after : List ℕ) → FieldRead {X = Unit {0}} (λ _. new) (Err e) t (fronted before (each_read part_read parts s)) → WordsPut (Err e) before after (row_read parts last s)
+pub words_stop : (e : Bad) (parts : List Part) (last : Tail) (s t : Unread) (before new after : List ℕ) → FieldReadOrMemory {X = Unit {0}} (λ _. new) (Err e) t (fronted before (each_read part_read parts s)) → WordsPut (Err e) before after (row_read parts last s)
 words_stop Memory parts last s t before new after h = tt
 words_stop (Malformed at) parts last s t before new after h =
     ap (λ (r : TextRead). r >>= λ x. fronted x.0 (tail_read last x.1)) (fronted_err before (each_read part_read parts s) at h)
 
 pub words_go_on : (result : Result (Unit {0}) Bad) (parts : List Part) (last : Tail) (s t u : Unread) (before between after : List ℕ) → fronted before (each_read part_read parts s) ≡ Ok (between, t)
-    → FieldRead {X = Unit {0}} (λ _. after) result u (fronted between (tail_read last t)) → WordsPut result before after (row_read parts last s)
+    → FieldReadOrMemory {X = Unit {0}} (λ _. after) result u (fronted between (tail_read last t)) → WordsPut result before after (row_read parts last s)
 words_go_on (Ok _) parts last s t u before between after h more = (u, goes_on before between (each_read part_read parts s) t (tail_read last) h ∙ more)
 words_go_on (Err Memory) parts last s t u before between after h more = tt
 words_go_on (Err (Malformed at)) parts last s t u before between after h more =

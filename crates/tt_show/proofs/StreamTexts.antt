@@ -1,41 +1,35 @@
 -- The text of bytes, packet by packet.
-use Rattle.std.proofs.Common.{◌≡◌, ℕ, ◌+◌, ◌≤◌, List, [], ◌∷◌, ◌++◌, length, drop, Option, Some, None, Result, Ok, Err, refl, sym, ap, ap₂, subst, ◌∙◌, append_assoc, arith}
-use Rattle.std.specs.Prelude.{OnOk}
+use Rattle.std.proofs.Common.{◌≡◌, ℕ, ◌+◌, ◌≤◌, List, [], ◌∷◌, ◌++◌, length, drop, Option, Some, None, refl, sym, ap, ap₂, subst, ◌∙◌, append_assoc, arith}
 use Rattle.std.proofs.lemmas.List.{append-nil, drop-drop, length-drop, nil_from_length}
 use Rattle.tt_frame.specs.Packet.{Packet, IsBytes, size_of}
-use Rattle.tt_frame.specs.Stream.{IsPartial, IsBadSize, End, rest_of, bad_size, Reads}
+use Rattle.tt_frame.specs.Stream.{IsPartial, IsBadSize, End, rest_of, bad_size}
 use Rattle.tt_frame.specs.StreamReading.{reading}
 use Rattle.tt_frame.specs.Framing.{BeginsWith}
 use Rattle.tt_frame.proofs.FieldLaws.{IsBytes-drop}
 use Rattle.tt_frame.proofs.PacketLaws.{drop-packet, size_within}
-use Rattle.tt_frame.proofs.StreamLaws.{same_reading, reading_reads, reads_more}
+use Rattle.tt_frame.proofs.FirstLaws.{read_packet, read_partial, read_bad_size}
 use Rattle.tt_show.specs.declared.family.Family.{Family}
 use Rattle.tt_show.specs.Packets.{packet_text, Appends}
 use Rattle.tt_show.specs.Streams.{largest_packet, bad_text, partial_text, shown_before, packets_text}
-
--- what is read so is the reading
-read_so : (bytes : List ℕ) (packets : List Packet) (end : End) → IsBytes bytes → Reads largest_packet bytes packets end → ((reading largest_packet bytes).0 ≡ packets) × ((reading largest_packet bytes).1 ≡ end)
-read_so bytes packets end fits reads =
-    same_reading largest_packet bytes (reading largest_packet bytes).0 packets (reading largest_packet bytes).1 end (omega arith) (reading_reads largest_packet bytes (omega arith) fits) reads
 
 -- the text of bytes of which the first stands at that place
 abbrev pub shown_at : Family → ℕ → List ℕ → List ℕ
 shown_at family place bytes = let read = reading largest_packet bytes in packets_text family place read.0 read.1
 
-shown_so : (family : Family) (place : ℕ) (bytes : List ℕ) (packets : List Packet) (end : End) → IsBytes bytes → Reads largest_packet bytes packets end → shown_at family place bytes ≡ packets_text family place packets end
-shown_so family place bytes packets end fits reads = let read = read_so bytes packets end fits reads in ap₂ (λ (ps : List Packet) (e : End). packets_text family place ps e) read.0 read.1
+shown_so : (family : Family) (place : ℕ) (bytes : List ℕ) (packets : List Packet) (end : End) → ((reading largest_packet bytes).0 ≡ packets) × ((reading largest_packet bytes).1 ≡ end) → shown_at family place bytes ≡ packets_text family place packets end
+shown_so family place bytes packets end read = ap₂ (λ (ps : List Packet) (e : End). packets_text family place ps e) read.0 read.1
 
 shown_packet : (family : Family) (place : ℕ) (bytes : List ℕ) (p : Packet) (more : List ℕ) → IsBytes bytes → IsBytes more → BeginsWith largest_packet bytes p more
     → shown_at family place bytes ≡ shown_before (packet_text family p) place (shown_at family (place + size_of p) more)
 shown_packet family place bytes p more fits also first =
     let read = reading largest_packet more in
-    shown_so family place bytes (p ∷ read.0) read.1 fits (reads_more largest_packet bytes p more read.0 read.1 first (reading_reads largest_packet more (omega arith) also))
+    shown_so family place bytes (p ∷ read.0) read.1 (read_packet largest_packet bytes p more (omega arith) (omega arith) fits also first)
 
 shown_partial : (family : Family) (place : ℕ) (bytes : List ℕ) → IsBytes bytes → IsPartial largest_packet bytes → shown_at family place bytes ≡ partial_text bytes
-shown_partial family place bytes fits partial = shown_so family place bytes [] (rest_of bytes) fits (record { splits = record { whole = refl; each = tt }; partial = partial })
+shown_partial family place bytes fits partial = shown_so family place bytes [] (rest_of bytes) (read_partial largest_packet bytes (omega arith) (omega arith) fits partial)
 
 shown_bad_size : (family : Family) (place n : ℕ) (bytes : List ℕ) → IsBytes bytes → IsBadSize largest_packet bytes n → shown_at family place bytes ≡ bad_text place
-shown_bad_size family place n bytes fits bad = shown_so family place bytes [] (bad_size n) fits (record { rest = bytes; splits = record { whole = refl; each = tt }; bad = bad })
+shown_bad_size family place n bytes fits bad = shown_so family place bytes [] (bad_size n) (read_bad_size largest_packet bytes n (omega arith) (omega arith) fits bad)
 
 -- ---- the loop over the packets
 
@@ -99,8 +93,3 @@ all_appended family bytes text whole place le so_far =
     let nothing : shown_at family place [] ≡ [] =
     shown_partial family place [] (λ i. omega arith) (record { least = λ two. omega (arith, two); most = λ two. omega (arith, two); short = λ two. omega (arith, two) }) in
     sym (append-nil text) ∙ ap (λ (shown : List ℕ). text ++ shown) (sym nothing) ∙ ap (λ (xs : List ℕ). text ++ shown_at family place xs) (sym none) ∙ so_far
-
--- what follows from a call that went well
-pub on_ok : {T E : Type 0} (r : Result T E) {P Q : Type 0} → (P → Q) → OnOk r P → OnOk r Q
-on_ok (Ok x) f p = f p
-on_ok (Err e) f p = tt

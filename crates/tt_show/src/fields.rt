@@ -1,6 +1,6 @@
 //! Fields of a body, and items of several fields, appended to a text as they are read.
 ghost use Rattle.std.specs.Prelude.{◌≡◌};
-ghost use Rattle.tt_frame.specs.Reading.{FieldRead};
+ghost use Rattle.tt_frame.specs.Reading.{FieldReadOrMemory};
 ghost use Rattle.tt_show.specs.TextReading.{fronted, form_read, each_read, items_read, marked_read};
 
 use crate::forms::{Form, Width};
@@ -11,7 +11,7 @@ use tt_frame::{Bad, Fields, OutOfMemory};
 
 /// Appends the word of a field.
 pub fn put_field(alloc: Global, text: &mut Vec<u8>, f: &mut Fields, form: Form) -> Result<(), Bad>
-    ensures { FieldRead (λ _. text.new.items) result f.new (fronted text.old.items (form_read form f.old)) }
+    ensures { FieldReadOrMemory (λ _. text.new.items) result f.new (fronted text.old.items (form_read form f.old)) }
 {
     let value = match value_of(f, form) {
         Ok(value) => value,
@@ -25,7 +25,7 @@ pub fn put_field(alloc: Global, text: &mut Vec<u8>, f: &mut Fields, form: Form) 
 
 /// Appends the words of one item.
 fn put_item(alloc: Global, text: &mut Vec<u8>, f: &mut Fields, forms: &[Form]) -> Result<(), Bad>
-    ensures { FieldRead (λ _. text.new.items) result f.new (fronted text.old.items (each_read form_read forms.now f.old)) }
+    ensures { FieldReadOrMemory (λ _. text.new.items) result f.new (fronted text.old.items (each_read form_read forms.now f.old)) }
 {
     for form in forms {
         if let Err(e) = put_field(alloc, text, f, *form) {
@@ -43,7 +43,7 @@ pub fn put_items(
     forms: &[Form],
     count: u16,
 ) -> Result<(), Bad>
-    ensures { FieldRead (λ _. text.new.items) result f.new (fronted text.old.items (items_read (each_read form_read forms.now) count f.old)) }
+    ensures { FieldReadOrMemory (λ _. text.new.items) result f.new (fronted text.old.items (items_read (each_read form_read forms.now) count f.old)) }
 {
     for _ in 0..count {
         if let Err(e) = put_item(alloc, text, f, forms) {
@@ -61,7 +61,7 @@ pub fn put_marked(
     forms: &[Form],
     max: u16,
 ) -> Result<(), Bad>
-    ensures { FieldRead (λ _. text.new.items) result f.new (fronted text.old.items (marked_read (each_read form_read forms.now) max f.old)) }
+    ensures { FieldReadOrMemory (λ _. text.new.items) result f.new (fronted text.old.items (marked_read (each_read form_read forms.now) max f.old)) }
 {
     for _ in 0..max {
         match count_of(f, Width::Byte, 1) {

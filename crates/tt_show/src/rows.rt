@@ -1,7 +1,7 @@
 //! Whole rows, appended to a text as they are read.
 ghost use Rattle.std.specs.Prelude.{◌≡◌};
 ghost use Rattle.tt_frame.specs.Unread.{whole};
-ghost use Rattle.tt_frame.specs.Reading.{FieldRead};
+ghost use Rattle.tt_frame.specs.Reading.{FieldReadOrMemory};
 ghost use Rattle.tt_show.specs.Forms.{count_width_of};
 ghost use Rattle.tt_show.specs.TextReading.{fronted, each_read, form_read, fixed_read, counted_read, part_read, tail_read, row_read, WordsPut, RowPut};
 
@@ -15,7 +15,7 @@ use tt_lines::put;
 
 /// Goes over a byte that is always the same, and appends its word.
 fn put_fixed(text: &mut Vec<u8>, f: &mut Fields, byte: u8) -> Result<(), Bad>
-    ensures { FieldRead (λ _. text.new.items) result f.new (fronted text.old.items (fixed_read byte f.old)) }
+    ensures { FieldReadOrMemory (λ _. text.new.items) result f.new (fronted text.old.items (fixed_read byte f.old)) }
 {
     let n = match fixed_of(f, byte) {
         Ok(n) => n,
@@ -36,7 +36,7 @@ fn put_counted(
     max: u16,
     forms: &[Form],
 ) -> Result<(), Bad>
-    ensures { FieldRead (λ _. text.new.items) result f.new (fronted text.old.items (counted_read (each_read form_read forms.now) (count_width_of width) max f.old)) }
+    ensures { FieldReadOrMemory (λ _. text.new.items) result f.new (fronted text.old.items (counted_read (each_read form_read forms.now) (count_width_of width) max f.old)) }
 {
     let count = match count_of(f, width, max) {
         Ok(count) => count,
@@ -50,7 +50,7 @@ fn put_counted(
 
 /// Appends the words of a part of a row.
 fn put_part(alloc: Global, text: &mut Vec<u8>, f: &mut Fields, part: Part) -> Result<(), Bad>
-    ensures { FieldRead (λ _. text.new.items) result f.new (fronted text.old.items (part_read part f.old)) }
+    ensures { FieldReadOrMemory (λ _. text.new.items) result f.new (fronted text.old.items (part_read part f.old)) }
 {
     match part {
         Part::One(form) => put_field(alloc, text, f, form),
@@ -62,7 +62,7 @@ fn put_part(alloc: Global, text: &mut Vec<u8>, f: &mut Fields, part: Part) -> Re
 
 /// Appends the words of the parts of a row.
 fn put_parts(alloc: Global, text: &mut Vec<u8>, f: &mut Fields, parts: &[Part]) -> Result<(), Bad>
-    ensures { FieldRead (λ _. text.new.items) result f.new (fronted text.old.items (each_read part_read parts.now f.old)) }
+    ensures { FieldReadOrMemory (λ _. text.new.items) result f.new (fronted text.old.items (each_read part_read parts.now f.old)) }
 {
     for part in parts {
         if let Err(e) = put_part(alloc, text, f, *part) {
@@ -74,7 +74,7 @@ fn put_parts(alloc: Global, text: &mut Vec<u8>, f: &mut Fields, parts: &[Part]) 
 
 /// Appends what stands behind the parts of a row.
 fn put_tail(alloc: Global, text: &mut Vec<u8>, f: &mut Fields, tail: Tail) -> Result<(), Bad>
-    ensures { FieldRead (λ _. text.new.items) result f.new (fronted text.old.items (tail_read tail f.old)) }
+    ensures { FieldReadOrMemory (λ _. text.new.items) result f.new (fronted text.old.items (tail_read tail f.old)) }
 {
     match tail {
         Tail::End if f.done() => Ok(()),
@@ -91,7 +91,7 @@ fn put_rest(
     low: usize,
     high: usize,
 ) -> Result<(), Bad>
-    ensures { FieldRead (λ _. text.new.items) result f.new (fronted text.old.items (tail_read (Tail.Rest low high) f.old)) }
+    ensures { FieldReadOrMemory (λ _. text.new.items) result f.new (fronted text.old.items (tail_read (Tail.Rest low high) f.old)) }
 {
     let at = f.at();
     let bytes = f.rest();

@@ -1,6 +1,6 @@
 //! The fields of the messages that tell what is said, and of the console and its commands. Each function reads what its line of the table says.
 ghost use Rattle.std.specs.Prelude.{◌≡◌};
-ghost use Rattle.tt_frame.specs.Tables.{MessageRead, read_by};
+ghost use Rattle.tt_frame.specs.Tables.{MessageReadOrMemory, read_by};
 ghost use Rattle.tt_admin.specs.Messages.{messages};
 
 use crate::command_list::command_names;
@@ -9,7 +9,7 @@ use std::alloc::Global;
 use tt_frame::{Bad, Fields, ended, number8, number16, number32, text, up_to};
 
 pub(super) fn server_chat(f: &mut Fields) -> Result<AdminMsg, Bad>
-    ensures { MessageRead result (read_by messages 119 f.old) }
+    ensures { MessageReadOrMemory result (read_by messages 119 f.old) }
 {
     let message = AdminMsg::ServerChat {
         scope: up_to(f)?,
@@ -20,7 +20,7 @@ pub(super) fn server_chat(f: &mut Fields) -> Result<AdminMsg, Bad>
 }
 
 pub(super) fn server_rcon(f: &mut Fields) -> Result<AdminMsg, Bad>
-    ensures { MessageRead result (read_by messages 120 f.old) }
+    ensures { MessageReadOrMemory result (read_by messages 120 f.old) }
 {
     let message = AdminMsg::ServerRcon {
         colour: number16(f)?,
@@ -30,7 +30,7 @@ pub(super) fn server_rcon(f: &mut Fields) -> Result<AdminMsg, Bad>
 }
 
 pub(super) fn server_console(f: &mut Fields) -> Result<AdminMsg, Bad>
-    ensures { MessageRead result (read_by messages 121 f.old) }
+    ensures { MessageReadOrMemory result (read_by messages 121 f.old) }
 {
     let message = AdminMsg::ServerConsole {
         origin: text(f)?,
@@ -40,7 +40,7 @@ pub(super) fn server_console(f: &mut Fields) -> Result<AdminMsg, Bad>
 }
 
 pub(super) fn server_cmd_names(alloc: Global, f: &mut Fields) -> Result<AdminMsg, Bad>
-    ensures { MessageRead result (read_by messages 122 f.old) }
+    ensures { MessageReadOrMemory result (read_by messages 122 f.old) }
 {
     let message = AdminMsg::ServerCmdNames {
         items: command_names(alloc, f)?,
@@ -49,28 +49,28 @@ pub(super) fn server_cmd_names(alloc: Global, f: &mut Fields) -> Result<AdminMsg
 }
 
 pub(super) fn server_gamescript(f: &mut Fields) -> Result<AdminMsg, Bad>
-    ensures { MessageRead result (read_by messages 124 f.old) }
+    ensures { MessageReadOrMemory result (read_by messages 124 f.old) }
 {
     let message = AdminMsg::ServerGamescript { text: text(f)? };
     ended(f, message)
 }
 
 pub(super) fn server_rcon_end(f: &mut Fields) -> Result<AdminMsg, Bad>
-    ensures { MessageRead result (read_by messages 125 f.old) }
+    ensures { MessageReadOrMemory result (read_by messages 125 f.old) }
 {
     let message = AdminMsg::ServerRconEnd { text: text(f)? };
     ended(f, message)
 }
 
 pub(super) fn server_pong(f: &mut Fields) -> Result<AdminMsg, Bad>
-    ensures { MessageRead result (read_by messages 126 f.old) }
+    ensures { MessageReadOrMemory result (read_by messages 126 f.old) }
 {
     let message = AdminMsg::ServerPong { id: number32(f)? };
     ended(f, message)
 }
 
 pub(super) fn server_cmd_logging(f: &mut Fields) -> Result<AdminMsg, Bad>
-    ensures { MessageRead result (read_by messages 127 f.old) }
+    ensures { MessageReadOrMemory result (read_by messages 127 f.old) }
 {
     let message = AdminMsg::ServerCmdLogging {
         client: number32(f)?,

@@ -1,6 +1,6 @@
 //! The fields of the messages that greet an admin or end it, and of the day. Each function reads what its line of the table says.
 ghost use Rattle.std.specs.Prelude.{◌≡◌};
-ghost use Rattle.tt_frame.specs.Tables.{MessageRead, read_by};
+ghost use Rattle.tt_frame.specs.Tables.{MessageReadOrMemory, read_by};
 ghost use Rattle.tt_admin.specs.Messages.{messages};
 
 use crate::message::AdminMsg;
@@ -8,14 +8,14 @@ use crate::update_list::update_types;
 use tt_frame::{Bad, Fields, ended, number8, number16, number32, text, truth, up_to};
 
 pub(super) fn server_error(f: &mut Fields) -> Result<AdminMsg, Bad>
-    ensures { MessageRead result (read_by messages 102 f.old) }
+    ensures { MessageReadOrMemory result (read_by messages 102 f.old) }
 {
     let message = AdminMsg::ServerError { code: up_to(f)? };
     ended(f, message)
 }
 
 pub(super) fn server_protocol(f: &mut Fields) -> Result<AdminMsg, Bad>
-    ensures { MessageRead result (read_by messages 103 f.old) }
+    ensures { MessageReadOrMemory result (read_by messages 103 f.old) }
 {
     let message = AdminMsg::ServerProtocol {
         version: number8(f)?,
@@ -25,7 +25,7 @@ pub(super) fn server_protocol(f: &mut Fields) -> Result<AdminMsg, Bad>
 }
 
 pub(super) fn server_welcome(f: &mut Fields) -> Result<AdminMsg, Bad>
-    ensures { MessageRead result (read_by messages 104 f.old) }
+    ensures { MessageReadOrMemory result (read_by messages 104 f.old) }
 {
     let message = AdminMsg::ServerWelcome {
         name: text(f)?,
@@ -42,7 +42,7 @@ pub(super) fn server_welcome(f: &mut Fields) -> Result<AdminMsg, Bad>
 }
 
 pub(super) fn server_date(f: &mut Fields) -> Result<AdminMsg, Bad>
-    ensures { MessageRead result (read_by messages 107 f.old) }
+    ensures { MessageReadOrMemory result (read_by messages 107 f.old) }
 {
     let message = AdminMsg::ServerDate { day: number32(f)? };
     ended(f, message)

@@ -3,7 +3,7 @@
 ghost use Rattle.std.specs.Prelude.{◌≡◌, ℕ, ◌⊎◌, IfOk, Ok, Err};
 ghost use Rattle.tt_frame.specs.declared.bad.Bad.TheVariants.{Malformed, Memory};
 ghost use Rattle.tt_frame.specs.Unread.{whole};
-ghost use Rattle.tt_frame.specs.Tables.{MessageRead, StopsBy, read_by};
+ghost use Rattle.tt_frame.specs.Tables.{MessageReadOrMemory, StopsBy, read_by};
 ghost use Rattle.tt_coord.specs.Coord.{coord_messages, CoordSpells};
 ghost use Rattle.tt_coord.specs.declared.coord.CoordMsg.{CoordMsg};
 
@@ -16,7 +16,7 @@ use std::alloc::Global;
 use tt_frame::{Bad, Fields, UpTo, ended, number8, number16, number32, text, truth, up_to};
 
 fn gc_error(f: &mut Fields) -> Result<CoordMsg, Bad>
-    ensures { MessageRead result (read_by coord_messages 0 f.old) }
+    ensures { MessageReadOrMemory result (read_by coord_messages 0 f.old) }
 {
     let message = CoordMsg::GcError {
         code: up_to(f)?,
@@ -26,7 +26,7 @@ fn gc_error(f: &mut Fields) -> Result<CoordMsg, Bad>
 }
 
 fn server_register(f: &mut Fields) -> Result<CoordMsg, Bad>
-    ensures { MessageRead result (read_by coord_messages 1 f.old) }
+    ensures { MessageReadOrMemory result (read_by coord_messages 1 f.old) }
 {
     version(f)?;
     let message = CoordMsg::ServerRegister {
@@ -39,7 +39,7 @@ fn server_register(f: &mut Fields) -> Result<CoordMsg, Bad>
 }
 
 fn gc_register_ack(f: &mut Fields) -> Result<CoordMsg, Bad>
-    ensures { MessageRead result (read_by coord_messages 2 f.old) }
+    ensures { MessageReadOrMemory result (read_by coord_messages 2 f.old) }
 {
     let message = CoordMsg::GcRegisterAck {
         code: text(f)?,
@@ -50,7 +50,7 @@ fn gc_register_ack(f: &mut Fields) -> Result<CoordMsg, Bad>
 }
 
 fn server_update(f: &mut Fields) -> Result<CoordMsg, Bad>
-    ensures { MessageRead result (read_by coord_messages 3 f.old) }
+    ensures { MessageReadOrMemory result (read_by coord_messages 3 f.old) }
 {
     version(f)?;
     let message = CoordMsg::ServerUpdate {
@@ -68,7 +68,7 @@ fn server_update(f: &mut Fields) -> Result<CoordMsg, Bad>
 }
 
 fn client_listing(f: &mut Fields) -> Result<CoordMsg, Bad>
-    ensures { MessageRead result (read_by coord_messages 4 f.old) }
+    ensures { MessageReadOrMemory result (read_by coord_messages 4 f.old) }
 {
     version(f)?;
     let message = CoordMsg::ClientListing { revision: text(f)? };
@@ -76,7 +76,7 @@ fn client_listing(f: &mut Fields) -> Result<CoordMsg, Bad>
 }
 
 fn gc_listing(alloc: Global, f: &mut Fields) -> Result<CoordMsg, Bad>
-    ensures { MessageRead result (read_by coord_messages 5 f.old) }
+    ensures { MessageReadOrMemory result (read_by coord_messages 5 f.old) }
 {
     let count = count16(f)?;
     let message = CoordMsg::GcListing {
@@ -86,7 +86,7 @@ fn gc_listing(alloc: Global, f: &mut Fields) -> Result<CoordMsg, Bad>
 }
 
 fn client_connect(f: &mut Fields) -> Result<CoordMsg, Bad>
-    ensures { MessageRead result (read_by coord_messages 6 f.old) }
+    ensures { MessageReadOrMemory result (read_by coord_messages 6 f.old) }
 {
     version(f)?;
     let message = CoordMsg::ClientConnect { code: text(f)? };
@@ -94,7 +94,7 @@ fn client_connect(f: &mut Fields) -> Result<CoordMsg, Bad>
 }
 
 fn gc_connecting(f: &mut Fields) -> Result<CoordMsg, Bad>
-    ensures { MessageRead result (read_by coord_messages 7 f.old) }
+    ensures { MessageReadOrMemory result (read_by coord_messages 7 f.old) }
 {
     let message = CoordMsg::GcConnecting {
         token: text(f)?,
@@ -104,7 +104,7 @@ fn gc_connecting(f: &mut Fields) -> Result<CoordMsg, Bad>
 }
 
 fn sercli_connect_failed(f: &mut Fields) -> Result<CoordMsg, Bad>
-    ensures { MessageRead result (read_by coord_messages 8 f.old) }
+    ensures { MessageReadOrMemory result (read_by coord_messages 8 f.old) }
 {
     version(f)?;
     let message = CoordMsg::SercliConnectFailed {
@@ -115,14 +115,14 @@ fn sercli_connect_failed(f: &mut Fields) -> Result<CoordMsg, Bad>
 }
 
 fn gc_connect_failed(f: &mut Fields) -> Result<CoordMsg, Bad>
-    ensures { MessageRead result (read_by coord_messages 9 f.old) }
+    ensures { MessageReadOrMemory result (read_by coord_messages 9 f.old) }
 {
     let message = CoordMsg::GcConnectFailed { token: text(f)? };
     ended(f, message)
 }
 
 fn client_connected(f: &mut Fields) -> Result<CoordMsg, Bad>
-    ensures { MessageRead result (read_by coord_messages 10 f.old) }
+    ensures { MessageReadOrMemory result (read_by coord_messages 10 f.old) }
 {
     version(f)?;
     let message = CoordMsg::ClientConnected { token: text(f)? };
@@ -130,7 +130,7 @@ fn client_connected(f: &mut Fields) -> Result<CoordMsg, Bad>
 }
 
 fn gc_direct_connect(f: &mut Fields) -> Result<CoordMsg, Bad>
-    ensures { MessageRead result (read_by coord_messages 11 f.old) }
+    ensures { MessageReadOrMemory result (read_by coord_messages 11 f.old) }
 {
     let message = CoordMsg::GcDirectConnect {
         token: text(f)?,
@@ -142,14 +142,14 @@ fn gc_direct_connect(f: &mut Fields) -> Result<CoordMsg, Bad>
 }
 
 fn gc_stun_request(f: &mut Fields) -> Result<CoordMsg, Bad>
-    ensures { MessageRead result (read_by coord_messages 12 f.old) }
+    ensures { MessageReadOrMemory result (read_by coord_messages 12 f.old) }
 {
     let message = CoordMsg::GcStunRequest { token: text(f)? };
     ended(f, message)
 }
 
 fn sercli_stun_result(f: &mut Fields) -> Result<CoordMsg, Bad>
-    ensures { MessageRead result (read_by coord_messages 13 f.old) }
+    ensures { MessageReadOrMemory result (read_by coord_messages 13 f.old) }
 {
     version(f)?;
     let message = CoordMsg::SercliStunResult {
@@ -161,7 +161,7 @@ fn sercli_stun_result(f: &mut Fields) -> Result<CoordMsg, Bad>
 }
 
 fn gc_stun_connect(f: &mut Fields) -> Result<CoordMsg, Bad>
-    ensures { MessageRead result (read_by coord_messages 14 f.old) }
+    ensures { MessageReadOrMemory result (read_by coord_messages 14 f.old) }
 {
     let message = CoordMsg::GcStunConnect {
         token: text(f)?,
@@ -174,7 +174,7 @@ fn gc_stun_connect(f: &mut Fields) -> Result<CoordMsg, Bad>
 }
 
 fn gc_newgrf_lookup(alloc: Global, f: &mut Fields) -> Result<CoordMsg, Bad>
-    ensures { MessageRead result (read_by coord_messages 15 f.old) }
+    ensures { MessageReadOrMemory result (read_by coord_messages 15 f.old) }
 {
     let count: UpTo<62> = up_to(f)?;
     let message = CoordMsg::GcNewgrfLookup {
@@ -184,7 +184,7 @@ fn gc_newgrf_lookup(alloc: Global, f: &mut Fields) -> Result<CoordMsg, Bad>
 }
 
 fn gc_turn_connect(f: &mut Fields) -> Result<CoordMsg, Bad>
-    ensures { MessageRead result (read_by coord_messages 16 f.old) }
+    ensures { MessageReadOrMemory result (read_by coord_messages 16 f.old) }
 {
     let message = CoordMsg::GcTurnConnect {
         token: text(f)?,
@@ -198,7 +198,7 @@ fn gc_turn_connect(f: &mut Fields) -> Result<CoordMsg, Bad>
 /// The message of that number.
 fn by_kind(alloc: Global, kind: u8, f: &mut Fields) -> Result<CoordMsg, Bad>
     requires { f.old.at ≡ 0 }
-    ensures { MessageRead result (read_by coord_messages kind f.old) }
+    ensures { MessageReadOrMemory result (read_by coord_messages kind f.old) }
 {
     match kind {
         0 => gc_error(f),
@@ -223,7 +223,7 @@ fn by_kind(alloc: Global, kind: u8, f: &mut Fields) -> Result<CoordMsg, Bad>
 }
 
 fn read(alloc: Global, kind: u8, body: &[u8]) -> Result<CoordMsg, Bad>
-    ensures { MessageRead result (read_by coord_messages kind (whole body.now)) }
+    ensures { MessageReadOrMemory result (read_by coord_messages kind (whole body.now)) }
 {
     by_kind(alloc, kind, &mut Fields::new(body))
 }
@@ -242,7 +242,7 @@ impl CoordMsg {
         ensures place { (at : ℕ) → result ≡ Err (Malformed at) → StopsBy coord_messages kind body.now at }
 
         // All of this in one: the answer is what reading the body by the table gives.
-        ensures exact { MessageRead result (read_by coord_messages kind (whole body.now)) }
+        ensures exact { MessageReadOrMemory result (read_by coord_messages kind (whole body.now)) }
     {
         read(alloc, kind, body)
     }

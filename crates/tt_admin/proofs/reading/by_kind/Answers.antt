@@ -1,11 +1,12 @@
 -- One line for each number: the function of that message reads what the table's line says.
+use Rattle.tt_frame.proofs.TableLaws.{or_memory}
 use Rattle.tt_admin.proofs.reading.by_kind.Goals as goal
 
 pub returns-in-0 : goal.returns-in-0
 returns-in-0 c = rw c.in-0.is c.admin_join.ensures
 
 pub returns-in-1 : goal.returns-in-1
-returns-in-1 c = rw c.in-1.is c.ended.ensures
+returns-in-1 c = rw c.in-1.is (or_memory c.ended.result _ c.ended.ensures)
 
 pub returns-in-2 : goal.returns-in-2
 returns-in-2 c = rw c.in-2.is c.admin_update_frequency.ensures
@@ -29,10 +30,10 @@ pub returns-in-8 : goal.returns-in-8
 returns-in-8 c = rw c.in-8.is c.admin_external_chat.ensures
 
 pub returns-in-100 : goal.returns-in-100
-returns-in-100 c = rw c.in-100.is c.ended-in-100.ensures
+returns-in-100 c = rw c.in-100.is (or_memory c.ended-in-100.result _ c.ended-in-100.ensures)
 
 pub returns-in-101 : goal.returns-in-101
-returns-in-101 c = rw c.in-101.is c.ended-in-101.ensures
+returns-in-101 c = rw c.in-101.is (or_memory c.ended-in-101.result _ c.ended-in-101.ensures)
 
 pub returns-in-102 : goal.returns-in-102
 returns-in-102 c = rw c.in-102.is c.server_error.ensures
@@ -44,10 +45,10 @@ pub returns-in-104 : goal.returns-in-104
 returns-in-104 c = rw c.in-104.is c.server_welcome.ensures
 
 pub returns-in-105 : goal.returns-in-105
-returns-in-105 c = rw c.in-105.is c.ended-in-105.ensures
+returns-in-105 c = rw c.in-105.is (or_memory c.ended-in-105.result _ c.ended-in-105.ensures)
 
 pub returns-in-106 : goal.returns-in-106
-returns-in-106 c = rw c.in-106.is c.ended-in-106.ensures
+returns-in-106 c = rw c.in-106.is (or_memory c.ended-in-106.result _ c.ended-in-106.ensures)
 
 pub returns-in-107 : goal.returns-in-107
 returns-in-107 c = rw c.in-107.is c.server_date.ensures
@@ -98,7 +99,7 @@ pub returns-in-122 : goal.returns-in-122
 returns-in-122 c = rw c.in-122.is c.server_cmd_names.ensures
 
 pub returns-in-123 : goal.returns-in-123
-returns-in-123 c = rw c.in-123.is c.ended-in-123.ensures
+returns-in-123 c = rw c.in-123.is (or_memory c.ended-in-123.result _ c.ended-in-123.ensures)
 
 pub returns-in-124 : goal.returns-in-124
 returns-in-124 c = rw c.in-124.is c.server_gamescript.ensures

@@ -1,12 +1,11 @@
 use Rattle.std.proofs.Common.{◌≡◌, ℕ, ◌≤◌, List, length, ◌∷◌, ◌++◌, ap, ◌∙◌, arith}
+use Rattle.std.proofs.lemmas.Result.{on_ok_weaker}
 use Rattle.tt_frame.specs.FieldForms.{byte}
 use Rattle.tt_frame.specs.Rows.{Row, counted, end}
 use Rattle.tt_frame.specs.ItemForms.{Item}
 use Rattle.tt_frame.specs.Apart.{body_of}
-use Rattle.tt_frame.specs.Parts.{sealed}
-use Rattle.tt_frame.proofs.PartLaws.{sealed_is}
 use Rattle.tt_coord.specs.Items.{file}
-use Rattle.tt_coord.proofs.SealLaws.{fits_a_packet}
+use Rattle.tt_frame.proofs.SealLaws.{fits_a_packet}
 use Rattle.tt_coord.proofs.file_list.put_lookup_files.Goals as goal
 
 abbrev fields : Row
@@ -16,16 +15,12 @@ fields = counted byte 62 file end
 abbrev unsealed : List ℕ → List (Item file) → List ℕ
 unsealed old list = old ++ 0 ∷ 0 ∷ 15 ∷ body_of fields (list, tt)
 
-pub seal-requires-clause-size : goal.seal-requires-clause-size
-seal-requires-clause-size c =
-    let written : c.put_all.new.out.items ≡ unsealed c.args.out.now.items c.args.list.now = c.in-Ok.ensures.ok ∙ ap (λ (xs : List (Item file)). unsealed c.args.out.now.items xs) c.as_slice.ensures.same in
+pub finish-requires-clause-size : goal.finish-requires-clause-size
+finish-requires-clause-size c =
+    on_ok_weaker c.put_all-written.result
+    (λ is.
+    let written : c.put_all-written.new.out.items ≡ unsealed c.args.out.now.items c.args.list.now = is ∙ ap (λ (xs : List (Item file)). unsealed c.args.out.now.items xs) c.as_slice.ensures.same in
     let few : length c.args.list.now ≤ 62 = omega (arith, c.as_slice.ensures.few, ap (λ (xs : List (Item file)). length xs) c.as_slice.ensures.same) in
-    let fits = fits_a_packet (List (Item file)) fields (λ list. list) (c.args.list.now, tt) 15 c.args.out.now.items c.put_all.new.out.items ((few, omega (arith, few)), c.as_slice.ensures.fit, tt) (omega arith) written in
-    omega (arith, fits, c.len-start.ensures, c.args.out.now.ok.0, c.put_all.new.out.ok.0)
-
-pub returns-in-Ok-clause-ok : goal.returns-in-Ok-clause-ok
-returns-in-Ok-clause-ok c =
-    let written : c.put_all.new.out.items ≡ unsealed c.args.out.now.items c.args.list.now = c.in-Ok.ensures.ok ∙ ap (λ (xs : List (Item file)). unsealed c.args.out.now.items xs) c.as_slice.ensures.same in
-    c.seal.ensures
-    ∙ ap (λ (n : ℕ). sealed n c.put_all.new.out.items) (c.len-start.ensures ∙ c.args.out.now.ok.0)
-    ∙ sealed_is c.args.out.now.items 15 (body_of fields (c.args.list.now, tt)) c.put_all.new.out.items written
+    let fits = fits_a_packet (List (Item file)) fields (λ list. list) (c.args.list.now, tt) 15 c.args.out.now.items c.put_all-written.new.out.items ((few, omega (arith, few)), c.as_slice.ensures.fit, tt) (omega arith) written in
+    omega (arith, fits, c.len-start.ensures, c.args.out.now.ok.0, c.put_all-written.new.out.ok.0))
+    c.put_all-written.ensures.ok

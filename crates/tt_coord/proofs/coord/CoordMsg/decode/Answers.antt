@@ -1,5 +1,5 @@
 use Rattle.std.proofs.Common.{arith}
-use Rattle.tt_frame.proofs.TableLaws.{is_found, is_read, is_nothing, stops_at}
+use Rattle.tt_frame.proofs.TableLaws.{is_found, is_read_or_memory, is_nothing, stops_at}
 use Rattle.tt_coord.specs.Coord.{coord_messages}
 use Rattle.tt_coord.proofs.coord.CoordMsg.decode.Goals as goal
 
@@ -7,7 +7,7 @@ pub returns-clause-found : goal.returns-clause-found
 returns-clause-found c = is_found coord_messages c.args.kind c.args.body.now c.read.result (λ i. omega (arith, c.type_inv.body i)) c.read.ensures
 
 pub returns-clause-only : goal.returns-clause-only
-returns-clause-only c m spelled = is_read coord_messages c.args.kind c.args.body.now c.read.result m spelled c.read.ensures
+returns-clause-only c m spelled = is_read_or_memory coord_messages c.args.kind c.args.body.now c.read.result m spelled c.read.ensures
 
 pub returns-clause-nothing : goal.returns-clause-nothing
 returns-clause-nothing c at m e spelled = is_nothing coord_messages c.args.kind c.args.body.now c.read.result at m e c.read.ensures spelled
