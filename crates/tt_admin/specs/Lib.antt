@@ -1,4 +1,3 @@
 pub mod Items
-pub mod Marks
 pub mod Messages
 pub mod Apart

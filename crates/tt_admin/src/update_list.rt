@@ -7,7 +7,7 @@ ghost use Rattle.tt_frame.specs.ItemForms.{ItemsFit, item_at, item_spelled, mark
 ghost use Rattle.tt_frame.specs.Rows.{◌▸◌, marked, end};
 ghost use Rattle.tt_frame.specs.Apart.{body_of};
 ghost use Rattle.tt_admin.specs.Items.{update_type};
-ghost use Rattle.tt_admin.specs.Marks.{marked_item_at};
+ghost use Rattle.tt_frame.specs.ItemForms.{marked_item_at};
 
 use arrayvec::ArrayVec;
 use std::marker::Model;

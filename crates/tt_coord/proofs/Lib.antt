@@ -1,4 +1,3 @@
 pub mod CoordLaws
 pub mod StunLaws
 pub mod TurnLaws
-pub mod ItemWriting

@@ -1,5 +1,4 @@
 pub mod Items
-pub mod Fixed
 pub mod Coord
 pub mod CoordApart
 pub mod Stun

@@ -13,7 +13,8 @@ use Rattle.tt_frame.specs.Unread.{Unread, skip}
 use Rattle.tt_frame.specs.Text.{is_text, is_digest, is_shown, is_hex_digit}
 use Rattle.tt_frame.specs.Reading.{◌>>=◌, number_at, within_at, truth_at, fixed_at, before_zero, kept, kept_or_none, text_at, digest_at, optional_digest_at, raw_at}
 use Rattle.tt_frame.specs.FieldForms.{CountWidth, byte, word, count_width, count_limit, Field, u8, u16, u32, u64, within, truth, text, digest, optional_digest, raw, Value, spelled, Fits, field_at, optional_bytes, truth_number}
-use Rattle.tt_frame.proofs.TextLaws.{and_both, length_of_text, length_of_digest}
+use Rattle.tt_frame.proofs.TestLaws.{and_both}
+use Rattle.tt_frame.proofs.TextLaws.{length_of_text, length_of_digest}
 
 pub IsBytes-drop : (n : ℕ) (bytes : List ℕ) → IsBytes bytes → IsBytes (drop n bytes)
 IsBytes-drop n bytes h i = rw get_or-drop (h (n + i))

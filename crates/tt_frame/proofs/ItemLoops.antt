@@ -1,6 +1,6 @@
--- Items read one behind the other in a loop.
+-- Items read and written one behind the other in a loop.
 use Rattle.std.proofs.Common.{◌≡◌, ℕ, suc, ◌+◌, ◌-◌, ◌<◌, ◌≤◌, List, [], ◌∷◌, ◌++◌, length, get_or, take, Result, Ok, Err, refl, sym, ap, ◌∙◌, append_assoc, arith}
-use Rattle.std.proofs.lemmas.List.{append-nil, take_more}
+use Rattle.std.proofs.lemmas.List.{append-nil, take_more, take_all}
 use Rattle.tt_frame.specs.Unread.{Unread}
 use Rattle.tt_frame.specs.Reading.{◌>>=◌, FieldRead, FieldReadOrMemory}
 use Rattle.tt_frame.specs.declared.bad.Bad.{Bad}
@@ -13,7 +13,7 @@ abbrev pub with_front : (fs : List Field) → List (Item fs) → Result (List (I
 with_front fs front (Ok x) = Ok (front ++ x.0, x.1)
 with_front fs front (Err e) = Err e
 
-regroup : (fs : List Field) (front : List (Item fs)) (x : Item fs) (r : Result (List (Item fs) × Unread) ℕ) → with_front fs front (r >>= λ xs. Ok (x ∷ xs.0, xs.1)) ≡ with_front fs (front ++ x ∷ []) r
+pub regroup : (fs : List Field) (front : List (Item fs)) (x : Item fs) (r : Result (List (Item fs) × Unread) ℕ) → with_front fs front (r >>= λ xs. Ok (x ∷ xs.0, xs.1)) ≡ with_front fs (front ++ x ∷ []) r
 regroup fs front x (Ok y) = ap (λ (xs : List (Item fs)). Ok (xs, y.1)) (sym (append_assoc front (x ∷ []) y.0))
 regroup fs front x (Err e) = refl
 
@@ -54,12 +54,30 @@ items_spelled-append : (fs : List Field) (xs ys : List (Item fs)) → items_spel
 items_spelled-append fs [] ys = refl
 items_spelled-append fs (x ∷ xs) ys = ap (λ (r : List ℕ). item_spelled fs x ++ r) (items_spelled-append fs xs ys) ∙ sym (append_assoc (item_spelled fs x) (items_spelled fs xs) (items_spelled fs ys))
 
--- one item more is written behind the others
+-- the items so far, and one more
 pub items_more : (fs : List Field) (xs : List (Item fs)) (i : ℕ) (x : Item fs) → i < length xs → items_spelled fs (take (i + 1) xs) ≡ items_spelled fs (take i xs) ++ item_spelled fs (get_or xs i x)
 items_more fs xs i x lt =
     ap (λ (ys : List (Item fs)). items_spelled fs ys) (take_more xs i x lt)
     ∙ items_spelled-append fs (take i xs) (get_or xs i x ∷ [])
     ∙ ap (λ (r : List ℕ). items_spelled fs (take i xs) ++ r) (append-nil (item_spelled fs (get_or xs i x)))
+
+-- one item more is written behind the others
+pub one_item : (fs : List Field) (old mid new : List ℕ) (xs : List (Item fs)) (i : ℕ) (x : Item fs) → i < length xs → x ≡ get_or xs i x → mid ≡ old ++ items_spelled fs (take i xs)
+    → new ≡ mid ++ item_spelled fs x → new ≡ old ++ items_spelled fs (take (i + 1) xs)
+one_item fs old mid new xs i x lt is so_far step =
+    step
+    ∙ ap (λ (y : Item fs). mid ++ item_spelled fs y) is
+    ∙ ap (λ (r : List ℕ). r ++ item_spelled fs (get_or xs i x)) so_far
+    ∙ append_assoc old (items_spelled fs (take i xs)) (item_spelled fs (get_or xs i x))
+    ∙ ap (λ (r : List ℕ). old ++ r) (sym (items_more fs xs i x lt))
+
+-- all of them are written
+pub all_items : (fs : List Field) (old new : List ℕ) (xs : List (Item fs)) (i : ℕ) → length xs ≤ i → new ≡ old ++ items_spelled fs (take i xs) → new ≡ old ++ items_spelled fs xs
+all_items fs old new xs i le so_far = so_far ∙ ap (λ (ys : List (Item fs)). old ++ items_spelled fs ys) (take_all i xs le)
+
+-- a part, and then what stands behind it
+pub in_turn : (old mid new part more : List ℕ) → mid ≡ old ++ part → new ≡ mid ++ more → new ≡ old ++ (part ++ more)
+in_turn old mid new part more one others = others ∙ ap (λ (r : List ℕ). r ++ more) one ∙ append_assoc old part more
 
 -- one item more that fits
 pub ItemsFit-push : (fs : List Field) (xs : List (Item fs)) (x : Item fs) → ItemsFit fs xs → ItemFits fs x → ItemsFit fs (xs ++ x ∷ [])

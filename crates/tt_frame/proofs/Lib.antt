@@ -1,3 +1,4 @@
+pub mod TestLaws
 pub mod TextLaws
 pub mod PacketLaws
 pub mod StreamLaws
@@ -14,3 +15,4 @@ pub mod SizeLaws
 pub mod PartLaws
 pub mod SealLaws
 pub mod ItemLoops
+pub mod MarkLoops

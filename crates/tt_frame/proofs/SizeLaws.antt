@@ -9,7 +9,8 @@ use Rattle.tt_frame.specs.FieldForms.{count_width, Field, u8, u16, u32, u64, wit
 use Rattle.tt_frame.specs.ItemForms.{Item, item_spelled, ItemFits, items_spelled, ItemsFit, marked_spelled}
 use Rattle.tt_frame.specs.Rows.{Row, unknown, end, rest, ◌▸◌, fixed, counted, marked, Maker, RowSpells}
 use Rattle.tt_frame.specs.Tables.{Rule, rule_of, SpelledBy}
-use Rattle.tt_frame.proofs.TextLaws.{and_both, le_of_test, length_of_text, length_of_digest}
+use Rattle.tt_frame.proofs.TestLaws.{and_both, le_of_test}
+use Rattle.tt_frame.proofs.TextLaws.{length_of_text, length_of_digest}
 use Rattle.tt_frame.proofs.FieldLaws.{wide_count}
 
 -- the most bytes of a field

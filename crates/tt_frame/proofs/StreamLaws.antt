@@ -1,5 +1,5 @@
 -- Any bytes are whole packets and then an end, in exactly one way.
-use Rattle.std.proofs.Common.{◌≡◌, ℕ, zero, suc, ◌+◌, ◌^◌, ◌<◌, ◌≤◌, inl, inr, Bool, true, false, List, [], ◌∷◌, ◌++◌, length, take, drop, refl, sym, ap, ap₂, ◌∙◌, subst, append_assoc, arith}
+use Rattle.std.proofs.Common.{◌≡◌, ℕ, zero, suc, ◌+◌, ◌^◌, ◌<◌, ◌≤◌, inl, inr, true, false, List, [], ◌∷◌, ◌++◌, length, take, drop, refl, sym, ap, ap₂, ◌∙◌, subst, append_assoc, arith}
 use Rattle.std.specs.List.{flat_map}
 use Rattle.std.specs.Prelude.{nat_lt}
 use Rattle.std.proofs.lemmas.Bool.{cases_lt}
@@ -9,6 +9,7 @@ use Rattle.tt_frame.specs.Packet.{IsBytes, Packet, packet_bytes, size_of}
 use Rattle.tt_frame.specs.Stream.{stream_of, told_size, Splits, IsPartial, IsBadSize, End, rest_of, bad_size, Reads}
 use Rattle.tt_frame.specs.Framing.{BeginsWith}
 use Rattle.tt_frame.proofs.PacketLaws.{begins_with_packet, size_within}
+use Rattle.tt_frame.proofs.TestLaws.{test_of_lt, no_test_of_le}
 use Rattle.tt_frame.specs.StreamReading.{packet_in, with_first, reading_within, reading}
 
 -- a packet tells its own size
@@ -158,12 +159,6 @@ some_reading limit bytes least fits = some_reading_within (length bytes) limit b
 
 -- ---- the reading as a function
 
-few_test : (a b : ℕ) → a < b → nat_lt a b ≡ true
-few_test a b few = grind arith
-
-many_test : (a b : ℕ) → b ≤ a → nat_lt a b ≡ false
-many_test a b many = grind arith
-
 reads_with : (limit : ℕ) (bytes : List ℕ) (p : Packet) (more : List ℕ) (later : List Packet × End) → BeginsWith limit bytes p more → Reads limit more later.0 later.1 → Reads limit bytes (with_first p later).0 (with_first p later).1
 reads_with limit bytes p more later first reads = reads_more limit bytes p more later.0 later.1 first reads
 
@@ -172,28 +167,28 @@ unfolding reading_within
 reading_within_reads zero limit bytes short least fits = record { splits = nothing_before limit bytes; partial = record { least = λ two. omega arith; most = λ two. omega arith; short = λ two. omega arith } }
 reading_within_reads (suc most) limit bytes short least fits = elim (cases_lt (length bytes) 2) [
   | inl one ↦
-      let test : nat_lt (length bytes) 2 ≡ true = few_test (length bytes) 2 one in
+      let test : nat_lt (length bytes) 2 ≡ true = test_of_lt (length bytes) 2 one in
       rw test (record { splits = nothing_before limit bytes; partial = record { least = λ two. omega arith; most = λ two. omega arith; short = λ two. omega arith } })
   | inr two ↦
-      let there : nat_lt (length bytes) 2 ≡ false = many_test (length bytes) 2 two in
+      let there : nat_lt (length bytes) 2 ≡ false = no_test_of_le (length bytes) 2 two in
       elim (cases_lt (told_size bytes) 3) [
         | inl low ↦
-            let test : nat_lt (told_size bytes) 3 ≡ true = few_test (told_size bytes) 3 low in
+            let test : nat_lt (told_size bytes) 3 ≡ true = test_of_lt (told_size bytes) 3 low in
             rw (there, test) (record { rest = bytes; splits = nothing_before limit bytes; bad = record { there = two; told = refl; bad = inl low } })
         | inr least_told ↦
-            let test : nat_lt (told_size bytes) 3 ≡ false = many_test (told_size bytes) 3 least_told in
+            let test : nat_lt (told_size bytes) 3 ≡ false = no_test_of_le (told_size bytes) 3 least_told in
             elim (cases_lt limit (told_size bytes)) [
               | inl high ↦
-                  let over : nat_lt limit (told_size bytes) ≡ true = few_test limit (told_size bytes) high in
+                  let over : nat_lt limit (told_size bytes) ≡ true = test_of_lt limit (told_size bytes) high in
                   rw (there, test, over) (record { rest = bytes; splits = nothing_before limit bytes; bad = record { there = two; told = refl; bad = inr high } })
               | inr most_told ↦
-                  let within : nat_lt limit (told_size bytes) ≡ false = many_test limit (told_size bytes) most_told in
+                  let within : nat_lt limit (told_size bytes) ≡ false = no_test_of_le limit (told_size bytes) most_told in
                   elim (cases_lt (length bytes) (told_size bytes)) [
                     | inl cut ↦
-                        let partly : nat_lt (length bytes) (told_size bytes) ≡ true = few_test (length bytes) (told_size bytes) cut in
+                        let partly : nat_lt (length bytes) (told_size bytes) ≡ true = test_of_lt (length bytes) (told_size bytes) cut in
                         rw (there, test, within, partly) (record { splits = nothing_before limit bytes; partial = record { least = λ _. least_told; most = λ _. most_told; short = λ _. cut } })
                     | inr whole ↦
-                        let all : nat_lt (length bytes) (told_size bytes) ≡ false = many_test (length bytes) (told_size bytes) whole in
+                        let all : nat_lt (length bytes) (told_size bytes) ≡ false = no_test_of_le (length bytes) (told_size bytes) whole in
                         rw (there, test, within, all)
                         (reads_with limit bytes (packet_in bytes (told_size bytes)) (drop (told_size bytes) bytes) (reading_within most limit (drop (told_size bytes) bytes))
                         (begins_with_packet bytes limit (told_size bytes) fits (omega arith) least_told most_told whole)

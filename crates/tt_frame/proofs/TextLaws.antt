@@ -1,27 +1,14 @@
 -- The test of a text is true exactly of the texts.
-use Rattle.std.proofs.Common.{◌≡◌, ℕ, ◌≤◌, ◌<◌, ◌↔◌, List, length, Bool, true, false, refl, arith, ◌⊎◌, inl, inr}
-use Rattle.std.specs.Prelude.{◌&&◌, ◌||◌, ◌==◌, nat_le}
+use Rattle.std.proofs.Common.{◌≡◌, ℕ, ◌≤◌, ◌<◌, ◌↔◌, List, length, Bool, true, false, refl, arith, inl, inr}
+use Rattle.std.specs.Prelude.{◌&&◌, ◌==◌, nat_le}
 use Rattle.std.specs.List.{list_all}
 use Rattle.std.specs.Str.{IsUtf8, is_utf8}
 use Rattle.std.proofs.lemmas.Str.{IsUtf8-from_is_utf8, IsUtf8-from_ascii, is_utf8-from_IsUtf8}
 use Rattle.std.proofs.lemmas.Str.Ascii.{IsAscii-from_all}
 use Rattle.std.proofs.lemmas.List.Elements.{All-weaker}
 use Rattle.std.proofs.lemmas.List.Sums.{AllPass-from_list_all, list_all-from_AllPass}
+use Rattle.tt_frame.proofs.TestLaws.{and_both, both_and, or_either, le_of_test, test_of_le, eq_of_test}
 use Rattle.tt_frame.specs.Text.{IsText, is_text, is_shown, is_plain, is_digest, is_hex_digit}
-
-pub and_both : (a b : Bool) → a && b ≡ true → (a ≡ true) × (b ≡ true)
-and_both true b e = (refl, e)
-and_both false b e = absurd cc
-
-both_and : (a b : Bool) → a ≡ true → b ≡ true → a && b ≡ true
-both_and true b _ e = e
-both_and false b e _ = e
-
-pub le_of_test : (a b : ℕ) → nat_le a b ≡ true → a ≤ b
-le_of_test a b e = grind arith
-
-test_of_le : (a b : ℕ) → a ≤ b → nat_le a b ≡ true
-test_of_le a b le = grind arith
 
 -- the three parts of the test
 parts_of : (max : ℕ) (bytes : List ℕ) → is_text max bytes ≡ true → (length bytes ≤ max) × (list_all is_shown bytes ≡ true) × (is_utf8 bytes ≡ true)
@@ -75,20 +62,13 @@ IsText-from_is_plain bytes e =
       shown = All-weaker (λ b. nat_le 32 b && nat_le b 126 ≡ true) (λ b. 32 ≤ b) (λ b p. (plain_byte b p).0) bytes each;
     }
 
-eq_of_test : (a b : ℕ) → (a == b) ≡ true → a ≡ b
-eq_of_test a b e = grind arith
-
 pub length_of_digest : (bytes : List ℕ) → is_digest bytes ≡ true → length bytes ≡ 32
 unfolding is_digest
 length_of_digest bytes e = eq_of_test (length bytes) 32 (and_both (length bytes == 32) (list_all is_hex_digit bytes) e).0
 
-either : (a b : Bool) → a || b ≡ true → (a ≡ true) ⊎ (b ≡ true)
-either true b e = inl refl
-either false b e = inr e
-
 -- a hexadecimal digit is a printable character
 plain_digit : (b : ℕ) → is_hex_digit b ≡ true → nat_le 32 b && nat_le b 126 ≡ true
-plain_digit b e = elim (either (nat_le 48 b && nat_le b 57) (nat_le 97 b && nat_le b 102) e) [
+plain_digit b e = elim (or_either (nat_le 48 b && nat_le b 57) (nat_le 97 b && nat_le b 102) e) [
   | inl low ↦ let both = and_both (nat_le 48 b) (nat_le b 57) low in both_and (nat_le 32 b) (nat_le b 126) (test_of_le 32 b (let le = le_of_test 48 b both.0 in omega arith)) (test_of_le b 126 (let le = le_of_test b 57 both.1 in omega arith))
   | inr high ↦ let both = and_both (nat_le 97 b) (nat_le b 102) high in both_and (nat_le 32 b) (nat_le b 126) (test_of_le 32 b (let le = le_of_test 97 b both.0 in omega arith)) (test_of_le b 126 (let le = le_of_test b 102 both.1 in omega arith))
 ]

@@ -1,5 +1,5 @@
 -- Items of several fields each, one behind the other: a known number of them, or each behind a mark.
-use Rattle.std.specs.Prelude.{ℕ, zero, suc, List, [], ◌∷◌, ◌++◌, Result, Ok, ◌==◌, if◌then◌else◌}
+use Rattle.std.specs.Prelude.{ℕ, zero, suc, List, [], ◌∷◌, ◌++◌, Option, Some, None, Result, Ok, ◌==◌, if◌then◌else◌}
 use Rattle.std.specs.Int.{w8}
 use Rattle.tt_frame.specs.Unread.{Unread}
 use Rattle.tt_frame.specs.Reading.{◌>>=◌, within_at}
@@ -51,3 +51,9 @@ marked_at fs zero s = within_at w8 0 s >>= λ m. Ok ([], m.1)
 marked_at fs (suc n) s =
     within_at w8 1 s >>= λ m.
     if m.0 == 0 then Ok ([], m.1) else (item_at fs m.1 >>= λ x. marked_at fs n x.1 >>= λ xs. Ok (x.0 ∷ xs.0, xs.1))
+
+-- what stands at a mark: behind a 1 the item, behind a 0 none, or the place of the mark or of the field that isn't there
+abbrev pub marked_item_at : (fs : List Field) → Unread → Result (Option (Item fs) × Unread) ℕ
+marked_item_at fs s =
+    within_at w8 1 s >>= λ m.
+    if m.0 == 0 then Ok (None, m.1) else (item_at fs m.1 >>= λ x. Ok (Some x.0, x.1))

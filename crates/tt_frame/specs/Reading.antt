@@ -86,3 +86,10 @@ abbrev pub FieldReadOrMemory : {X Y : Type 0} → (X → Y) → Result X Bad →
 FieldReadOrMemory view (Ok x) new reading = reading ≡ Ok (view x, new)
 FieldReadOrMemory view (Err Memory) new reading = Unit {0}
 FieldReadOrMemory view (Err (Malformed at)) new reading = reading ≡ Err at
+
+-- What a function answered that reads a byte which a message doesn't keep: it stood there and what is left is behind it, or
+-- the place where it isn't there.
+abbrev pub FixedRead : Result (Unit {0}) Bad → Unread → Result Unread ℕ → Type 0
+FixedRead (Ok _) new reading = reading ≡ Ok new
+FixedRead (Err Memory) new reading = ⊥
+FixedRead (Err (Malformed at)) new reading = reading ≡ Err at

@@ -8,6 +8,17 @@ pub record IsText (bytes : List ℕ) : Type 0 where
   pub utf8 : IsUtf8 bytes
   pub shown : All (λ byte. 32 ≤ byte) bytes
 
+-- a text of at most 31 bytes
+pub record IsShort (bytes : List ℕ) : Type 0 where
+  pub text : IsText bytes
+  pub fits : length bytes ≤ 31
+
+-- a text of 1 to 31 bytes
+pub record IsName (bytes : List ℕ) : Type 0 where
+  pub text : IsText bytes
+  pub some : 1 ≤ length bytes
+  pub fits : length bytes ≤ 31
+
 -- whether a byte is none of the 32 control bytes
 abbrev pub is_shown : ℕ → Bool
 is_shown byte = nat_le 32 byte

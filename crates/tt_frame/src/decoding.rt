@@ -2,9 +2,9 @@
 //!
 //! A message's function is one struct literal of these, `text(f)?`, `number32(f)?` and so on in the order of its row, and
 //! then `ended(f, message)`.
-ghost use Rattle.std.specs.Prelude.{◌≡◌};
+ghost use Rattle.std.specs.Prelude.{◌≡◌, ◌≤◌, IfOk};
 ghost use Rattle.std.specs.Int.{w8, w16, w32, w64};
-ghost use Rattle.tt_frame.specs.Reading.{FieldRead, number_at, within_at, truth_at, text_at, digest_at, optional_digest_at, raw_at};
+ghost use Rattle.tt_frame.specs.Reading.{FieldRead, number_at, within_at, truth_at, text_at, digest_at, optional_digest_at, raw_at, fixed_at, FixedRead};
 ghost use Rattle.tt_frame.specs.Rows.{ended_at};
 ghost use Rattle.tt_frame.specs.Tables.{MessageRead};
 
@@ -75,6 +75,32 @@ pub fn up_to<const M: u8>(f: &mut Fields) -> Result<UpTo<M>, Bad>
         Some(n) => Ok(n),
         None => Err(Bad::Malformed { at }),
     }
+}
+
+/// A number of two bytes from 0 to `max`.
+#[tactic(auto, unfolding(crate::specs::Reading::within_at))]
+pub fn number16_up_to(f: &mut Fields, max: u16) -> Result<u16, Bad>
+    ensures read { FieldRead (λ n. n) result f.new (within_at w16 max f.old) }
+    ensures few { IfOk result (λ n. n ≤ max) }
+{
+    let at = f.at();
+    let n = number16(f)?;
+    if n > max {
+        return Err(Bad::Malformed { at });
+    }
+    Ok(n)
+}
+
+/// A byte that is always this one, and that a message doesn't keep.
+#[tactic(auto, unfolding(crate::specs::Reading::fixed_at))]
+pub fn fixed(f: &mut Fields, byte: u8) -> Result<(), Bad>
+    ensures { FixedRead result f.new (fixed_at byte f.old) }
+{
+    let at = f.at();
+    if number8(f)? != byte {
+        return Err(Bad::Malformed { at });
+    }
+    Ok(())
 }
 
 /// A text of at most `N` bytes.

@@ -26,8 +26,8 @@ impl Model for Digest {
     ghost inverse = { λ bytes. record { digits = bytes } };
 }
 
-/// Whether each byte is a lower-case hexadecimal digit.
-fn are_hex_digits(bytes: &[u8]) -> bool
+/// Whether each byte is a digit or a lower-case letter from a to f.
+pub fn are_hex_digits(bytes: &[u8]) -> bool
     ensures { result ≡ list_all is_hex_digit bytes.now }
 {
     bytes.iter().all(|byte| (*byte >= 48 && *byte <= 57) || (*byte >= 97 && *byte <= 102))

@@ -3,8 +3,9 @@
 //! - `Text`, `Name`, `Digest` and `UpTo` are values within their limits: each is made by one tested constructor.
 //! - `Fields` reads a body field by field and `Put` writes fields; `one_field` is the law of reading.
 //! - `Framer` gives the packets of a stream that comes in pieces; `one_reading` and `every_run` are its laws.
-//! - The message crates stand on `text`, `number32`, `ended` and the like for decoding and on `append` for encoding, or on
-//!   `put_head` and `finish` where a body is written item by item. What a table of messages means is in specs/: FieldForms, ItemForms, Rows, Stops, Tables, Apart.
+//! - The message crates stand on `text`, `number32`, `ended` and the like for decoding, and for encoding on `append`, or
+//!   on `put_head` and `finish` where a body is written item by item. What a table of messages means is in specs/:
+//!   FieldForms, ItemForms, Rows, Stops, Tables, Apart.
 //! - `OutOfMemory` and `Bad` are the errors. Only `Framer::new` and what writes take memory, and nothing waits.
 #![tactic(auto)]
 
@@ -24,9 +25,10 @@ mod writing;
 
 pub use bad::Bad;
 pub use decoding::{
-    digest, ended, number8, number16, number32, number64, optional_digest, raw, text, truth, up_to,
+    digest, ended, fixed, number8, number16, number16_up_to, number32, number64, optional_digest,
+    raw, text, truth, up_to,
 };
-pub use digests::{Digest, digits_or_none};
+pub use digests::{Digest, are_hex_digits, digits_or_none};
 pub use fields::Fields;
 pub use framer::{Framer, Next, first_of};
 pub use laws::{every_run, one_field, one_reading, text_test};

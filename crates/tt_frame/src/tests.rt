@@ -3,8 +3,8 @@ ghost use Rattle.std.specs.Prelude.{◌≡◌, [], codes};
 
 use crate::{
     Bad, Digest, Fields, Framer, Line, Name, Next, OutOfMemory, Part, Put, Short, UpTo, append,
-    digest, digits_or_none, ended, finish, number8, number16, number32, number64, optional_digest,
-    put_head, raw, text, truth, up_to,
+    are_hex_digits, digest, digits_or_none, ended, finish, first_of, fixed, number8, number16,
+    number16_up_to, number32, number64, optional_digest, put_head, raw, text, truth, up_to,
 };
 use std::test::Fail;
 
@@ -315,4 +315,37 @@ fn a_packet_refused_on_the_way_is_taken_away(rt: HostRuntime) -> Result<(), Fail
     assert_eq!(rt; finish(&mut out, 1, Err(OutOfMemory)), Err(OutOfMemory));
     assert_eq!(rt; out.as_slice(), [9].as_slice());
     Ok(())
+}
+
+#[test]
+fn a_first_packet_is_told_with_what_stands_behind_it(rt: HostRuntime) {
+    match first_of(&[4, 0, 9, 7, 5], 32767) {
+        Next::Packet { kind, body } => {
+            assert_eq!(rt; kind, 9);
+            assert_eq!(rt; body, [7].as_slice());
+        }
+        _ => assert!(rt; false),
+    }
+    assert!(rt; matches!(first_of(&[4, 0, 9], 32767), Next::Partial));
+    assert!(rt; matches!(first_of(&[2, 0, 9], 32767), Next::BadSize(2)));
+}
+
+#[test]
+fn a_byte_that_always_stands_there_is_read_over(rt: HostRuntime) -> Result<(), Fail> {
+    let mut f = Fields::new(&[1, 255, 0, 0, 1]);
+    assert_eq!(rt; fixed(&mut f, 1), Ok(()));
+    assert_eq!(rt; number16_up_to(&mut f, 255), Ok(255));
+    assert_eq!(rt; number16_up_to(&mut f, 255), Err(Bad::Malformed { at: 3 }));
+    assert_eq!(rt;
+        fixed(&mut Fields::new(&[2]), 1),
+        Err(Bad::Malformed { at: 0 })
+    );
+    Ok(())
+}
+
+#[test]
+fn digits_are_lower_case(rt: HostRuntime) {
+    assert!(rt; are_hex_digits(b"09af"));
+    assert!(rt; !are_hex_digits(b"0A"));
+    assert!(rt; !are_hex_digits(b"0g"));
 }

@@ -10,10 +10,15 @@ use crate::sealing::{finish, put_head};
 /// A part of a body: a field's value.
 #[derive(Clone, Copy)]
 pub enum Part<'a> {
+    /// A number of one byte.
     U8(u8),
+    /// A number of two bytes, the low one first.
     U16(u16),
+    /// A number of four bytes, the low one first.
     U32(u32),
+    /// A number of eight bytes, the low one first.
     U64(u64),
+    /// One byte: 1 for true, 0 for false.
     Truth(bool),
     /// A text; a zero byte is written behind it.
     Words(&'a [u8]),
@@ -21,6 +26,7 @@ pub enum Part<'a> {
     Raw(&'a [u8]),
 }
 
+/// One part.
 fn put_part(out: &mut Vec<u8>, part: &Part) -> Result<(), OutOfMemory>
     requires { PartFits part.now }
     ensures ok { OnOk result (out.new.items ≡ out.old.items ++ part_spelled part.now) }
@@ -37,6 +43,7 @@ fn put_part(out: &mut Vec<u8>, part: &Part) -> Result<(), OutOfMemory>
     }
 }
 
+/// The parts one behind the other. Where memory is refused some of them may stand behind what stood there.
 fn put_parts(out: &mut Vec<u8>, parts: &[Part]) -> Result<(), OutOfMemory>
     requires { PartsFit parts.now }
     ensures ok { OnOk result (out.new.items ≡ out.old.items ++ parts_spelled parts.now) }
@@ -61,7 +68,7 @@ fn put_all(out: &mut Vec<u8>, kind: u8, parts: &[Part]) -> Result<(), OutOfMemor
 }
 
 /// Appends one packet of that number, with the parts one behind the other as its body, or nothing where memory is
-/// refused.
+/// refused: at most 20 parts, each text a text, and each text and run of plain bytes of at most 1,400 bytes.
 pub fn append(out: &mut Vec<u8>, kind: u8, parts: &[Part]) -> Result<(), OutOfMemory>
     requires few { length parts.now ≤ 20 }
     requires fit { PartsFit parts.now }

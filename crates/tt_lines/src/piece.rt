@@ -1,13 +1,11 @@
 //! Bytes in hexadecimal digits.
 ghost use Rattle.std.specs.Prelude.{◌≡◌, ◌≢◌, ℕ, List, IfOk, IfSome, IfNone};
-ghost use Rattle.std.specs.List.{list_all};
 ghost use Rattle.hex.specs.Hex.{encode_lower};
-ghost use Rattle.tt_frame.specs.Text.{is_hex_digit};
 ghost use Rattle.tt_lines.specs.Digits.{IsPiece};
 
 use hex::FromHexError;
 use std::alloc::Global;
-use tt_frame::OutOfMemory;
+use tt_frame::{OutOfMemory, are_hex_digits};
 
 /// The bytes, at least one, that pairs of lower-case digits spell. None exactly where they spell none.
 pub fn piece_of(alloc: Global, digits: &[u8]) -> Result<Option<Vec<u8>>, OutOfMemory>
@@ -17,7 +15,7 @@ pub fn piece_of(alloc: Global, digits: &[u8]) -> Result<Option<Vec<u8>>, OutOfMe
     if digits.is_empty() {
         return Ok(None);
     }
-    if !are_lower_digits(digits) {
+    if !are_hex_digits(digits) {
         return Ok(None);
     }
     match hex::decode(alloc, digits) {
@@ -27,13 +25,4 @@ pub fn piece_of(alloc: Global, digits: &[u8]) -> Result<Option<Vec<u8>>, OutOfMe
         Err(FromHexError::InvalidStringLength) => Ok(None),
         Err(FromHexError::InvalidHexCharacter { .. }) => Ok(None),
     }
-}
-
-/// Whether each byte is a digit or a lower-case letter from a to f.
-fn are_lower_digits(digits: &[u8]) -> bool
-    ensures digits { result ≡ list_all is_hex_digit digits.now }
-{
-    digits
-        .iter()
-        .all(|b| (*b >= 48 && *b <= 57) || (*b >= 97 && *b <= 102))
 }

@@ -9,7 +9,7 @@ use Rattle.std.proofs.lemmas.List.{append-nil, length-append}
 use Rattle.std.proofs.lemmas.List.Elements.{All-head, All-tail}
 use Rattle.std.proofs.lemmas.List.Concat.{flat_map-cons}
 use Rattle.tt_frame.specs.Packet.{IsBytes}
-use Rattle.tt_frame.proofs.TextLaws.{and_both, le_of_test}
+use Rattle.tt_frame.proofs.TestLaws.{and_both, le_of_test}
 use Rattle.tt_world.specs.World.{WorldState}
 use Rattle.tt_world.specs.Sound.{IsCompany, IsSign, RiseFrom}
 use Rattle.tt_world.specs.declared.company.Company.{Company}

@@ -6,7 +6,7 @@ use Rattle.std.specs.Int.{w32, w64}
 use Rattle.std.proofs.lemmas.Bool.Decides.{nat_tests}
 use Rattle.std.proofs.lemmas.Int.{fits_signed_from_abs, ints}
 use Rattle.tt_frame.specs.Packet.{IsBytes}
-use Rattle.tt_frame.proofs.TextLaws.{and_both, le_of_test}
+use Rattle.tt_frame.proofs.TestLaws.{and_both, le_of_test}
 use Rattle.tt_world.specs.Sound.{most_money, IsCompany}
 use Rattle.tt_world.specs.Commands.{has_name}
 use Rattle.tt_world.specs.declared.company.Company.{Company}

@@ -8,7 +8,7 @@ use Rattle.std.proofs.lemmas.List.Folds.{list_any-append}
 use Rattle.std.proofs.lemmas.List.Concat.{flat_map-cons}
 use Rattle.std.proofs.Math.Seq.{set-append_seam}
 use Rattle.tt_frame.specs.Packet.{IsBytes}
-use Rattle.tt_frame.proofs.TextLaws.{and_both, le_of_test}
+use Rattle.tt_frame.proofs.TestLaws.{and_both, le_of_test}
 use Rattle.tt_world.specs.Sound.{IsCompany}
 use Rattle.tt_world.specs.Commands.{has_name}
 use Rattle.tt_world.specs.declared.company.Company.{Company}

@@ -7,7 +7,7 @@ use Rattle.std.proofs.lemmas.Bool.Decides.{nat_tests}
 use Rattle.std.proofs.lemmas.List.Elements.{All-cons, All-nil, All-head, All-tail}
 use Rattle.std.proofs.lemmas.List.Concat.{flat_map-cons}
 use Rattle.tt_frame.specs.Packet.{IsBytes}
-use Rattle.tt_frame.proofs.TextLaws.{and_both, le_of_test}
+use Rattle.tt_frame.proofs.TestLaws.{and_both, le_of_test}
 use Rattle.tt_world.specs.World.{company_at}
 use Rattle.tt_world.specs.Sound.{IsSign, RiseFrom}
 use Rattle.tt_world.specs.declared.company.Company.{Company}

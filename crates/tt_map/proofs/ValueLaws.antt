@@ -8,10 +8,10 @@ use Rattle.std.proofs.lemmas.Nat.{be_bytes_2, be_bytes_4, be_bytes_8, from_be_by
 use Rattle.std.proofs.lemmas.Int.{of_z-to_z}
 use mir.Facts.{to_z-of_z, Fits-of_z}
 use Rattle.tt_frame.specs.Packet.{IsBytes}
-use Rattle.tt_frame.specs.Text.{is_text}
+use Rattle.tt_frame.specs.Text.{is_text, IsName}
 use Rattle.tt_frame.proofs.FieldLaws.{IsBytes-drop}
-use Rattle.tt_frame.proofs.TextLaws.{and_both, le_of_test, IsText-from_is_text, length_of_text, is_text-from_IsText}
-use Rattle.tt_world.specs.Sound.{IsName}
+use Rattle.tt_frame.proofs.TestLaws.{and_both, le_of_test}
+use Rattle.tt_frame.proofs.TextLaws.{IsText-from_is_text, length_of_text, is_text-from_IsText}
 use Rattle.tt_map.specs.Layout.{i64, words}
 use Rattle.tt_map.specs.Reading.{◌>>=◌, passed, bytes_here, byte_here, number_here, signed_here, is_name, name_here}
 

@@ -12,7 +12,7 @@ ghost use Rattle.tt_show.specs.ValueWords.{value_word};
 
 use crate::forms::{Form, Width};
 use tt_frame::{
-    Bad, Digest, Fields, digest, number8, number16, number32, number64, optional_digest, truth,
+    Bad, Digest, Fields, digest, fixed, number8, number16, number32, number64, optional_digest, truth,
 };
 
 /// A field's value.
@@ -40,16 +40,11 @@ pub fn count_of(f: &mut Fields, width: Width, max: u16) -> Result<u16, Bad>
 }
 
 /// The byte that is always this one.
-#[tactic(auto, unfolding(tt_frame::specs::Reading::fixed_at))]
 pub fn fixed_of(f: &mut Fields, byte: u8) -> Result<u8, Bad>
     ensures { FieldRead (λ n. word (decimal n)) result f.new (fixed_read byte f.old) }
 {
-    let at = f.at();
-    let n = number8(f)?;
-    if n != byte {
-        return Err(Bad::Malformed { at });
-    }
-    Ok(n)
+    fixed(f, byte)?;
+    Ok(byte)
 }
 
 /// A text of at most so many bytes.

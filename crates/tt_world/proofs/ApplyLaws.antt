@@ -13,7 +13,8 @@ use Rattle.tt_world.specs.declared.command.Code.TheVariants.{IncreaseLoan, Decre
 use Rattle.tt_world.specs.declared.command.Entry.{Entry}
 use Rattle.tt_world.specs.Reasons.{◌⇒◌, ◌or_else◌}
 use Rattle.tt_world.specs.World.{WorldState, company_at, company_of}
-use Rattle.tt_world.specs.Sound.{IsSound, IsName, IsShort, most_money}
+use Rattle.tt_frame.specs.Text.{IsName, IsShort}
+use Rattle.tt_world.specs.Sound.{IsSound, most_money}
 use Rattle.tt_world.specs.Laws.{total_money}
 use Rattle.tt_world.specs.Commands.{refusal_by, refusal, done_by, done, answered, applied, of_live, changed, richer, poorer, given, gift_refusal, rename_refusal, place_refusal, president_refusal, is_name_of_another}
 use Rattle.tt_world.proofs.CommandLaws.{passes, passes_last, live, or_neither, not_false, gift_allowed, other_place, still_live, IsSound-increased, IsSound-decreased, IsSound-president, IsSound-paused, IsSound-poorer, IsSound-richer, IsSound-renamed}

@@ -11,7 +11,8 @@ use Rattle.tt_world.specs.declared.effect.Why.{Why}
 use Rattle.tt_world.specs.declared.effect.Why.TheVariants.{Amount, Loan, Money, NoCompany}
 use Rattle.tt_world.specs.Reasons.{◌⇒◌, ◌or_else◌}
 use Rattle.tt_world.specs.World.{WorldState, company_at, company_of}
-use Rattle.tt_world.specs.Sound.{IsCompany, IsSign, IsSound, IsName, most_money}
+use Rattle.tt_frame.specs.Text.{IsName}
+use Rattle.tt_world.specs.Sound.{IsCompany, IsSign, IsSound, most_money}
 use Rattle.tt_world.specs.Commands.{changed, of_live, is_loan_sum, is_below, would_pass, increase_refusal, increased, decrease_refusal, decreased, gift_refusal, richer, poorer, president_renamed, renamed, has_name, is_name_of_another}
 use Rattle.tt_world.proofs.SoundLaws.{Follows, Follows-same, Follows-map, FollowsEach, IsSound-follows}
 

@@ -8,7 +8,8 @@ use Rattle.std.proofs.lemmas.List.Elements.{All-weaker}
 use Rattle.tt_frame.proofs.TextLaws.{IsText-from_is_plain}
 use Rattle.tt_world.specs.declared.company.Company.{Company}
 use Rattle.tt_world.specs.World.{WorldState, company_at}
-use Rattle.tt_world.specs.Sound.{IsCompany, IsSign, IsSound, IsName}
+use Rattle.tt_frame.specs.Text.{IsName}
+use Rattle.tt_world.specs.Sound.{IsCompany, IsSign, IsSound}
 use Rattle.tt_world.specs.Commands.{new_number, new_name, new_company, founded}
 use Rattle.tt_world.proofs.CommandLaws.{none_has}
 use Rattle.tt_world.proofs.NameLaws.{IsName-new, new_name_is_free}

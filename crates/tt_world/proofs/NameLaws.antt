@@ -9,10 +9,9 @@ use Rattle.std.specs.Fmt.{digits}
 use Rattle.std.proofs.lemmas.Fmt.{decimal_digit, decimal_injective}
 use Rattle.std.proofs.lemmas.Slice.Eq.{bytes_eq-Decides}
 use Rattle.std.proofs.lemmas.Map.Made.{length-le_from_is_member}
-use Rattle.tt_frame.specs.Text.{is_plain}
+use Rattle.tt_frame.specs.Text.{is_plain, IsName}
 use Rattle.tt_frame.proofs.TextLaws.{IsText-from_is_plain}
 use Rattle.tt_world.specs.declared.company.Company.{Company}
-use Rattle.tt_world.specs.Sound.{IsName}
 use Rattle.tt_world.specs.Commands.{has_name, numbered_name, least_name, new_name}
 
 and_both : (a b : Bool) → a && b ≡ true → (a ≡ true) × (b ≡ true)

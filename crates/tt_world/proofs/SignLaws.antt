@@ -6,7 +6,8 @@ use Rattle.std.proofs.lemmas.Bool.Decides.{nat_tests, eqb_tells}
 use Rattle.std.proofs.lemmas.List.Elements.{All-weaker, All-cons, All-head, All-tail, All-map, All-filter}
 use Rattle.tt_world.specs.declared.sign.Sign.{Sign}
 use Rattle.tt_world.specs.World.{WorldState, company_of}
-use Rattle.tt_world.specs.Sound.{IsSign, IsSound, IsName, RiseFrom}
+use Rattle.tt_frame.specs.Text.{IsName}
+use Rattle.tt_world.specs.Sound.{IsSign, IsSound, RiseFrom}
 use Rattle.tt_world.specs.Commands.{least_unused, new_id, with_sign, placed, is_sign_of, without_sign, with_text}
 use Rattle.tt_world.specs.Gap.{gap_from}
 

@@ -1,6 +1,6 @@
 -- What is true of every world.
 use Rattle.std.specs.Prelude.{◌≡◌, ℕ, ◌+◌, ◌*◌, ◌%◌, ◌^◌, ◌<◌, ◌≤◌, List, [], ◌∷◌, length, Option, Some, IsSome, pos, neg_ℤ, ◌≤ℤ◌, All}
-use Rattle.tt_frame.specs.Text.{IsText}
+use Rattle.tt_frame.specs.Text.{IsName}
 use Rattle.tt_world.specs.declared.company.Company.{Company}
 use Rattle.tt_world.specs.declared.sign.Sign.{Sign}
 use Rattle.tt_world.specs.World.{WorldState, company_at}
@@ -9,17 +9,7 @@ use Rattle.tt_world.specs.World.{WorldState, company_at}
 abbrev pub most_money : ℕ
 most_money = 9 * 10 ^ 15
 
--- a text of 1 to 31 bytes
-pub record IsName (bytes : List ℕ) : Type 0 where
-  pub text : IsText bytes
-  pub some : 1 ≤ length bytes
-  pub fits : length bytes ≤ 31
-
--- a text of at most 31 bytes
-pub record IsShort (bytes : List ℕ) : Type 0 where
-  pub text : IsText bytes
-  pub fits : length bytes ≤ 31
-
+-- what is true of each live company
 pub record IsCompany (c : Company) : Type 0 where
   pub least_money : neg_ℤ (pos most_money) ≤ℤ c.money
   pub most_money : c.money ≤ℤ pos most_money

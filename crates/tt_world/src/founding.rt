@@ -1,7 +1,7 @@
 //! What a new company gets: its number, its name, and a loan.
 ghost use Rattle.std.specs.Prelude.{◌≡◌, ◌≤◌, ◌<◌, true, is_none, length};
 ghost use Rattle.std.specs.List.{list_any, position};
-ghost use Rattle.tt_world.specs.Sound.{IsName};
+ghost use Rattle.tt_frame.specs.Text.{IsName};
 ghost use Rattle.tt_world.specs.Commands.{numbered_name, new_name, new_number, new_company};
 
 use crate::company::Company;

@@ -10,10 +10,12 @@ ghost use Rattle.tt_coord.specs.declared.coord.CoordMsg.{CoordMsg};
 use crate::coord::CoordMsg;
 use crate::file_list::lookup_files;
 use crate::info::Info;
-use crate::parts::{count16, version};
+use crate::parts::version;
 use crate::server_list::listed_servers;
 use std::alloc::Global;
-use tt_frame::{Bad, Fields, UpTo, ended, number8, number16, number32, text, truth, up_to};
+use tt_frame::{
+    Bad, Fields, UpTo, ended, number8, number16, number16_up_to, number32, text, truth, up_to,
+};
 
 fn gc_error(f: &mut Fields) -> Result<CoordMsg, Bad>
     ensures { MessageReadOrMemory result (read_by coord_messages 0 f.old) }
@@ -78,7 +80,7 @@ fn client_listing(f: &mut Fields) -> Result<CoordMsg, Bad>
 fn gc_listing(alloc: Global, f: &mut Fields) -> Result<CoordMsg, Bad>
     ensures { MessageReadOrMemory result (read_by coord_messages 5 f.old) }
 {
-    let count = count16(f)?;
+    let count = number16_up_to(f, 255)?;
     let message = CoordMsg::GcListing {
         items: listed_servers(alloc, count, f)?,
     };

@@ -3,7 +3,7 @@ use Rattle.std.proofs.lemmas.List.{length-append}
 use Rattle.tt_frame.specs.ItemForms.{Item, marked_at}
 use Rattle.tt_frame.proofs.ItemLoops.{with_front, error_or_memory}
 use Rattle.tt_admin.specs.Items.{command_name}
-use Rattle.tt_admin.proofs.MarkLaws.{goes_on, ends, fails_as, is_full, overruns_as}
+use Rattle.tt_frame.proofs.MarkLoops.{goes_on, ends, fails_as, is_full, overruns_as}
 use Rattle.tt_admin.proofs.command_list.command_names.Goals as goal
 
 pub returns-in-Ok-None : goal.returns-in-Ok-None

@@ -1,7 +1,7 @@
 use Rattle.std.proofs.Common.{take}
 use Rattle.tt_admin.specs.Items.{command_name}
 use Rattle.tt_frame.proofs.SealLaws.{front_of_front}
-use Rattle.tt_admin.proofs.MarkLaws.{marked_front, one_marked, all_marked}
+use Rattle.tt_frame.proofs.MarkLoops.{marked_front, one_marked, all_marked}
 use Rattle.tt_admin.proofs.command_list.put_names.Goals as goal
 
 pub returns-in-Err-clause-err : goal.returns-in-Err-clause-err

@@ -3,7 +3,7 @@ use Rattle.std.proofs.lemmas.List.{length-append}
 use Rattle.tt_frame.specs.ItemForms.{Item, marked_at}
 use Rattle.tt_frame.proofs.ItemLoops.{with_front}
 use Rattle.tt_admin.specs.Items.{update_type}
-use Rattle.tt_admin.proofs.MarkLaws.{goes_on, ends, fails_as, is_full, overruns_as}
+use Rattle.tt_frame.proofs.MarkLoops.{goes_on, ends, fails_as, is_full, overruns_as}
 use Rattle.tt_admin.proofs.update_list.update_types.Goals as goal
 
 pub returns-in-Ok-None : goal.returns-in-Ok-None

@@ -2,7 +2,7 @@ use Rattle.std.proofs.Common.{take}
 use Rattle.tt_frame.specs.ItemForms.{items_spelled}
 use Rattle.tt_coord.specs.Items.{file}
 use Rattle.tt_frame.proofs.SealLaws.{front_of_front}
-use Rattle.tt_coord.proofs.ItemWriting.{one_item, all_items}
+use Rattle.tt_frame.proofs.ItemLoops.{one_item, all_items}
 use Rattle.tt_coord.proofs.file_list.put_each.Goals as goal
 
 pub returns-in-Err-clause-err : goal.returns-in-Err-clause-err

@@ -4,7 +4,7 @@ use Rattle.tt_frame.specs.Text.{text_bytes}
 use Rattle.tt_frame.specs.FieldForms.{u8, u32, truth, spelled}
 use Rattle.tt_frame.specs.ItemForms.{Item, item_spelled}
 use Rattle.tt_coord.specs.Items.{listed}
-use Rattle.tt_coord.proofs.ItemWriting.{in_turn}
+use Rattle.tt_frame.proofs.ItemLoops.{in_turn}
 use Rattle.tt_coord.proofs.server_list.put_server.Goals as goal
 
 pub returns-clause-ok : goal.returns-clause-ok

@@ -8,8 +8,8 @@ use Rattle.tt_lines.proofs.piece.piece_of.Goals as goal
 pub returns-then-is_empty-clause-none : goal.returns-then-is_empty-clause-none
 returns-then-is_empty-clause-none c = no_digits_none c.args.digits.now (eqb-true _ _ (sym c.is_empty.ensures ∙ c.if-is_empty.true))
 
-pub returns-then-not-are_lower_digits-clause-none : goal.returns-then-not-are_lower_digits-clause-none
-returns-then-not-are_lower_digits-clause-none c =
+pub returns-then-not-are_hex_digits-clause-none : goal.returns-then-not-are_hex_digits-clause-none
+returns-then-not-are_hex_digits-clause-none c =
     let bad : list_all is_hex_digit c.args.digits.now ≡ false = cc in
     other_digits_none c.args.digits.now bad
 

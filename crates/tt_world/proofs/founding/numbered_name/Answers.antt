@@ -1,5 +1,5 @@
 use Rattle.std.proofs.Common.{◌≡◌, ◌+◌, ◌-◌, ◌≤◌, ◌∙◌, ap, sym, subst, arith}
-use Rattle.tt_world.specs.Sound.{IsName}
+use Rattle.tt_frame.specs.Text.{IsName}
 use Rattle.tt_world.specs.Commands.{numbered_name}
 use Rattle.tt_world.proofs.NameLaws.{IsName-numbered, one_digit, two_digits}
 use Rattle.tt_world.proofs.founding.numbered_name.Goals as goal

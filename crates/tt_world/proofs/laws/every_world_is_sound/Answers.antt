@@ -1,7 +1,7 @@
 use Rattle.std.proofs.Common.{subst, length, ◌≤◌}
-use Rattle.tt_frame.specs.Text.{IsText}
+use Rattle.tt_frame.specs.Text.{IsText, IsShort}
 use Rattle.tt_world.specs.World.{WorldState}
-use Rattle.tt_world.specs.Sound.{IsSound, IsShort}
+use Rattle.tt_world.specs.Sound.{IsSound}
 use Rattle.tt_world.proofs.ApplyLaws.{IsSound-applied}
 use Rattle.tt_world.proofs.FrameLaws.{IsSound-framed}
 use Rattle.tt_world.proofs.laws.every_world_is_sound.Goals as goal

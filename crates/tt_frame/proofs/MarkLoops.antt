@@ -7,9 +7,8 @@ use Rattle.tt_frame.specs.Reading.{◌>>=◌, within_at, FieldRead}
 use Rattle.tt_frame.specs.declared.bad.Bad.{Bad}
 use Rattle.tt_frame.specs.declared.bad.Bad.TheVariants.{Memory, Malformed}
 use Rattle.tt_frame.specs.FieldForms.{Field}
-use Rattle.tt_frame.specs.ItemForms.{Item, item_spelled, item_at, marked_at, marked_spelled}
-use Rattle.tt_frame.proofs.ItemLoops.{with_front}
-use Rattle.tt_admin.specs.Marks.{marked_item_at}
+use Rattle.tt_frame.specs.ItemForms.{Item, item_spelled, item_at, marked_at, marked_spelled, marked_item_at}
+use Rattle.tt_frame.proofs.ItemLoops.{with_front, regroup}
 
 -- what stands behind an item, or behind the last mark
 abbrev behind : (fs : List Field) → ℕ → Option (Item fs) × Unread → Result (List (Item fs) × Unread) ℕ
@@ -41,10 +40,6 @@ by_mark fs n (Err e) = refl
 one_by_one : (fs : List Field) (n : ℕ) (s : Unread) → marked_at fs (suc n) s ≡ (marked_item_at fs s >>= behind fs n)
 unfolding marked_at
 one_by_one fs n s = by_mark fs n (within_at w8 1 s)
-
-regroup : (fs : List Field) (front : List (Item fs)) (x : Item fs) (r : Result (List (Item fs) × Unread) ℕ) → with_front fs front (r >>= λ xs. Ok (x ∷ xs.0, xs.1)) ≡ with_front fs (front ++ x ∷ []) r
-regroup fs front x (Ok y) = ap (λ (xs : List (Item fs)). Ok (xs, y.1)) (sym (append_assoc front (x ∷ []) y.0))
-regroup fs front x (Err e) = refl
 
 pub goes_on : (fs : List Field) (front : List (Item fs)) (n i : ℕ) (s : Unread) (x : Item fs) (t : Unread) (total : Result (List (Item fs) × Unread) ℕ) → i < n → marked_item_at fs s ≡ Ok (Some x, t)
     → with_front fs front (marked_at fs (n - i) s) ≡ total → with_front fs (front ++ x ∷ []) (marked_at fs (n - (i + 1)) t) ≡ total
