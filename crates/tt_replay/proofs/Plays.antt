@@ -24,7 +24,8 @@ use Rattle.tt_replay.specs.declared.play.Play.{Play}
 use Rattle.tt_log.specs.declared.script.line.Line1.TheVariants as line
 use Rattle.tt_replay.specs.Played.{Played, reader_limit, stream_events, added, until_ended, nobody, with_piece, done}
 use Rattle.tt_replay.specs.Playing.{IsAt}
-use Rattle.tt_replay.proofs.Streams.{read_packet, read_partial, events_packet, events_partial, events_bad_size, read_joined, added_is}
+use Rattle.tt_frame.proofs.FirstLaws.{read_packet, read_partial}
+use Rattle.tt_replay.proofs.Streams.{events_packet, events_partial, events_bad_size, read_joined, added_is}
 
 -- ---- which events are taken
 
@@ -110,7 +111,7 @@ next_packet setup conn bytes place kind body rest start events after fits within
       events = ap₂ (λ (es : List Event) (xs : List ℕ). until_ended setup conn es (stream_events conn xs)) more behind
           ∙ sym (until_ended-live setup conn events (event.Packet conn kind body) (stream_events conn rest) live)
           ∙ ap (until_ended setup conn events) (sym (events_packet conn (drop place bytes) (record { kind = kind; body = body }) rest also left first)) ∙ so_far;
-      rest = ap (λ (xs : List ℕ). (reading reader_limit xs).1) behind ∙ sym (read_packet (drop place bytes) (record { kind = kind; body = body }) rest also left first).1 ∙ ends;
+      rest = ap (λ (xs : List ℕ). (reading reader_limit xs).1) behind ∙ sym (read_packet reader_limit (drop place bytes) (record { kind = kind; body = body }) rest (omega arith) (omega arith) also left first).1 ∙ ends;
     }
 
 -- no packet is whole any more
@@ -120,7 +121,7 @@ partial_events setup conn bytes place start events fits partial so_far = ap (unt
 
 pub partial_rest : (bytes : List ℕ) (place : ℕ) → IsBytes bytes → IsPartial reader_limit (drop place bytes) → (reading reader_limit (drop place bytes)).1 ≡ (reading reader_limit bytes).1
     → (reading reader_limit bytes).1 ≡ rest_of (drop place bytes)
-partial_rest bytes place fits partial ends = sym ends ∙ (read_partial (drop place bytes) (bytes_drop place bytes fits) partial).1
+partial_rest bytes place fits partial ends = sym ends ∙ (read_partial reader_limit (drop place bytes) (omega arith) (omega arith) (bytes_drop place bytes fits) partial).1
 
 -- a bad size
 pub broken_events : (setup : Setup) (conn : ℕ) (bytes : List ℕ) (place n : ℕ) (start events after : List Event) → IsBytes bytes → IsBadSize reader_limit (drop place bytes) n → is_live setup events conn ≡ true → after ≡ events ++ event.Broken conn ∷ []

@@ -1,7 +1,8 @@
-//! The replay program writes, for the script that it reads, the report of that script's game, and nothing else.
+//! The replay program: `tt_replay run` writes the report of the script on standard input, `check` whether its report is
+//! the one that it expects, and `show` packets in words.
 //!
-//! `tt_replay run` reads the script from standard input and writes the report to standard output. The exit status
-//! says how it went; docs/PROTOCOL.md tells scripts, reports and statuses.
+//! It does nothing but hand its words, standard input and standard output to `replay_main`, whose contract says which
+//! exit status comes when and what is written. docs/PROTOCOL.md tells scripts, lists, reports and statuses.
 #![tactic(auto)]
 
 mod expecting;
