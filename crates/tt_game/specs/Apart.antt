@@ -47,8 +47,10 @@ apart (ServerQuit client) = part messages 36 (client, tt)
 apart ServerShutdown = part messages 37 tt
 apart ServerNewgame = part messages 38 tt
 
+-- its number
 abbrev pub kind_of : GameMsg → ℕ
 kind_of m = (apart m).kind
 
+-- the bytes of its body
 abbrev pub body_bytes : GameMsg → List ℕ
 body_bytes m = parted_body messages (apart m)

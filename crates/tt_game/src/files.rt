@@ -85,7 +85,7 @@ impl Files {
         }
     }
 
-    /// One file more, behind the others.
+    /// One file more, behind the others, of which there are fewer than 62.
     pub fn push(&mut self, file: File)
         requires { length self.old < 62 }
         ensures { self.new ≡ self.old ++ file ∷ [] }
@@ -103,6 +103,7 @@ impl Files {
     }
 }
 
+/// The next file.
 fn one_file(f: &mut Fields) -> Result<File, Bad>
     ensures { FieldRead (λ x. x) result f.new (item_at file f.old) }
 {
@@ -130,6 +131,7 @@ pub(crate) fn file_list(count: u8, f: &mut Fields) -> Result<Files, Bad>
 /// Room for the bytes of 62 files, of 20 each.
 type FileBytes = ArrayVec<u8, 1240>;
 
+/// More bytes, for which there is room.
 fn add(bytes: &mut FileBytes, more: &[u8])
     requires { length bytes.old.items + length more.now ≤ 1240 }
     ensures { bytes.new.items ≡ bytes.old.items ++ more.now }

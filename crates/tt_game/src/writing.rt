@@ -9,6 +9,7 @@ use crate::files::put_files;
 use crate::message::GameMsg;
 use tt_frame::{OutOfMemory, Part, append, digits_or_none};
 
+/// Appends the message's packet, or nothing.
 fn put(message: &GameMsg, out: &mut Vec<u8>) -> Result<(), OutOfMemory>
     ensures fits { PartedFits messages (apart message.now) }
     ensures ok { OnOk result (out.new.items ≡ out.old.items ++ packet (kind_of message.now) (body_bytes message.now)) }
