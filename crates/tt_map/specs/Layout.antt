@@ -8,9 +8,11 @@ use Rattle.tt_world.specs.declared.sign.Sign.{Sign}
 
 -- ---- values
 
+-- a number of two bytes
 abbrev pub u16 : ℕ → List ℕ
 u16 n = to_be_bytes w16 n
 
+-- a number of four bytes
 abbrev pub u32 : ℕ → List ℕ
 u32 n = to_be_bytes w32 n
 
@@ -18,13 +20,14 @@ u32 n = to_be_bytes w32 n
 abbrev pub i64 : ℤ → List ℕ
 i64 z = to_be_bytes w64 (cast_unsigned w64 z)
 
+-- a truth is 1, and its contrary 0
 abbrev pub flag : Bool → ℕ
 flag true = 1
 flag false = 0
 
 -- a text behind its length
-abbrev pub words : List ℕ → List ℕ
-words text = length text ∷ text
+abbrev pub text_body : List ℕ → List ℕ
+text_body text = length text ∷ text
 
 -- the live companies of these places, of which the first has the number n: each with its number, in rising order
 abbrev pub live_from : ℕ → List (Option Company) → List (ℕ × Company)
@@ -32,11 +35,13 @@ live_from n [] = []
 live_from n (None ∷ places) = live_from (n + 1) places
 live_from n (Some c ∷ places) = (n, c) ∷ live_from (n + 1) places
 
+-- a live company: its number, its money and its loan, its name and its president's
 abbrev pub company_bytes : ℕ × Company → List ℕ
-company_bytes live = live.0 ∷ i64 live.1.money ++ u32 live.1.loan ++ words live.1.name ++ words live.1.president
+company_bytes live = live.0 ∷ i64 live.1.money ++ u32 live.1.loan ++ text_body live.1.name ++ text_body live.1.president
 
+-- a sign: its id, its owner and its tile, and what it says
 abbrev pub sign_bytes : Sign → List ℕ
-sign_bytes g = u16 g.id ++ g.owner ∷ u32 g.tile ++ words g.text
+sign_bytes g = u16 g.id ++ g.owner ∷ u32 g.tile ++ text_body g.text
 
 -- ---- chunks
 
@@ -82,6 +87,7 @@ part_of ENDC w = tt
 
 -- ---- the map
 
+-- the tag of a map
 abbrev pub map_tag : List ℕ
 map_tag = codes "OTTN"
 
