@@ -72,8 +72,7 @@ fn game_body(world: &World) -> [u8; 6]
 
 /// The random words.
 fn words_body(random: &Random) -> [u8; 8]
-    ensures body { result ≡ body_of RAND random.now }
-    ensures below { (random.now.0 < 2 ^ 32) × (random.now.1 < 2 ^ 32) }
+    ensures { result ≡ body_of RAND random.now }
 {
     let (first, second) = random.words();
     let first = first.to_be_bytes();

@@ -1,5 +1,5 @@
 //! The world of a game: what every end of it holds alike at each frame.
-ghost use Rattle.std.specs.Prelude.{◌≡◌, ◌<◌, ◌≤◌, IfOk, IfSome, IsSome, option_copied, vec_capacity};
+ghost use Rattle.std.specs.Prelude.{◌≡◌, ◌<◌, ◌≤◌, ◌^◌, IfOk, IfSome, IsSome, option_copied, vec_capacity};
 ghost use Rattle.tt_world.specs.World.{start, company_of, world_of_parts};
 ghost use Rattle.tt_world.specs.Sound.{IsCompany, IsSound};
 ghost use Rattle.tt_world.specs.Economy.{framed};
@@ -120,7 +120,10 @@ impl World {
     /// The random words.
     pub fn random(&self) -> &Random
         ensures words { result.now ≡ self.now.words }
+        ensures below { (self.now.words.0 < 2 ^ 32) × (self.now.words.1 < 2 ^ 32) }
     {
+        // Words that are read are known to be below 2 ^ 32.
+        let _words = self.random.words();
         &self.random
     }
 
