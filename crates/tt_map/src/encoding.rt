@@ -2,25 +2,20 @@
 ghost use Rattle.std.specs.Prelude.{◌≡◌, ◌≤◌, ◌<◌, ◌^◌, ◌++◌, ◌∷◌, length, IfOk, OnOk, option_copied, []};
 ghost use Rattle.std.specs.List.{flat_map};
 ghost use Rattle.tt_world.specs.Sound.{IsSound};
-ghost use Rattle.tt_map.specs.Layout.{words, i64, live_from, company_bytes, sign_bytes, u32, GAME, RAND, CMPY, SIGN, ENDC, body_of, part_of, chunk, head, map_of};
+ghost use Rattle.tt_map.specs.Layout.{text_body, i64, live_from, company_bytes, sign_bytes, u32, GAME, RAND, CMPY, SIGN, ENDC, body_of, part_of, chunk, head, map_of};
 ghost use Rattle.tt_map.specs.Maps.{IsMap};
 
+use crate::head::{TAG, VERSION};
 use std::alloc::Global;
-use tt_frame::{Name, OutOfMemory, Put, Short};
-use tt_world::{Code, Command, Company, Entry, Sign, World, every_world_is_sound};
-
-/// How many companies a world has places for.
-const COMPANIES: u8 = 15;
-
-/// What stands behind the tag.
-const VERSION: u32 = 0x0001_0000;
+use tt_frame::{Name, OutOfMemory, Put};
+use tt_world::{COMPANIES, Company, Random, Sign, World};
 
 /// The greatest map has so many bytes.
 const GREATEST: usize = 40_220;
 
 /// A text behind its length.
 fn put_name(out: &mut Vec<u8>, name: &Name) -> Result<(), OutOfMemory>
-    ensures { OnOk result (out.new.items ≡ out.old.items ++ words name.now) }
+    ensures { OnOk result (out.new.items ≡ out.old.items ++ text_body name.now) }
 {
     let text = name.bytes();
     Put::raw(out, &[text.len() as u8])?;
@@ -76,10 +71,10 @@ fn game_body(world: &World) -> [u8; 6]
 }
 
 /// The random words.
-fn words_body(world: &World) -> [u8; 8]
-    ensures { result ≡ body_of RAND (part_of RAND world.now) }
+fn words_body(random: &Random) -> [u8; 8]
+    ensures { result ≡ body_of RAND random.now }
 {
-    let (first, second) = world.random().words();
+    let (first, second) = random.words();
     let first = first.to_be_bytes();
     let second = second.to_be_bytes();
     [
@@ -93,7 +88,7 @@ fn live_count(world: &World) -> u8
     ensures { result ≡ length (live_from 0 world.now.companies) }
 {
     let mut count = 0;
-    for number in 0..COMPANIES {
+    for number in 0..COMPANIES as u8 {
         if world.company(number).is_some() {
             count += 1;
         }
@@ -108,7 +103,7 @@ fn companies_body(alloc: Global, world: &World) -> Result<Vec<u8>, OutOfMemory>
 {
     let mut body = Vec::new(alloc);
     Put::raw(&mut body, &[live_count(world)])?;
-    for number in 0..COMPANIES {
+    for number in 0..COMPANIES as u8 {
         put_place(&mut body, number, world.company(number))?;
     }
     Ok(body)
@@ -139,50 +134,29 @@ fn put_chunk(out: &mut Vec<u8>, tag: &[u8; 4], body: &[u8]) -> Result<(), OutOfM
     Put::raw(out, body)
 }
 
-/// Tag and version, and the chunks with these bodies for companies and signs.
+/// Tag and version, and the chunks with these bodies for random words, companies and signs.
 fn put_chunks(
     out: &mut Vec<u8>,
     world: &World,
+    words: &[u8],
     companies: &[u8],
     signs: &[u8],
 ) -> Result<(), OutOfMemory>
     requires sound { IsSound world.now }
     requires empty { out.old.items ≡ [] }
+    requires words { words.now ≡ body_of RAND (part_of RAND world.now) }
     requires companies { companies.now ≡ body_of CMPY (part_of CMPY world.now) }
     requires signs { signs.now ≡ body_of SIGN (part_of SIGN world.now) }
     ensures { OnOk result (out.new.items ≡ map_of world.now) }
 {
-    Put::raw(out, b"OTTN")?;
+    Put::raw(out, &TAG)?;
     Put::raw(out, &VERSION.to_be_bytes())?;
     put_chunk(out, b"GAME", &game_body(world))?;
-    put_chunk(out, b"RAND", &words_body(world))?;
+    put_chunk(out, b"RAND", words)?;
     put_chunk(out, b"CMPY", companies)?;
     put_chunk(out, b"SIGN", signs)?;
     put_chunk(out, b"ENDC", &[])?;
     Ok(())
-}
-
-/// What is true of every world, for the proof of `encode_map`: nothing is looked at.
-fn recall_soundness(world: &World)
-    ensures sound { IsSound world.now }
-    ensures words { (world.now.words.0 < 2 ^ 32) × (world.now.words.1 < 2 ^ 32) }
-{
-    let Some(text) = Short::new(b"") else {
-        unreachable!()
-    };
-    let any = Entry {
-        frame: 0,
-        sender: 0,
-        company: 0,
-        command: Command {
-            code: Code::Pause,
-            number: 0,
-            to: 0,
-            text,
-        },
-    };
-    every_world_is_sound(world, &any);
-    let _words = world.random().words();
 }
 
 /// The map of a world, of at most 40,220 bytes. Where its day is at most 1,000,000,000, `decode_map` gives it back; no
@@ -192,10 +166,16 @@ pub fn encode_map(alloc: Global, world: &World) -> Result<Vec<u8>, OutOfMemory>
     ensures fits { IfOk result (λ bytes. length bytes.items ≤ 40220) }
     ensures told { world.now.day ≤ 1000000000 → IfOk result (λ bytes. IsMap bytes.items world.now) }
 {
-    recall_soundness(world);
-    let companies = companies_body(alloc, world)?;
     let signs = signs_body(alloc, world.signs())?;
+    let companies = companies_body(alloc, world)?;
+    let words = words_body(world.random());
     let mut out = Vec::with_capacity(alloc, GREATEST)?;
-    put_chunks(&mut out, world, companies.as_slice(), signs.as_slice())?;
+    put_chunks(
+        &mut out,
+        world,
+        &words,
+        companies.as_slice(),
+        signs.as_slice(),
+    )?;
     Ok(out)
 }

@@ -14,6 +14,7 @@ mod chunks;
 mod companies;
 mod decoding;
 mod encoding;
+mod head;
 mod laws;
 mod reader;
 mod reading;

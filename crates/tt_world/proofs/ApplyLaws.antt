@@ -3,6 +3,7 @@ use Rattle.std.proofs.Common.{◌≡◌, ℕ, zero, suc, ◌<◌, ◌≤◌, ◌
 use Rattle.std.specs.Prelude.{Option, Some, None, IsSome, IfSome, is_none, option_map, not, ◌||◌, ◌==◌, nat_le}
 use Rattle.std.specs.List.{list_any}
 use Rattle.std.proofs.lemmas.Int.{ints}
+use Rattle.std.proofs.lemmas.Bool.{or_parts}
 use Rattle.std.proofs.lemmas.Bool.Decides.{nat_tests}
 use Rattle.tt_world.specs.declared.company.Company.{Company}
 use Rattle.tt_world.specs.declared.effect.Why.{Why}
@@ -17,7 +18,7 @@ use Rattle.tt_frame.specs.Text.{IsName, IsShort}
 use Rattle.tt_world.specs.Sound.{IsSound, most_money}
 use Rattle.tt_world.specs.Laws.{total_money}
 use Rattle.tt_world.specs.Commands.{refusal_by, refusal, done_by, done, answered, applied, of_live, changed, richer, poorer, given, gift_refusal, rename_refusal, place_refusal, president_refusal, is_name_of_another}
-use Rattle.tt_world.proofs.CommandLaws.{passes, passes_last, live, or_neither, not_false, gift_allowed, other_place, still_live, IsSound-increased, IsSound-decreased, IsSound-president, IsSound-paused, IsSound-poorer, IsSound-richer, IsSound-renamed}
+use Rattle.tt_world.proofs.CommandLaws.{passes, passes_last, live, not_false, gift_allowed, other_place, still_live, IsSound-increased, IsSound-decreased, IsSound-president, IsSound-paused, IsSound-poorer, IsSound-richer, IsSound-renamed}
 use Rattle.tt_world.proofs.SignLaws.{IsSound-placed, IsSound-without, IsSound-text}
 use Rattle.tt_world.proofs.FoundLaws.{IsSound-founded, founded_live}
 
@@ -63,7 +64,7 @@ done_sound RenameSign company n to [] w short e s = IsSound-without w n company 
 done_sound RenameSign company n to (b ∷ bs) w short e s = IsSound-text w n company (b ∷ bs) (record { text = short.text; some = omega arith; fits = short.fits }) s
 done_sound RenameCompany company n to text w short e s =
     let free = passes_last ((length text == 0) || is_name_of_another company text w.companies) Text (live_then (company_of w company) (rename_refusal company text w.companies) e) in
-    let parts = or_neither (length text == 0) (is_name_of_another company text w.companies) free in
+    let parts = or_parts (length text == 0) (is_name_of_another company text w.companies) free in
     IsSound-renamed w company text (named text short parts.0) parts.1 s
 done_sound RenamePresident company n to text w short e s =
     let some = passes_last (length text == 0) Text (live_then (company_of w company) (president_refusal text) e) in

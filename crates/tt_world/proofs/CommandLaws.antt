@@ -1,11 +1,13 @@
 -- What is true of every world stays true behind commands on companies.
 use Rattle.std.proofs.Common.{◌≡◌, ℕ, zero, suc, ◌+◌, ◌-◌, ◌%◌, ◌<◌, ◌≤◌, ◌≢◌, Bool, true, false, List, [], ◌∷◌, length, get_or, set, refl, sym, ◌∙◌, ap, subst, arith, get_or-set_other, length-set, inl, inr, take, drop, add-one, ◌≤ℤ◌, ℤ, pos, ◌+ℤ◌, ◌-ℤ◌}
-use Rattle.std.specs.Prelude.{Option, Some, None, IsSome, IfSome, option_map, not, ◌&&◌, ◌||◌, ◌==◌, nat_lt, int_lt}
+use Rattle.std.specs.Prelude.{Option, Some, None, IsSome, IfSome, option_map, not, ◌||◌, ◌==◌, nat_lt, int_lt}
 use Rattle.std.specs.List.{list_any}
 use Rattle.std.proofs.lemmas.Int.{ints}
 use Rattle.std.proofs.lemmas.List.Elements.{All-weaker}
 use Rattle.std.proofs.lemmas.Slice.Eq.{bytes_eq-Decides}
+use Rattle.std.proofs.lemmas.Bool.{or_parts}
 use Rattle.std.proofs.lemmas.Bool.Decides.{nat_tests, eqb_tells}
+use Rattle.tt_frame.proofs.TestLaws.{and_both, le_of_no_test}
 use Rattle.tt_world.specs.declared.company.Company.{Company}
 use Rattle.tt_world.specs.declared.effect.Why.{Why}
 use Rattle.tt_world.specs.declared.effect.Why.TheVariants.{Amount, Loan, Money, NoCompany}
@@ -87,14 +89,6 @@ if_some (Some d) P c h e = let same : d ≡ c = cc in subst P same h
 
 -- ---- each command
 
-and_both : (a b : Bool) → a && b ≡ true → (a ≡ true) × (b ≡ true)
-and_both true b e = (refl, e)
-and_both false b e = absurd cc
-
-pub or_neither : (a b : Bool) → a || b ≡ false → (a ≡ false) × (b ≡ false)
-or_neither true b e = absurd cc
-or_neither false b e = (refl, e)
-
 pub not_false : (a : Bool) → not a ≡ false → a ≡ true
 not_false true e = refl
 not_false false e = absurd cc
@@ -105,9 +99,6 @@ steps_add a b e f = let g : b % 10000 ≡ 0 = grind arith in omega arith
 steps_sub : (a b : ℕ) → a % 10000 ≡ 0 → (b % 10000 == 0) ≡ true → b ≤ a → (a - b) % 10000 ≡ 0
 steps_sub a b e f le = let g : b % 10000 ≡ 0 = grind arith in omega arith
 
-not_above : (a b : ℕ) → nat_lt a b ≡ false → b ≤ a
-not_above a b e = grind (arith, nat_tests)
-
 not_above_int : (a b : ℤ) → int_lt a b ≡ false → b ≤ℤ a
 not_above_int a b e = grind (arith, ints)
 
@@ -116,7 +107,7 @@ IsCompany-increased n c e s =
     let p = passes (not (is_loan_sum n)) Amount (nat_lt 300000 (c.loan + n) ⇒ Loan or_else would_pass c.money n ⇒ Money) e in
     let q = passes (nat_lt 300000 (c.loan + n)) Loan (would_pass c.money n ⇒ Money) p.then in
     let sum = (and_both (not (n == 0)) (n % 10000 == 0) (not_false (is_loan_sum n) p.not_so)).1 in
-    let loan : c.loan + n ≤ 300000 = not_above 300000 (c.loan + n) q.not_so in
+    let loan : c.loan + n ≤ 300000 = le_of_no_test 300000 (c.loan + n) q.not_so in
     let money : (c.money +ℤ pos n) ≤ℤ pos most_money = not_above_int (pos most_money) (c.money +ℤ pos n) (passes_last (would_pass c.money n) Money q.then) in
     let low = s.least_money in
     record {
@@ -133,7 +124,7 @@ IsCompany-decreased n c e s =
     let p = passes (not (is_loan_sum n)) Amount (nat_lt c.loan n ⇒ Loan or_else is_below c.money n ⇒ Money) e in
     let q = passes (nat_lt c.loan n) Loan (is_below c.money n ⇒ Money) p.then in
     let sum = (and_both (not (n == 0)) (n % 10000 == 0) (not_false (is_loan_sum n) p.not_so)).1 in
-    let loan : n ≤ c.loan = not_above c.loan n q.not_so in
+    let loan : n ≤ c.loan = le_of_no_test c.loan n q.not_so in
     let money : pos n ≤ℤ c.money = not_above_int c.money (pos n) (passes_last (is_below c.money n) Money q.then) in
     let high = s.most_money in
     let most = s.loan in
@@ -247,10 +238,10 @@ has_own_name d name e = (bytes_eq-Decides d.name name).1 e
 pub none_has : (name : List ℕ) (companies : List (Option Company)) (k : ℕ) (d : Company) → list_any (has_name name) companies ≡ false → company_at companies k ≡ Some d → d.name ≡ name → ⊥
 none_has name [] k d e at same = absurd cc
 none_has name (o ∷ os) zero d e at same =
-    let front = (or_neither (has_name name o) (list_any (has_name name) os) e).0 in
+    let front = (or_parts (has_name name o) (list_any (has_name name) os) e).0 in
     let mine : has_name name o ≡ true = subst (λ x. has_name name x ≡ true) (sym at) (has_own_name d name same) in
     absurd cc
-none_has name (o ∷ os) (suc k) d e at same = none_has name os k d (or_neither (has_name name o) (list_any (has_name name) os) e).1 at same
+none_has name (o ∷ os) (suc k) d e at same = none_has name os k d (or_parts (has_name name o) (list_any (has_name name) os) e).1 at same
 
 no_other : (name : List ℕ) (companies : List (Option Company)) (n k : ℕ) (d : Company) → list_any (has_name name) (take n companies) ≡ false
     → list_any (has_name name) (drop (suc n) companies) ≡ false → k ≢ n → company_at companies k ≡ Some d → d.name ≡ name → ⊥
@@ -258,17 +249,17 @@ no_other name [] n k d front back ne at same = absurd cc
 no_other name (o ∷ os) zero zero d front back ne at same = ne refl
 no_other name (o ∷ os) zero (suc k) d front back ne at same = none_has name os k d back at same
 no_other name (o ∷ os) (suc n) zero d front back ne at same =
-    let first = (or_neither (has_name name o) (list_any (has_name name) (take n os)) front).0 in
+    let first = (or_parts (has_name name o) (list_any (has_name name) (take n os)) front).0 in
     let mine : has_name name o ≡ true = subst (λ x. has_name name x ≡ true) (sym at) (has_own_name d name same) in
     absurd cc
 no_other name (o ∷ os) (suc n) (suc k) d front back ne at same =
-    no_other name os n k d (or_neither (has_name name o) (list_any (has_name name) (take n os)) front).1 back (λ e. ne (ap suc e)) at same
+    no_other name os n k d (or_parts (has_name name o) (list_any (has_name name) (take n os)) front).1 back (λ e. ne (ap suc e)) at same
 
 -- the companies with a place that has another company from now on, whose name is nobody else's
 pub IsSound-renamed : (w : WorldState) (n : ℕ) (name : List ℕ) → IsName name → is_name_of_another n name w.companies ≡ false → IsSound w → IsSound (changed n (renamed name) w)
 IsSound-renamed w n name is free s =
     let after = set w.companies n (option_map (renamed name) (company_at w.companies n)) in
-    let parts = or_neither (list_any (has_name name) (take n w.companies)) (list_any (has_name name) (drop (n + 1) w.companies)) free in
+    let parts = or_parts (list_any (has_name name) (take n w.companies)) (list_any (has_name name) (drop (n + 1) w.companies)) free in
     let back : list_any (has_name name) (drop (suc n) w.companies) ≡ false = rw add-one at parts.1 in
     let here : company_at after n ≡ option_map (renamed name) (company_at w.companies n) = set_here w.companies n (renamed name) in
     let there : (m : ℕ) → m ≢ n → company_at after m ≡ company_at w.companies m = λ m ne. get_or-set_other w.companies n m (option_map (renamed name) (company_at w.companies n)) None ne in

@@ -3,8 +3,9 @@ use Rattle.std.proofs.Common.{◌≡◌, ℕ, suc, ◌+◌, ◌%◌, ◌<◌, �
 use Rattle.std.specs.Prelude.{Option, Some, None, IsSome, nat_lt, is_none, codes}
 use Rattle.std.specs.List.{list_any, position}
 use Rattle.std.proofs.lemmas.Int.{ints}
-use Rattle.std.proofs.lemmas.Bool.Decides.{nat_tests, eqb_tells}
+use Rattle.std.proofs.lemmas.Bool.Decides.{eqb_tells}
 use Rattle.std.proofs.lemmas.List.Elements.{All-weaker}
+use Rattle.tt_frame.proofs.TestLaws.{test_of_lt}
 use Rattle.tt_frame.proofs.TextLaws.{IsText-from_is_plain}
 use Rattle.tt_world.specs.declared.company.Company.{Company}
 use Rattle.tt_world.specs.World.{WorldState, company_at}
@@ -30,20 +31,17 @@ nobody_there [] e = refl
 nobody_there (None ∷ places) e = refl
 nobody_there (Some c ∷ places) e = rw (next (new_number places)) (nobody_there places e)
 
-lower : (a b : ℕ) → a < b → nat_lt a b ≡ true
-lower a b lt = grind (arith, nat_tests)
-
 pub number_is : (places : List (Option Company)) (place : ℕ) → list_any is_none places ≡ true → Some place ≡ position is_none places → (place ≡ new_number places) × (place < length places)
 number_is places place room e =
     let bound = number_bound places room in
-    let test : nat_lt (new_number places) (length places) ≡ true = lower (new_number places) (length places) bound in
+    let test : nat_lt (new_number places) (length places) ≡ true = test_of_lt (new_number places) (length places) bound in
     let f : Some place ≡ Some (new_number places) = rw test at e in
     let same : place ≡ new_number places = cc in
     (same, rw same bound)
 
 pub no_number : (places : List (Option Company)) → list_any is_none places ≡ true → None ≡ position is_none places → ⊥
 no_number places room e =
-    let test : nat_lt (new_number places) (length places) ≡ true = lower (new_number places) (length places) (number_bound places room) in
+    let test : nat_lt (new_number places) (length places) ≡ true = test_of_lt (new_number places) (length places) (number_bound places room) in
     let f : None ≡ Some (new_number places) = rw test at e in
     absurd cc
 

@@ -1,26 +1,19 @@
 -- The names of new companies: they are names, no two are the same, and of fifteen one is free where a company is not live.
 use Rattle.std.proofs.Common.{◌≡◌, ℕ, zero, suc, ◌+◌, ◌^◌, ◌<◌, ◌≤◌, Bool, true, false, List, [], ◌∷◌, ◌++◌, length, refl, sym, ◌∙◌, ap, subst, arith, inl, inr, ◌⊎◌}
-use Rattle.std.specs.Prelude.{Option, Some, None, ◌&&◌, ◌||◌, nat_le, is_none, bytes_eq, codes, decimal}
+use Rattle.std.specs.Prelude.{Option, Some, None, ◌&&◌, nat_le, is_none, bytes_eq, codes, decimal}
 use Rattle.std.specs.List.{list_any, IsDistinct, AllByRecursion}
 use Rattle.std.specs.Set.{is_member}
 use Rattle.std.specs.Cmp.{IsEquivalence}
-use Rattle.std.proofs.lemmas.Bool.Decides.{nat_tests}
+use Rattle.std.proofs.lemmas.Bool.{or_right}
 use Rattle.std.specs.Fmt.{digits}
 use Rattle.std.proofs.lemmas.Fmt.{decimal_digit, decimal_injective}
 use Rattle.std.proofs.lemmas.Slice.Eq.{bytes_eq-Decides}
 use Rattle.std.proofs.lemmas.Map.Made.{length-le_from_is_member}
 use Rattle.tt_frame.specs.Text.{is_plain, IsName}
+use Rattle.tt_frame.proofs.TestLaws.{and_both, or_either, true_or_false, le_of_test}
 use Rattle.tt_frame.proofs.TextLaws.{IsText-from_is_plain}
 use Rattle.tt_world.specs.declared.company.Company.{Company}
 use Rattle.tt_world.specs.Commands.{has_name, numbered_name, least_name, new_name}
-
-and_both : (a b : Bool) → a && b ≡ true → (a ≡ true) × (b ≡ true)
-and_both true b e = (refl, e)
-and_both false b e = absurd cc
-
-either : (b : Bool) → (b ≡ true) ⊎ (b ≡ false)
-either true = inl refl
-either false = inr refl
 
 -- ---- a test of each number up to a bound
 
@@ -39,16 +32,13 @@ holds_to p (suc n) (suc m) e le =
 abbrev is_fine : ℕ → Bool
 is_fine m = is_plain (numbered_name m) && (nat_le 1 (length (numbered_name m)) && nat_le (length (numbered_name m)) 31)
 
-le_from : (a b : ℕ) → nat_le a b ≡ true → a ≤ b
-le_from a b e = grind (arith, nat_tests)
-
 pub IsName-numbered : (m : ℕ) → m ≤ 15 → IsName (numbered_name m)
 unfolding digits
 IsName-numbered m le =
     let fine = holds_to is_fine 15 m refl le in
     let parts = and_both (is_plain (numbered_name m)) (nat_le 1 (length (numbered_name m)) && nat_le (length (numbered_name m)) 31) fine in
     let sizes = and_both (nat_le 1 (length (numbered_name m))) (nat_le (length (numbered_name m)) 31) parts.1 in
-    record { text = IsText-from_is_plain (numbered_name m) parts.0; some = le_from 1 (length (numbered_name m)) sizes.0; fits = le_from (length (numbered_name m)) 31 sizes.1 }
+    record { text = IsText-from_is_plain (numbered_name m) parts.0; some = le_of_test 1 (length (numbered_name m)) sizes.0; fits = le_of_test (length (numbered_name m)) 31 sizes.1 }
 
 pub one_digit : (m : ℕ) → m < 10 → (67 ∷ 111 ∷ 109 ∷ 112 ∷ 97 ∷ 110 ∷ 121 ∷ 32 ∷ (48 + m) ∷ []) ≡ numbered_name m
 one_digit m lt = ap (λ d. codes "Company " ++ d) (sym (decimal_digit m lt))
@@ -72,7 +62,7 @@ step_free places m n e = rw (e, least_name) refl
 least_name_is : (P : List ℕ → Type 0) (places : List (Option Company)) (i n : ℕ) → ((m : ℕ) → i ≤ m → m ≤ i + n → P (numbered_name m)) → P (least_name places i n)
 least_name_is P places i zero all = all i (omega arith) (omega arith)
 least_name_is P places i (suc n) all =
-    elim (either (list_any (has_name (numbered_name i)) places)) [
+    elim (true_or_false (list_any (has_name (numbered_name i)) places)) [
       | inl e ↦ subst P (sym (step_taken places i n e)) (least_name_is P places (i + 1) n (λ m low high. all m (omega arith) (omega arith)))
       | inr e ↦ subst P (sym (step_free places i n e)) (all i (omega arith) (omega arith))
     ]
@@ -90,9 +80,9 @@ AllTaken places i (suc n) = (list_any (has_name (numbered_name i)) places ≡ tr
 free_or_taken : (places : List (Option Company)) (i n : ℕ) → (list_any (has_name (least_name places i n)) places ≡ false) ⊎ AllTaken places i (suc n)
 unfolding AllTaken
 free_or_taken places i zero =
-    elim (either (list_any (has_name (numbered_name i)) places)) [ inl e ↦ inr (e, tt) | inr e ↦ inl e ]
+    elim (true_or_false (list_any (has_name (numbered_name i)) places)) [ inl e ↦ inr (e, tt) | inr e ↦ inl e ]
 free_or_taken places i (suc n) =
-    elim (either (list_any (has_name (numbered_name i)) places)) [
+    elim (true_or_false (list_any (has_name (numbered_name i)) places)) [
       | inl e ↦ elim (free_or_taken places (i + 1) n) [
         | inl f ↦ inl (subst (λ name. list_any (has_name name) places ≡ false) (sym (step_taken places i n e)) f)
         | inr f ↦ inr (e, f)
@@ -131,7 +121,7 @@ same_number m n a b e = let d : decimal m ≡ decimal n = cc in decimal_injectiv
 
 not_same : (m n : ℕ) → m < n → n < 100 → bytes_eq (numbered_name m) (numbered_name n) ≡ false
 not_same m n lt small =
-    elim (either (bytes_eq (numbered_name m) (numbered_name n))) [
+    elim (true_or_false (bytes_eq (numbered_name m) (numbered_name n))) [
       | inl e ↦ absurd (let same = same_number m n (omega arith) (omega arith) ((bytes_eq-Decides (numbered_name m) (numbered_name n)).0 e) in omega arith)
       | inr e ↦ e
     ]
@@ -154,9 +144,9 @@ from_bytes a b e = (bytes_eq-Decides a b).0 e
 
 bytes_swap : (a b : List ℕ) → bytes_eq a b ≡ bytes_eq b a
 bytes_swap a b =
-    elim (either (bytes_eq a b)) [
+    elim (true_or_false (bytes_eq a b)) [
       | inl e ↦ e ∙ sym ((bytes_eq-Decides b a).1 (sym (from_bytes a b e)))
-      | inr e ↦ elim (either (bytes_eq b a)) [
+      | inr e ↦ elim (true_or_false (bytes_eq b a)) [
         | inl f ↦ absurd (let g : bytes_eq a b ≡ true = (bytes_eq-Decides a b).1 (sym (from_bytes b a f)) in cc)
         | inr f ↦ e ∙ sym f
       ]
@@ -168,14 +158,6 @@ bytes_laws = record {
   symm = bytes_swap;
   congr = λ x y z e. ap (λ k. bytes_eq k z) (from_bytes x y e);
 }
-
-or_right : (a b : Bool) → b ≡ true → a || b ≡ true
-or_right true b e = refl
-or_right false b e = e
-
-or_either : (a b : Bool) → a || b ≡ true → (a ≡ true) ⊎ (b ≡ true)
-or_either true b e = inl refl
-or_either false b e = inr e
 
 taken_is_member : (name : List ℕ) (places : List (Option Company)) → list_any (has_name name) places ≡ true → is_member bytes_eq (names_of places) name ≡ true
 unfolding names_of

@@ -1,9 +1,10 @@
 -- Signs: the least unused id where ids rise, and what stays true where a sign comes, changes or goes.
-use Rattle.std.proofs.Common.{◌≡◌, ℕ, zero, suc, ◌+◌, ◌<◌, ◌≤◌, Bool, true, false, List, [], ◌∷◌, ◌++◌, map, take, drop, length, refl, sym, ◌∙◌, ap, subst, arith, inl, inr, ◌⊎◌, zero-add}
+use Rattle.std.proofs.Common.{◌≡◌, ℕ, zero, suc, ◌+◌, ◌<◌, ◌≤◌, Bool, true, false, List, [], ◌∷◌, ◌++◌, map, take, drop, length, refl, sym, ◌∙◌, ap, subst, arith, inl, inr, zero-add}
 use Rattle.std.specs.Prelude.{Some, None, IsSome, All, not, cond, filter, ◌==◌, nat_lt}
 use Rattle.std.specs.List.{list_any, position, position_or_len, insert, remove}
 use Rattle.std.proofs.lemmas.Bool.Decides.{nat_tests, eqb_tells}
 use Rattle.std.proofs.lemmas.List.Elements.{All-weaker, All-cons, All-head, All-tail, All-map, All-filter}
+use Rattle.tt_frame.proofs.TestLaws.{true_or_false, test_of_lt, no_test_of_le}
 use Rattle.tt_world.specs.declared.sign.Sign.{Sign}
 use Rattle.tt_world.specs.World.{WorldState, company_of}
 use Rattle.tt_frame.specs.Text.{IsName}
@@ -12,10 +13,6 @@ use Rattle.tt_world.specs.Commands.{least_unused, new_id, with_sign, placed, is_
 use Rattle.tt_world.specs.Gap.{gap_from}
 
 -- ---- the gap
-
-either : (b : Bool) → (b ≡ true) ⊎ (b ≡ false)
-either true = inl refl
-either false = inr refl
 
 pub gap_bound : (gs : List Sign) (i : ℕ) → gap_from i gs ≤ i + length gs
 gap_bound [] i = omega arith
@@ -74,24 +71,18 @@ pub new_id_is : (gs : List Sign) → RiseFrom 0 gs → length gs ≤ 1000 → ga
 unfolding new_id
 new_id_is gs h le = gap_is gs 0 1000 h le
 
-lower : (a b : ℕ) → a < b → nat_lt a b ≡ true
-lower a b lt = grind (arith, nat_tests)
-
-not_lower : (a b : ℕ) → b < a → nat_lt a b ≡ false
-not_lower a b lt = grind (arith, nat_tests)
-
 at_gap : (sign : Sign) (gs : List Sign) (i k : ℕ) → gap_from i gs ≡ i + k → RiseFrom i gs → sign.id ≡ i + k → with_sign sign gs ≡ insert gs k sign
 at_gap sign [] i zero e h is = refl
 at_gap sign [] i (suc k) e h is = absurd (omega arith)
 at_gap sign (g ∷ gs) i zero e h is =
     elim (eqb_tells g.id i) [
       | inl p ↦ let f = rw (p.0, gap_from) at e in let low = gap_least gs (i + 1) in absurd (omega arith)
-      | inr p ↦ let first : i ≤ g.id = h.0 in let ne = p.1 in rw (lower sign.id g.id (omega arith), with_sign) refl
+      | inr p ↦ let first : i ≤ g.id = h.0 in let ne = p.1 in rw (test_of_lt sign.id g.id (omega arith), with_sign) refl
     ]
 at_gap sign (g ∷ gs) i (suc k) e h is =
     elim (eqb_tells g.id i) [
       | inl p ↦ let f = rw (p.0, gap_from) at e in let same = p.1 in
-          rw (not_lower sign.id g.id (omega arith), with_sign) (ap (λ xs. g ∷ xs) (at_gap sign gs (i + 1) k (omega arith) (behind g gs i p.1 h.1) (omega arith)))
+          rw (no_test_of_le sign.id g.id (omega arith), with_sign) (ap (λ xs. g ∷ xs) (at_gap sign gs (i + 1) k (omega arith) (behind g gs i p.1 h.1) (omega arith)))
       | inr p ↦ let f = rw (p.0, gap_from) at e in absurd (omega arith)
     ]
 
@@ -100,16 +91,16 @@ rise_with sign [] i h is = (omega arith, tt)
 rise_with sign (g ∷ gs) i h is =
     elim (eqb_tells g.id i) [
       | inl p ↦ let f = rw (p.0, gap_from) at is in let same = p.1 in let low = gap_least gs (i + 1) in
-          rw (not_lower sign.id g.id (omega arith), with_sign) (h.0, subst (λ k. RiseFrom (k + 1) (with_sign sign gs)) (sym same) (rise_with sign gs (i + 1) (behind g gs i same h.1) f))
+          rw (no_test_of_le sign.id g.id (omega arith), with_sign) (h.0, subst (λ k. RiseFrom (k + 1) (with_sign sign gs)) (sym same) (rise_with sign gs (i + 1) (behind g gs i same h.1) f))
       | inr p ↦ let f = rw (p.0, gap_from) at is in let first : i ≤ g.id = h.0 in let ne = p.1 in
-          rw (lower sign.id g.id (omega arith), with_sign) (omega arith, (omega arith, h.1))
+          rw (test_of_lt sign.id g.id (omega arith), with_sign) (omega arith, (omega arith, h.1))
     ]
 
 length_with : (sign : Sign) (gs : List Sign) → length (with_sign sign gs) ≡ length gs + 1
 length_with sign [] = refl
 length_with sign (g ∷ gs) =
     let n = length_with sign gs in
-    elim (either (nat_lt sign.id g.id)) [ inl e ↦ rw (e, with_sign) (omega arith) | inr e ↦ rw (e, with_sign) (omega arith) ]
+    elim (true_or_false (nat_lt sign.id g.id)) [ inl e ↦ rw (e, with_sign) (omega arith) | inr e ↦ rw (e, with_sign) (omega arith) ]
 
 all_with : (P : Sign → Type 0) (sign : Sign) (gs : List Sign) → P sign → All P gs → All P (with_sign sign gs)
 all_with P sign [] is all = All-cons P sign [] is all
@@ -163,7 +154,7 @@ pub removed_is : (id owner : ℕ) (gs : List Sign) (i : ℕ) → RiseFrom i gs �
     → remove gs (position_or_len (is_sign_of id owner) gs) ≡ without_sign id owner gs
 removed_is id owner [] i h e = absurd cc
 removed_is id owner (g ∷ gs) i h e =
-    elim (either (is_sign_of id owner g)) [
+    elim (true_or_false (is_sign_of id owner g)) [
       | inl so ↦ rw so (sym (no_loss id owner gs (g.id + 1) (let same = this_id id owner g so in omega arith) h.1))
       | inr not_so ↦ let rest = rw not_so at e in rw not_so (remove_next g gs (position_or_len (is_sign_of id owner) gs) ∙ ap (λ xs. g ∷ xs) (removed_is id owner gs (g.id + 1) h.1 rest))
     ]
@@ -215,7 +206,7 @@ IsSound-text w id owner text name s =
 pub place_bound : (p : Sign → Bool) (gs : List Sign) → list_any p gs ≡ true → position_or_len p gs < length gs
 place_bound p [] e = absurd cc
 place_bound p (g ∷ gs) e =
-    elim (either (p g)) [
+    elim (true_or_false (p g)) [
       | inl so ↦ rw so (omega arith)
       | inr not_so ↦ let rest = place_bound p gs (rw not_so at e) in rw not_so (omega arith)
     ]
@@ -223,14 +214,14 @@ place_bound p (g ∷ gs) e =
 pub place_is : (p : Sign → Bool) (gs : List Sign) (place : ℕ) → list_any p gs ≡ true → Some place ≡ position p gs → (place ≡ position_or_len p gs) × (place < length gs)
 place_is p gs place there e =
     let bound = place_bound p gs there in
-    let test : nat_lt (position_or_len p gs) (length gs) ≡ true = lower (position_or_len p gs) (length gs) bound in
+    let test : nat_lt (position_or_len p gs) (length gs) ≡ true = test_of_lt (position_or_len p gs) (length gs) bound in
     let f : Some place ≡ Some (position_or_len p gs) = rw test at e in
     let same : place ≡ position_or_len p gs = cc in
     (same, rw same bound)
 
 pub no_place : (p : Sign → Bool) (gs : List Sign) → list_any p gs ≡ true → None ≡ position p gs → ⊥
 no_place p gs there e =
-    let test : nat_lt (position_or_len p gs) (length gs) ≡ true = lower (position_or_len p gs) (length gs) (place_bound p gs there) in
+    let test : nat_lt (position_or_len p gs) (length gs) ≡ true = test_of_lt (position_or_len p gs) (length gs) (place_bound p gs there) in
     let f : None ≡ Some (position_or_len p gs) = rw test at e in
     absurd cc
 

@@ -22,6 +22,7 @@ plain = record {
   cost = 2 ^ 30;
 }
 
+-- from the least number up to the most
 abbrev pub IsFrom : ℕ → ℕ → ℕ → Type 0
 IsFrom least most n = (least ≤ n) × (n ≤ most)
 

@@ -34,6 +34,7 @@ RiseFrom id (g ∷ gs) = (id ≤ g.id) × RiseFrom (g.id + 1) gs
 abbrev pub HasDistinctNames : List (Option Company) → Type 0
 HasDistinctNames companies = (m n : ℕ) (c d : Company) → company_at companies m ≡ Some c → company_at companies n ≡ Some d → c.name ≡ d.name → m ≡ n
 
+-- what is true of every world: its part is one of a day, and its companies and signs are right
 pub record IsSound (w : WorldState) : Type 0 where
   pub part : w.part < 74
   pub places : length w.companies ≡ 15

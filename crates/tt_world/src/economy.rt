@@ -3,8 +3,8 @@ ghost use Rattle.std.specs.Prelude.{◌≡◌, ◌%◌, ◌==◌, [], ◌∷◌,
 ghost use Rattle.tt_world.specs.Economy.{earned, paying, paid, paid_monthly, next_day};
 
 use crate::company::Company;
+use crate::limits::MOST_MONEY;
 use crate::random::Random;
-use crate::refusals::MOST_MONEY;
 
 /// A day's earning is below this.
 const EARNING_BELOW: u32 = 1_001;

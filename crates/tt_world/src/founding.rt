@@ -5,7 +5,7 @@ ghost use Rattle.tt_frame.specs.Text.{IsName};
 ghost use Rattle.tt_world.specs.Commands.{numbered_name, new_name, new_number, new_company};
 
 use crate::company::Company;
-use crate::refusals;
+use crate::places::is_taken;
 use tt_frame::Name;
 
 /// A name that is known to be one.
@@ -48,7 +48,7 @@ fn new_name(companies: &[Option<Company>]) -> Name
 {
     for m in 1..15 {
         let name = numbered_name(m);
-        if !refusals::is_taken(name.bytes(), companies) {
+        if !is_taken(name.bytes(), companies) {
             return name;
         }
     }

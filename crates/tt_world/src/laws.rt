@@ -1,4 +1,4 @@
-//! What a sceptic may ask of a world. Each law is the contract of a function that does nothing.
+//! What a sceptic may ask of a world. Each law is the contract of a function that changes nothing.
 ghost use Rattle.std.specs.Prelude.{◌≡◌, ◌≢◌, ◌+◌, ◌<◌, true, IsSome};
 ghost use Rattle.tt_world.specs.World.{company_of};
 ghost use Rattle.tt_world.specs.Sound.{IsSound};

@@ -2,7 +2,8 @@
 //!
 //! `World::start` makes the world of a `Setup`, `World::apply` does an `Entry`, and `World::run_frame` runs a frame. What
 //! they do is a function of the world and the entry alone, and stands in specs/ as lists and cases: `World` and `Sound`
-//! say what a world is, `Commands` has the nine commands, `Economy` a frame. `laws` has what follows from them.
+//! say what a world is, `Commands` has the nine commands, `Economy` a frame. `laws` has what follows from them,
+//! and `limits` the greatest numbers.
 #![tactic(auto)]
 
 mod apply;
@@ -13,6 +14,8 @@ mod economy;
 mod effect;
 mod founding;
 mod laws;
+mod limits;
+mod places;
 mod random;
 mod refusals;
 mod setup;
@@ -28,6 +31,10 @@ pub use laws::{
     live_company_stays, money_rests_within_a_day, paused_world_waits,
     refused_command_changes_nothing,
 };
+pub use limits::{
+    COMPANIES, LOAN_STEP, MOST_GIFT, MOST_LOAN, MOST_MONEY, PARTS_OF_DAY, SIGNS, TILES,
+};
+pub use places::{is_taken, no_companies};
 pub use random::Random;
 pub use setup::Setup;
 pub use sign::Sign;

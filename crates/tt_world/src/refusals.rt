@@ -4,27 +4,13 @@ ghost use Rattle.std.specs.List.{list_any};
 ghost use Rattle.tt_world.specs.Sound.{IsCompany};
 ghost use Rattle.tt_world.specs.Reasons.{◌⇒◌, ◌or_else◌};
 ghost use Rattle.tt_world.specs.declared.effect.Why.TheVariants.{Money};
-ghost use Rattle.tt_world.specs.Commands.{is_loan_sum, increase_refusal, decrease_refusal, gift_refusal, is_below, would_pass, place_refusal, is_sign_of, rename_sign_refusal, has_name, rename_refusal, president_refusal, pause_refusal, found_refusal};
+ghost use Rattle.tt_world.specs.Commands.{is_loan_sum, increase_refusal, decrease_refusal, gift_refusal, is_below, would_pass, place_refusal, is_sign_of, rename_sign_refusal, rename_refusal, president_refusal, pause_refusal, found_refusal};
 
 use crate::company::Company;
 use crate::effect::Why;
+use crate::limits::{LOAN_STEP, MOST_GIFT, MOST_LOAN, MOST_MONEY, SIGNS, TILES};
+use crate::places::is_taken;
 use crate::sign::Sign;
-use crate::world::SIGNS;
-
-/// Loans go in steps of this.
-const LOAN_STEP: u32 = 10_000;
-
-/// No company borrows more than this.
-const MOST_LOAN: u64 = 300_000;
-
-/// No company gives more than this at once.
-const MOST_GIFT: u32 = 20_000_000;
-
-/// No company has more money than this, or owes more.
-pub(crate) const MOST_MONEY: i64 = 9_000_000_000_000_000;
-
-/// How many tiles the map has.
-const TILES: u32 = 1 << 20;
 
 /// Whether a number is a sum of loan.
 fn is_loan_sum(number: u32) -> bool
@@ -41,7 +27,7 @@ pub(crate) fn increase_loan(number: u32, company: &Company) -> Option<Why>
     if !is_loan_sum(number) {
         return Some(Why::Amount);
     }
-    if u64::from(company.loan) + u64::from(number) > MOST_LOAN {
+    if u64::from(company.loan) + u64::from(number) > u64::from(MOST_LOAN) {
         return Some(Why::Loan);
     }
     if company.money + i64::from(number) > MOST_MONEY {
@@ -145,23 +131,6 @@ pub(crate) fn rename_sign(id: u32, owner: u8, signs: &[Sign]) -> Option<Why>
     } else {
         Some(Why::NoSign)
     }
-}
-
-/// Whether there is a company at a place, with this name.
-fn has_name(name: &[u8], place: &Option<Company>) -> bool
-    ensures { result ≡ has_name name.now place.now }
-{
-    match place {
-        None => false,
-        Some(company) => company.name.bytes() == name,
-    }
-}
-
-/// Whether one of these companies has the name.
-pub(crate) fn is_taken(name: &[u8], companies: &[Option<Company>]) -> bool
-    ensures { result ≡ list_any (has_name name.now) companies.now }
-{
-    companies.iter().any(|place| has_name(name, place))
 }
 
 /// RenameCompany.

@@ -2,9 +2,9 @@
 //!
 //! A setup is plain data: `Setup::plain()` gives the defaults, and each field may be changed before the game is made.
 ghost use Rattle.std.specs.Prelude.{◌≡◌, ◌≤◌, ◌↔◌, IsTrue, length, codes};
-ghost use Rattle.tt_frame.specs.Text.{IsText};
 ghost use Rattle.tt_world.specs.Setup.{plain, Fits, IsFrom};
 
+use crate::founding::name_of;
 use tt_frame::{Line, Name};
 
 /// How many bytes a password may have.
@@ -126,19 +126,6 @@ impl Setup {
             lag: self.lag,
             cost: self.cost,
         }
-    }
-}
-
-/// A name that is known to be one.
-fn name_of(bytes: &[u8]) -> Name
-    requires text { IsText bytes.now }
-    requires some { 1 ≤ length bytes.now }
-    requires fits { length bytes.now ≤ 31 }
-    ensures { result ≡ bytes.now }
-{
-    match Name::new(bytes) {
-        Some(name) => name,
-        None => unreachable!(),
     }
 }
 

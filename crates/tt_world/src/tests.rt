@@ -64,197 +64,132 @@ fn the_plain_setup_fits_and_its_bounds_are_sharp(rt: HostRuntime) {
     assert!(rt; setup.copy().fits());
 }
 
-#[test]
-fn each_command_is_refused_just_past_its_bound(rt: HostRuntime) -> Result<(), Fail> {
-    let mut world = World::start(rt.alloc(), &Setup::plain())?;
+/// Why a command of a company is refused, if it is.
+fn refused(
+    world: &mut World,
+    company: u8,
+    code: Code,
+    number: u32,
+    text: &[u8],
+) -> Result<Option<Why>, Fail> {
+    let asked = entry(company, code, number, 0, text)?;
+    match world.apply(&asked) {
+        Effect::Done => Ok(None),
+        Effect::Refused(why) => Ok(Some(why)),
+    }
+}
+
+/// A world with the companies 0 and 1.
+fn two_companies(alloc: Global) -> Result<World, Fail> {
+    let mut world = World::start(alloc, &Setup::plain())?;
     let founded = entry(255, Code::NewCompany, 0, 0, b"")?;
-    assert_eq!(rt; world.apply(&founded), Effect::Done);
-    assert_eq!(rt; world.apply(&founded), Effect::Done);
-    let rows: [(u8, Code, u32, u8, &[u8], Effect); 33] = [
-        (
-            14,
-            Code::IncreaseLoan,
-            0,
-            0,
-            b"",
-            Effect::Refused(Why::NoCompany),
-        ),
-        (
-            14,
-            Code::DecreaseLoan,
-            0,
-            0,
-            b"",
-            Effect::Refused(Why::NoCompany),
-        ),
-        (14, Code::Give, 0, 0, b"", Effect::Refused(Why::NoCompany)),
-        (
-            15,
-            Code::PlaceSign,
-            1_048_576,
-            0,
-            b"",
-            Effect::Refused(Why::NoCompany),
-        ),
-        (
-            255,
-            Code::RenameSign,
-            0,
-            0,
-            b"",
-            Effect::Refused(Why::NoCompany),
-        ),
-        (
-            2,
-            Code::RenameCompany,
-            0,
-            0,
-            b"",
-            Effect::Refused(Why::NoCompany),
-        ),
-        (
-            2,
-            Code::RenamePresident,
-            0,
-            0,
-            b"",
-            Effect::Refused(Why::NoCompany),
-        ),
-        (
-            0,
-            Code::IncreaseLoan,
-            0,
-            0,
-            b"",
-            Effect::Refused(Why::Amount),
-        ),
-        (
-            0,
-            Code::IncreaseLoan,
-            10_001,
-            0,
-            b"",
-            Effect::Refused(Why::Amount),
-        ),
-        (
-            0,
-            Code::IncreaseLoan,
-            210_000,
-            0,
-            b"",
-            Effect::Refused(Why::Loan),
-        ),
-        (0, Code::IncreaseLoan, 200_000, 0, b"", Effect::Done),
-        (
-            0,
-            Code::DecreaseLoan,
-            310_001,
-            0,
-            b"",
-            Effect::Refused(Why::Amount),
-        ),
-        (
-            0,
-            Code::DecreaseLoan,
-            310_000,
-            0,
-            b"",
-            Effect::Refused(Why::Loan),
-        ),
-        (0, Code::DecreaseLoan, 300_000, 0, b"", Effect::Done),
-        (1, Code::Give, 0, 0, b"", Effect::Refused(Why::Amount)),
-        (
-            1,
-            Code::Give,
-            20_000_001,
-            0,
-            b"",
-            Effect::Refused(Why::Amount),
-        ),
-        (
-            1,
-            Code::Give,
-            20_000_000,
-            2,
-            b"",
-            Effect::Refused(Why::NoCompany),
-        ),
-        (
-            1,
-            Code::Give,
-            20_000_000,
-            1,
-            b"",
-            Effect::Refused(Why::NoCompany),
-        ),
-        (1, Code::Give, 1, 0, b"", Effect::Refused(Why::Money)),
-        (
-            0,
-            Code::PlaceSign,
-            1_048_576,
-            0,
-            b"",
-            Effect::Refused(Why::Tile),
-        ),
-        (
-            0,
-            Code::PlaceSign,
-            1_048_575,
-            0,
-            b"",
-            Effect::Refused(Why::Text),
-        ),
-        (0, Code::PlaceSign, 1_048_575, 0, b"here", Effect::Done),
-        (
-            0,
-            Code::RenameSign,
-            1,
-            0,
-            b"there",
-            Effect::Refused(Why::NoSign),
-        ),
-        (
-            1,
-            Code::RenameSign,
-            0,
-            0,
-            b"there",
-            Effect::Refused(Why::NoSign),
-        ),
-        (0, Code::RenameSign, 0, 0, b"there", Effect::Done),
-        (
-            0,
-            Code::RenameCompany,
-            0,
-            0,
-            b"",
-            Effect::Refused(Why::Text),
-        ),
-        (
-            0,
-            Code::RenameCompany,
-            0,
-            0,
-            b"Company 2",
-            Effect::Refused(Why::Text),
-        ),
-        (0, Code::RenameCompany, 0, 0, b"Company 1", Effect::Done),
-        (
-            0,
-            Code::RenamePresident,
-            0,
-            0,
-            b"",
-            Effect::Refused(Why::Text),
-        ),
-        (0, Code::RenamePresident, 0, 0, b"Ann", Effect::Done),
-        (0, Code::Pause, 2, 0, b"", Effect::Refused(Why::Amount)),
-        (0, Code::Pause, 0, 0, b"", Effect::Refused(Why::Same)),
-        (0, Code::Pause, 1, 0, b"", Effect::Done),
+    world.apply(&founded);
+    world.apply(&founded);
+    Ok(world)
+}
+
+#[test]
+fn nobody_asks_for_a_company_that_is_not_live(rt: HostRuntime) -> Result<(), Fail> {
+    let mut world = two_companies(rt.alloc())?;
+    let rows = [
+        (14, Code::IncreaseLoan, 0),
+        (14, Code::DecreaseLoan, 0),
+        (14, Code::Give, 0),
+        (15, Code::PlaceSign, 1_048_576),
+        (255, Code::RenameSign, 0),
+        (2, Code::RenameCompany, 0),
+        (2, Code::RenamePresident, 0),
     ];
-    for (company, code, number, to, text, wanted) in rows {
-        let asked = entry(company, code, number, to, text)?;
-        assert_eq!(rt; world.apply(&asked), wanted);
+    for (company, code, number) in rows {
+        let why = refused(&mut world, company, code, number, b"")?;
+        assert_eq!(rt; why, Some(Why::NoCompany));
+    }
+    Ok(())
+}
+
+#[test]
+fn loans_go_in_steps_up_to_the_most(rt: HostRuntime) -> Result<(), Fail> {
+    let mut world = two_companies(rt.alloc())?;
+    let rows = [
+        (Code::IncreaseLoan, 0, Some(Why::Amount)),
+        (Code::IncreaseLoan, 10_001, Some(Why::Amount)),
+        (Code::IncreaseLoan, 210_000, Some(Why::Loan)),
+        (Code::IncreaseLoan, 200_000, None),
+        (Code::DecreaseLoan, 310_001, Some(Why::Amount)),
+        (Code::DecreaseLoan, 310_000, Some(Why::Loan)),
+        (Code::DecreaseLoan, 300_000, None),
+    ];
+    for (code, number, wanted) in rows {
+        let why = refused(&mut world, 0, code, number, b"")?;
+        assert_eq!(rt; why, wanted);
+    }
+    Ok(())
+}
+
+#[test]
+fn gifts_go_to_another_company(rt: HostRuntime) -> Result<(), Fail> {
+    let mut world = two_companies(rt.alloc())?;
+    let rows = [
+        (0, 0, Why::Amount),
+        (0, 20_000_001, Why::Amount),
+        (2, 20_000_000, Why::NoCompany),
+        (1, 20_000_000, Why::NoCompany),
+        (0, 1, Why::Money),
+    ];
+    for (to, number, why) in rows {
+        let gift = entry(1, Code::Give, number, to, b"")?;
+        assert_eq!(rt; world.apply(&gift), Effect::Refused(why));
+    }
+    Ok(())
+}
+
+#[test]
+fn a_sign_is_renamed_by_its_owner(rt: HostRuntime) -> Result<(), Fail> {
+    let mut world = two_companies(rt.alloc())?;
+    let rows: [(u8, Code, u32, &[u8], Option<Why>); 6] = [
+        (0, Code::PlaceSign, 1_048_576, b"", Some(Why::Tile)),
+        (0, Code::PlaceSign, 1_048_575, b"", Some(Why::Text)),
+        (0, Code::PlaceSign, 1_048_575, b"here", None),
+        (0, Code::RenameSign, 1, b"there", Some(Why::NoSign)),
+        (1, Code::RenameSign, 0, b"there", Some(Why::NoSign)),
+        (0, Code::RenameSign, 0, b"there", None),
+    ];
+    for (company, code, number, text, wanted) in rows {
+        let why = refused(&mut world, company, code, number, text)?;
+        assert_eq!(rt; why, wanted);
+    }
+    Ok(())
+}
+
+#[test]
+fn names_are_not_empty_and_not_taken(rt: HostRuntime) -> Result<(), Fail> {
+    let mut world = two_companies(rt.alloc())?;
+    let rows: [(Code, &[u8], Option<Why>); 5] = [
+        (Code::RenameCompany, b"", Some(Why::Text)),
+        (Code::RenameCompany, b"Company 2", Some(Why::Text)),
+        (Code::RenameCompany, b"Company 1", None),
+        (Code::RenamePresident, b"", Some(Why::Text)),
+        (Code::RenamePresident, b"Ann", None),
+    ];
+    for (code, text, wanted) in rows {
+        let why = refused(&mut world, 0, code, 0, text)?;
+        assert_eq!(rt; why, wanted);
+    }
+    Ok(())
+}
+
+#[test]
+fn a_pause_is_a_change(rt: HostRuntime) -> Result<(), Fail> {
+    let mut world = two_companies(rt.alloc())?;
+    let rows = [
+        (2, Some(Why::Amount)),
+        (0, Some(Why::Same)),
+        (1, None),
+        (1, Some(Why::Same)),
+    ];
+    for (number, wanted) in rows {
+        let why = refused(&mut world, 0, Code::Pause, number, b"")?;
+        assert_eq!(rt; why, wanted);
     }
     Ok(())
 }
@@ -326,6 +261,21 @@ fn company(money: i64, loan: u32) -> Company
         name: founding::name_of(b"A"),
         president: founding::name_of(b"B"),
     }
+}
+
+#[test]
+fn a_name_is_taken_where_a_company_has_it(rt: HostRuntime) {
+    let companies = [None, Some(company(0, 0))];
+    assert!(rt; is_taken(b"A", &companies));
+    assert!(rt; !is_taken(b"B", &companies));
+    assert!(rt; !is_taken(b"A", &companies[..1]));
+}
+
+#[test]
+fn at_first_nobody_is_there(rt: HostRuntime) {
+    let places = no_companies();
+    assert_eq!(rt; places.len(), COMPANIES);
+    assert!(rt; places.iter().all(|place| place.is_none()));
 }
 
 #[test]

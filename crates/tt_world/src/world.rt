@@ -1,11 +1,13 @@
 //! The world of a game: what every end of it holds alike at each frame.
-ghost use Rattle.std.specs.Prelude.{◌≡◌, ◌<◌, ◌≤◌, IfOk, IfSome, IsSome, option_copied, replicate, vec_capacity};
+ghost use Rattle.std.specs.Prelude.{◌≡◌, ◌<◌, ◌≤◌, ◌^◌, IfOk, IfSome, IsSome, option_copied, vec_capacity};
 ghost use Rattle.tt_world.specs.World.{start, company_of, world_of_parts};
 ghost use Rattle.tt_world.specs.Sound.{IsCompany, IsSound};
 ghost use Rattle.tt_world.specs.Economy.{framed};
 
 use crate::company::Company;
 use crate::economy;
+use crate::limits::{COMPANIES, PARTS_OF_DAY, SIGNS};
+use crate::places::no_companies;
 use crate::random::Random;
 use crate::setup::Setup;
 use crate::sign::Sign;
@@ -13,20 +15,11 @@ use std::alloc::Global;
 use std::marker::Model;
 use tt_frame::OutOfMemory;
 
-/// How many companies there may be; their numbers are below this.
-pub(crate) const COMPANIES: usize = 15;
-
-/// How many signs there may be; their ids are below this.
-pub(crate) const SIGNS: usize = 1_000;
-
-/// How many parts, each of one frame, a day has.
-const PARTS_OF_DAY: u8 = 74;
-
 /// A world: random words, the day and its part, whether it is paused, companies by number, and signs.
 ///
-/// Contracts see it as a `WorldState`, and every value is sound: `every_world_is_sound` says so. `start` and `copy` alone
-/// take memory, room for 1,000 signs; `from_parts` is given it. `apply` does a command and `run_frame` runs a frame; both always answer. A game does
-/// in each frame first its entries, in order, and then `run_frame`.
+/// Contracts see it as a `WorldState`, and every value is sound: `signs` and `every_world_is_sound` say so. `start` and
+/// `copy` alone take memory, room for 1,000 signs; `from_parts` is given it. `apply` does a command and `run_frame` runs a
+/// frame; both always answer. A game does in each frame first its entries, in order, and then `run_frame`.
 #[derive(Debug, Drop)]
 pub struct World {
     pub(crate) random: Random,
@@ -74,7 +67,7 @@ impl World {
         day: u32,
         part: u8,
         paused: bool,
-        companies: [Option<Company>; 15],
+        companies: [Option<Company>; COMPANIES],
         signs: Vec<Sign>,
     ) -> World
         requires sound { IsSound (world_of_parts random day part paused companies signs.items) }
@@ -127,7 +120,10 @@ impl World {
     /// The random words.
     pub fn random(&self) -> &Random
         ensures words { result.now ≡ self.now.words }
+        ensures below { (self.now.words.0 < 2 ^ 32) × (self.now.words.1 < 2 ^ 32) }
     {
+        // Words that are read are known to be below 2 ^ 32.
+        let _words = self.random.words();
         &self.random
     }
 
@@ -170,18 +166,10 @@ impl World {
     /// The signs, in rising order of id.
     pub fn signs(&self) -> &[Sign]
         ensures signs { result.now ≡ self.now.signs }
+        ensures sound { IsSound self.now }
     {
         self.signs.as_slice()
     }
-}
-
-/// No company at any place.
-fn no_companies() -> [Option<Company>; COMPANIES]
-    ensures { result ≡ replicate 15 None }
-{
-    [
-        None, None, None, None, None, None, None, None, None, None, None, None, None, None, None,
-    ]
 }
 
 /// The same companies once more.
