@@ -1,8 +1,11 @@
--- First steps: lists of events, each of a plain game.
-use Rattle.std.specs.Prelude.{List, [], ◌∷◌, ◌++◌, replicate, codes}
+-- First steps: lists of events, all but the last one of the plain game.
+use Rattle.std.specs.Prelude.{ℕ, zero, suc, ◌+◌, false, pos, List, [], ◌∷◌, ◌++◌, replicate, codes}
 use Rattle.tt_edge.specs.declared.event.Event.{Event}
 use Rattle.tt_edge.specs.declared.event.Event.TheVariants.{Broken, Shut, Tick}
-use Rattle.tt_rows.specs.Words.{opens, ann, bob, joins, spectates, asks_what_game, asks_for_map, has_loaded, acknowledges, chats_to, quits, says}
+use Rattle.tt_world.specs.Setup.{plain}
+use Rattle.tt_world.specs.declared.sign.Sign.{Sign}
+use Rattle.tt_log.specs.Origin.{Origin}
+use Rattle.tt_rows.specs.Words.{company, sign, world, opens, ann, bob, joins, spectates, asks_what_game, asks_for_map, has_loaded, acknowledges, chats_to, quits, says}
 
 -- A welcomed member that never asks for the map ends behind 101 ticks.
 abbrev pub welcomed_and_quiet : List Event
@@ -94,3 +97,20 @@ chat_in_the_game =
 abbrev pub map_told_whole : List Event
 map_told_whole =
     opens ∷ spectates 1 ann ∷ asks_for_map 1 ∷ Tick ∷ []
+
+-- so many signs of company 0 from an id on, each with a text of 31 bytes
+abbrev pub signs_from : ℕ → ℕ → List Sign
+signs_from id zero = []
+signs_from id (suc n) = sign id 0 0 (replicate 31 97) ∷ signs_from (id + 1) n
+
+-- a game that begins with a company and 200 signs of 39 bytes each: a map of six pieces
+abbrev pub signs_game : Origin
+signs_game = record {
+  setup = plain;
+  start = world (0, 0) 0 0 false ((0, company (pos 100000) 100000 (codes "Company 1") (codes "President")) ∷ []) (signs_from 0 200);
+}
+
+-- Four pieces are told in a tick, and the last two in the next one.
+abbrev pub map_told_in_two_ticks : List Event
+map_told_in_two_ticks =
+    opens ∷ spectates 1 ann ∷ asks_for_map 1 ∷ Tick ∷ Tick ∷ []
