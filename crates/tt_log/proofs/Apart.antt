@@ -20,8 +20,8 @@ use Rattle.tt_log.specs.Deed.{Said, What, Step, Deed, ◌▹◌, where_, becomes
 use Rattle.tt_log.specs.Queue.{moved_up, left_place, leaves_queue, begins, changed, downloading, asks, waits}
 use Rattle.tt_log.specs.Ending.{leaves, ends, ends_untold}
 use Rattle.tt_log.specs.Judged.{judged}
-use Rattle.tt_log.specs.PacketRules.{does, client_info, company_step_by, password_step_by, enters, becomes_active, asks_company, acknowledges, has_caught_up, waits_by, is_let_in, is_in_scope, first_company}
-use Rattle.tt_log.specs.Tick.{stamps, drawn, tells_entries, stamped, counted, permitted, told_frame, allowed, moved_if, all_moved, foundings, founders_moved, synced, mapped, if_downloading, next_pieces, is_done, told_pieces, pieces_of, map_left, late, ends_if, limited, each_limited, timed, ticked}
+use Rattle.tt_log.specs.PacketRules.{does, client_info, company_step_by, password_step_by, enters, becomes_active, asks_company, acknowledges, has_caught_up, waits_by, welcomes, is_in_scope, first_company}
+use Rattle.tt_log.specs.Tick.{stamps, drawn, tells_entries, stamped, counted, permitted, told_frame, allowed, moved_if, all_moved, foundings, founders_moved, synced, mapped, if_downloading, next_pieces, finishes_map, pieces_of, map_left, late, ends_if, limited, each_limited, timed, ticked}
 use Rattle.tt_log.specs.Events.{read_msg, opened, arrives, counted_in, by_verdict, heard, to_member, by_event, charged, closed, shut_down, stepped, takes, deed}
 use Rattle.tt_log.specs.History.{table_of}
 use Rattle.tt_log.specs.Tellings.{Filling, Telling, telling, filled, messages_of, filling}
@@ -191,7 +191,7 @@ ends-passes c o m code t ne a = then-passes c t (tells (m.conn ∷ []) (ServerEr
 
 -- ---- packets
 
-let-in-passes : (c : ℕ) (o : Origin) (m : Member) (t : Table) → IsNotOn c m → Apart c t → Passes c t (is_let_in o m t)
+let-in-passes : (c : ℕ) (o : Origin) (m : Member) (t : Table) → IsNotOn c m → Apart c t → Passes c t (welcomes o m t)
 let-in-passes c o m t ne a =
     let in_ : Member = record (now_in Authorized t m) { company = first_company m.asked } in
     then-passes c t (tells (m.conn ∷ []) (ServerWelcome m.client o.setup.seed o.setup.id) (with_member in_ t)) (tells_playing (client_info in_)) (says c (m.conn ∷ []) (msg (ServerWelcome m.client o.setup.seed o.setup.id)) (with_member in_ t) (with-apart c in_ t ne a) (ne, tt)) (λ b. playing-passes c (client_info in_) (with_member in_ t) b)
@@ -299,9 +299,10 @@ all-moved-passes c (f ∷ fs) t a =
 
 pieces-passes : (c : ℕ) (left : List ℕ) (m : Member) (t : Table) → IsNotOn c m → Apart c t → Passes c t (next_pieces left m t)
 pieces-passes c left m t ne a =
-    let d : Deed = tells_what (m.conn ∷ []) map_pieces t ▹ told_pieces (pieces_of 4 left) m in
-    let first_two : Passes c t d = then-passes c t (tells_what (m.conn ∷ []) map_pieces t) (told_pieces (pieces_of 4 left) m) (says c (m.conn ∷ []) map_pieces t a (ne, tt)) (λ b. record { apart = with-apart c _ t ne b; openings = omega arith; misses = tt }) in
-    then-passes c t d (where_ (not (nat_lt (4 * 1400) (length left))) (is_done m)) first_two (λ b. where-passes c (not (nat_lt (4 * 1400) (length left))) (is_done m) d.table b (record { apart = with-apart c _ d.table ne b; openings = omega arith; misses = tt }))
+    let more : Member = record m { pieces = m.pieces + length (pieces_of 4 left) } in
+    let d : Deed = tells_what (m.conn ∷ []) map_pieces (with_member more t) in
+    let kept : Passes c t d = record { apart = with-apart c more t ne a; openings = omega arith; misses = ((ne, tt), tt) } in
+    then-passes c t d (where_ (not (nat_lt (4 * 1400) (length left))) (finishes_map more)) kept (λ b. where-passes c (not (nat_lt (4 * 1400) (length left))) (finishes_map more) d.table b (record { apart = with-apart c _ d.table ne b; openings = omega arith; misses = tt }))
 
 if-downloading-passes : (c : ℕ) (m : Option Member) (o : Origin) (t : Table) → IsAway c m → Apart c t → Passes c t (if_downloading m o t)
 if-downloading-passes c None o t away a = still c t a
@@ -370,7 +371,7 @@ event-passes c o Tick t ne a = ticked-passes c o t a
 event-passes c o Stop t ne a = still c t a
 
 shut-passes : (c : ℕ) (t : Table) → Apart c t → Passes c t (shut_down t)
-shut-passes c t a = record { apart = record { members = tt; queue = tt }; openings = omega arith; misses = (conns-not c t.members a.members, tt) }
+shut-passes c t a = record { apart = record { members = tt; queue = tt }; openings = omega arith; misses = (conns-not c t.members a.members, (conns-not c t.members a.members, tt)) }
 
 taken-passes : (c : ℕ) (o : Origin) (e : Event) (t : Table) → Spares c t e → Apart c t → Passes c t (taken o e t)
 taken-passes c o e t ne a =

@@ -22,7 +22,7 @@ use Rattle.tt_log.specs.Queue.{moved_up, left_place, leaves_queue, begins, chang
 use Rattle.tt_log.specs.Ending.{leaves, ends_untold}
 use Rattle.tt_log.specs.Judged.{judged}
 use Rattle.tt_log.specs.PacketRules.{does, company_step_by, password_step_by, enters, becomes_active, asks_company, acknowledges, has_caught_up, waits_by}
-use Rattle.tt_log.specs.Tick.{stamps, drawn, tells_entries, stamped, counted, permitted, allowed, moved_if, all_moved, foundings, founders_moved, synced, mapped, if_downloading, next_pieces, is_done, told_pieces, pieces_of, map_left, late, ends_if, limited, each_limited, timed, ticked}
+use Rattle.tt_log.specs.Tick.{stamps, drawn, tells_entries, stamped, counted, permitted, allowed, moved_if, all_moved, foundings, founders_moved, synced, mapped, if_downloading, next_pieces, finishes_map, pieces_of, map_left, late, ends_if, limited, each_limited, timed, ticked}
 use Rattle.tt_log.specs.Events.{read_msg, opened, arrives, counted_in, by_verdict, heard, to_member, by_event, charged, closed, shut_down, is_stop, last_frame, stepped, takes, names_live}
 use Rattle.tt_log.specs.History.{table_of}
 
@@ -157,8 +157,9 @@ all-moved-same (f ∷ fs) t =
 
 pieces-same : (left : List ℕ) (m : Member) (t : Table) → SameClock t (next_pieces left m t).table
 pieces-same left m t =
-    let u : Table = (told_pieces (pieces_of 4 left) m t).table in
-    same-then t u (next_pieces left m t).table (record { frame = refl; top = refl; over = refl; journal = refl }) (where-same (not (nat_lt (4 * 1400) (length left))) (is_done m) u (record { frame = refl; top = refl; over = refl; journal = refl }))
+    let told : Member = record m { pieces = m.pieces + length (pieces_of 4 left) } in
+    let u : Table = with_member told t in
+    same-then t u (next_pieces left m t).table (record { frame = refl; top = refl; over = refl; journal = refl }) (where-same (not (nat_lt (4 * 1400) (length left))) (finishes_map told) u (record { frame = refl; top = refl; over = refl; journal = refl }))
 
 if-downloading-same : (m : Option Member) (o : Origin) (t : Table) → SameClock t (if_downloading m o t).table
 if-downloading-same None o t = record { frame = refl; top = refl; over = refl; journal = refl }

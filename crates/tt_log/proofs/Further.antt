@@ -15,7 +15,7 @@ use Rattle.tt_log.specs.Member.{Member, is_in}
 use Rattle.tt_log.specs.Deed.{Deed, ◌▹◌, where_, becomes, tells, tells_each, tells_what, tells_playing, msg, entries}
 use Rattle.tt_log.specs.Queue.{moved_up, leaves_queue, asks}
 use Rattle.tt_log.specs.Judged.{judged}
-use Rattle.tt_log.specs.PacketRules.{does, client_info, company_step_by, password_step_by, enters, becomes_active, asks_company, acknowledges, has_caught_up, waits_by, is_let_in, first_company}
+use Rattle.tt_log.specs.PacketRules.{does, client_info, company_step_by, password_step_by, enters, becomes_active, asks_company, acknowledges, has_caught_up, waits_by, welcomes, first_company}
 use Rattle.tt_log.specs.Events.{by_verdict, heard}
 use Rattle.std.proofs.lemmas.Bool.{eqb-true}
 use Rattle.tt_rules.specs.Statuses.{rank}
@@ -27,7 +27,7 @@ use Rattle.tt_log.proofs.Phases.{Phase, Early, Queued, InGame, fits, Suits, Once
 
 -- ---- packets
 
-pub let-in-keeps : (c : ℕ) (p : Phase) (o : Origin) (m : Member) (t : Table) → rank m.status ≤ 4 → Suits c p m → Has c p t → KeepsBy c p (is_let_in o m t)
+pub let-in-keeps : (c : ℕ) (p : Phase) (o : Origin) (m : Member) (t : Table) → rank m.status ≤ 4 → Suits c p m → Has c p t → KeepsBy c p (welcomes o m t)
 let-in-keeps c p o m t low s h =
     let in_ : Member = record (now_in Authorized t m) { company = first_company m.asked } in
     let d : Deed = tells (m.conn ∷ []) (ServerWelcome m.client o.setup.seed o.setup.id) (with_member in_ t) in

@@ -9,11 +9,11 @@ use Rattle.tt_game.specs.declared.message.GameMsg.TheVariants.{ServerErrorQuit}
 use Rattle.tt_world.specs.declared.command.Entry.{Entry}
 use Rattle.tt_rules.specs.declared.status.Status.TheVariants.{Map, DoneMap}
 use Rattle.tt_log.specs.Origin.{Origin, world_at, at_frame}
-use Rattle.tt_log.specs.Table.{Table, member_of, playing, is_on}
+use Rattle.tt_log.specs.Table.{Table, member_of, with_member, playing, is_on}
 use Rattle.tt_log.specs.Member.{Member, is_in, is_playing, new_member}
 use Rattle.tt_log.specs.Deed.{Deed, ◌▹◌, where_, becomes, tells_what, map_pieces}
 use Rattle.tt_log.specs.Ending.{ends_untold}
-use Rattle.tt_log.specs.Tick.{stamps, drawn, tells_entries, stamped, counted, permitted, told_frame, allowed, moved_if, all_moved, foundings, founders_moved, synced, mapped, if_downloading, next_pieces, is_done, told_pieces, pieces_of, map_left, late, ends_if, limited, each_limited, timed, ticked}
+use Rattle.tt_log.specs.Tick.{stamps, drawn, tells_entries, stamped, counted, permitted, told_frame, allowed, moved_if, all_moved, foundings, founders_moved, synced, mapped, if_downloading, next_pieces, finishes_map, pieces_of, map_left, late, ends_if, limited, each_limited, timed, ticked}
 use Rattle.tt_log.specs.Events.{read_msg, opened, arrives, counted_in, heard, to_member, by_event, charged, closed, shut_down, takes, deed}
 use Rattle.std.proofs.lemmas.Bool.{eqb-true, leb-true}
 use Rattle.tt_rules.specs.Statuses.{rank}
@@ -102,10 +102,11 @@ all-moved-keeps c p (f ∷ fs) t h =
 
 pieces-keeps : (c : ℕ) (p : Phase) (left : List ℕ) (m : Member) (t : Table) → rank m.status ≡ 6 → Suits c p m → Has c p t → KeepsBy c p (next_pieces left m t)
 pieces-keeps c p left m t at s h =
-    let d : Deed = tells_what (m.conn ∷ []) map_pieces t ▹ told_pieces (pieces_of 4 left) m in
-    let k : KeepsBy c p d = record { holds = put c p (record m { pieces = m.pieces + length (pieces_of 4 left) }) t s h; quiet = (refl, tt) } in
-    then-keeps c p d (where_ (not (nat_lt (4 * 1400) (length left))) (is_done m)) k (λ b. where-keeps c p (not (nat_lt (4 * 1400) (length left))) (is_done m) d.table b
-    (λ yes. record { holds = put c p (record m { status = DoneMap }) d.table (λ own. queued-stays p (rank m.status) 7 (omega (arith, at)) (omega (arith, at)) (omega arith) (omega arith) (s own)) b; quiet = tt }))
+    let told : Member = record m { pieces = m.pieces + length (pieces_of 4 left) } in
+    let d : Deed = tells_what (m.conn ∷ []) map_pieces (with_member told t) in
+    let k : KeepsBy c p d = record { holds = put c p told t s h; quiet = (refl, tt) } in
+    then-keeps c p d (where_ (not (nat_lt (4 * 1400) (length left))) (finishes_map told)) k (λ b. where-keeps c p (not (nat_lt (4 * 1400) (length left))) (finishes_map told) d.table b
+    (λ yes. record { holds = put c p (record told { status = DoneMap }) d.table (λ own. queued-stays p (rank m.status) 7 (omega (arith, at)) (omega (arith, at)) (omega arith) (omega arith) (s own)) b; quiet = tt }))
 
 if-downloading-keeps : (c : ℕ) (p : Phase) (m : Option Member) (o : Origin) (t : Table) → AllOption (λ n. is_in Map n ≡ true) m → AllOption (Suits c p) m → Has c p t → KeepsBy c p (if_downloading m o t)
 if-downloading-keeps c p None o t is s h = still-keeps c p t h

@@ -21,7 +21,7 @@ use Rattle.tt_log.specs.Queue.{asks}
 use Rattle.tt_log.specs.Ending.{leaves, ends_untold}
 use Rattle.tt_log.specs.Judged.{judged}
 use Rattle.tt_log.specs.PacketRules.{does, company_step_by, password_step_by, enters, becomes_active, asks_company, acknowledges, has_caught_up, waits_by}
-use Rattle.tt_log.specs.Tick.{stamps, drawn, tells_entries, stamped, counted, permitted, told_frame, allowed, moved_if, all_moved, foundings, founders_moved, synced, mapped, if_downloading, next_pieces, is_done, told_pieces, pieces_of, map_left, late, ends_if, limited, each_limited, ticked}
+use Rattle.tt_log.specs.Tick.{stamps, drawn, tells_entries, stamped, counted, permitted, told_frame, allowed, moved_if, all_moved, foundings, founders_moved, synced, mapped, if_downloading, next_pieces, finishes_map, pieces_of, map_left, late, ends_if, limited, each_limited, ticked}
 use Rattle.tt_log.specs.Events.{read_msg, opened, arrives, counted_in, by_verdict, heard, to_member, by_event, charged, shut_down, stepped, takes}
 use Rattle.tt_log.specs.History.{table_of}
 use Rattle.tt_log.proofs.Clock.{taken, ends_by}
@@ -152,9 +152,10 @@ all-moved-ordered n (f ∷ fs) t a =
 
 pieces-ordered : (n : ℕ) (left : List ℕ) (m : Member) (t : Table) → Ordered n t → Ordered n (next_pieces left m t).table
 pieces-ordered n left m t a =
-    let u : Table = (told_pieces (pieces_of 4 left) m t).table in
-    let b : Ordered n u = put-ordered n (record m { pieces = m.pieces + length (pieces_of 4 left) }) t a in
-    where-ordered n (not (nat_lt (4 * 1400) (length left))) (is_done m) u b (put-ordered n (record m { status = DoneMap }) u b)
+    let told : Member = record m { pieces = m.pieces + length (pieces_of 4 left) } in
+    let u : Table = with_member told t in
+    let b : Ordered n u = put-ordered n told t a in
+    where-ordered n (not (nat_lt (4 * 1400) (length left))) (finishes_map told) u b (put-ordered n (record told { status = DoneMap }) u b)
 
 if-downloading-ordered : (n : ℕ) (m : Option Member) (o : Origin) (t : Table) → Ordered n t → Ordered n (if_downloading m o t).table
 if-downloading-ordered n None o t a = a

@@ -86,7 +86,8 @@ last_frame = 4000000000
 
 -- every connection that lives is told, and all end at once
 abbrev pub shut_down : Table → Deed
-shut_down t = tells (map (λ m. m.conn) t.members) ServerShutdown (record t { members = []; queue = []; over = true })
+shut_down t = let all = map (λ m. m.conn) t.members in
+    tells all ServerShutdown (record t { members = []; queue = []; over = true }) ▹ tells_what all end
 
 -- the game is over behind a Stop, at its cost, and at its last frame
 abbrev pub closed : Origin → Event → Table → Deed

@@ -42,15 +42,15 @@ grf_version = 13
 abbrev pub is_same_game : Origin → List ℕ → ℕ → Bool
 is_same_game o revision grf = bytes_eq revision o.setup.revision && (grf == grf_version)
 
--- whether a digest was set and is this one
-abbrev pub is_digest_of : Option (List ℕ) → List ℕ → Bool
-is_digest_of None given = false
-is_digest_of (Some digest) given = bytes_eq digest given
+-- whether there is a digest, and it is the same as this one
+abbrev pub is_same_digest : Option (List ℕ) → List ℕ → Bool
+is_same_digest None digest = false
+is_same_digest (Some one) digest = bytes_eq one digest
 
 -- whether what is given opens a company: one without a password, or by its digest
 abbrev pub opens : Option (List ℕ) → Option (List ℕ) → Bool
 opens None given = true
-opens (Some digest) given = is_digest_of given digest
+opens (Some digest) given = is_same_digest given digest
 
 -- ---- the refusals of each packet that its status permits, in their order
 
@@ -65,7 +65,7 @@ abbrev pub game_password_refused : Origin → List ℕ → Option ℕ
 game_password_refused o digest = not (bytes_eq digest (password_digest o.setup.password o.setup.id o.setup.seed)) ⇒ wrong_password
 
 abbrev pub company_password_refused : Table → Member → List ℕ → Option ℕ
-company_password_refused t m digest = not (is_digest_of (digest_of t m.asked) digest) ⇒ wrong_password
+company_password_refused t m digest = not (is_same_digest (digest_of t m.asked) digest) ⇒ wrong_password
 
 abbrev pub name_refused : Table → Member → List ℕ → Option ℕ
 name_refused t m name = is_empty name ⇒ invalid_client_name or_else is_too_long (given_name t m.conn name) ⇒ name_in_use

@@ -36,13 +36,13 @@ abbrev pub first_company : ℕ → ℕ
 first_company asked = cond (asked == founder) spectator asked
 
 -- the welcome: it is AUTHORIZED, and all that play are told of it
-abbrev pub is_let_in : Origin → Member → Table → Deed
-is_let_in o m t = let in_ = record (now_in Authorized t m) { company = first_company m.asked } in
+abbrev pub welcomes : Origin → Member → Table → Deed
+welcomes o m t = let in_ = record (now_in Authorized t m) { company = first_company m.asked } in
     tells (m.conn ∷ []) (ServerWelcome m.client o.setup.seed o.setup.id) (with_member in_ t) ▹ tells_playing (client_info in_)
 
 -- the company step: a company with a password asks for it
 abbrev pub company_step_by : Option (List ℕ) → Origin → Member → Table → Deed
-company_step_by None o m t = is_let_in o m t
+company_step_by None o m t = welcomes o m t
 company_step_by (Some digest) o m t = tells (m.conn ∷ []) (ServerNeedCompanyPassword o.setup.seed o.setup.id) (with_member (now_in AuthCompany t m) t)
 
 abbrev pub company_step : Origin → Member → Table → Deed
@@ -123,7 +123,7 @@ abbrev pub does : Origin → Member → GameMsg → Table → Deed
 does o m (ClientJoin revision grf name company) t = joins o m name company t
 does o m ClientGameInfo t = tells_game o m t
 does o m (ClientGamePassword digest) t = company_step o m t
-does o m (ClientCompanyPassword digest) t = is_let_in o m t
+does o m (ClientCompanyPassword digest) t = welcomes o m t
 does o m ClientGetmap t = asks o m t
 does o m ClientMapOk t = enters o m t
 does o m (ClientAck frame) t = acknowledges m frame t

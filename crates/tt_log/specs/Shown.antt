@@ -1,7 +1,7 @@
 -- What a stream shows a client: which message it permits where, and what is made of it. Both ends stand on this one table.
-use Rattle.std.specs.Prelude.{ℕ, ◌+◌, Bool, true, false, not, ◌==◌, nat_le, List, [], ◌∷◌, ◌++◌, length, Option, Some, None}
+use Rattle.std.specs.Prelude.{ℕ, ◌+◌, Bool, true, false, not, ◌==◌, nat_le, cond, if◌then◌else◌, List, [], ◌∷◌, ◌++◌, fold, length, Option, Some, None}
 use Rattle.std.specs.Result.{result_ok}
-use Rattle.tt_frame.specs.Packet.{Packet}
+use Rattle.tt_frame.specs.Packet.{Packet, size_of}
 use Rattle.tt_frame.specs.Stream.{End, rest_of, bad_size}
 use Rattle.tt_frame.specs.StreamReading.{reading}
 use Rattle.tt_lockstep.specs.Told as told
@@ -14,6 +14,7 @@ use Rattle.tt_world.specs.declared.command.Command.{Command}
 use Rattle.tt_world.specs.declared.command.Entry.{Entry}
 use Rattle.tt_world.specs.World.{WorldState}
 use Rattle.tt_map.specs.Reading.{map_in}
+use Rattle.tt_rules.specs.Codes.{kicked}
 use Rattle.tt_rules.specs.Commands.{command_of}
 use Rattle.tt_log.specs.Origin.{Origin, game_of}
 use Rattle.tt_log.specs.Judged.{is_empty}
@@ -146,23 +147,118 @@ place_behind place msg = unless_parted (told_at place msg) (moves_on place msg)
 abbrev pub dialog : Dialog Place GameMsg WorldState Entry
 dialog = record { first = Asking; next = place_behind; thing = told_at }
 
--- ---- what a stream shows
+-- ---- what stands in a stream
 
--- the things that whole packets tell, one behind the other; a packet that spells nothing tells what is not permitted
-abbrev pub things_of : Place → List Packet → List (Told WorldState Entry)
+-- what begins at a byte of a stream: a packet, with the message that it spells if it spells one, or a bad size
+pub record Item : Type 0 where
+  pub at : ℕ
+  pub msg : Option GameMsg
+
+-- packets from a byte on, one behind the other, and a bad size where one stands behind them
+abbrev pub items_from : ℕ → List Packet → End → List Item
+items_from at [] (rest_of rest) = []
+items_from at [] (bad_size n) = record { at = at; msg = None } ∷ []
+items_from at (p ∷ packets) end = record { at = at; msg = read_msg p.kind p.body } ∷ items_from (at + size_of p) packets end
+
+abbrev pub items_in : List ℕ → List Item
+items_in bytes = let read = reading 32767 bytes in items_from 0 read.0 read.1
+
+-- what an item tells at a place of the dialogue: one without a message tells what is not permitted
+abbrev pub item_told : Place → Option GameMsg → Told WorldState Entry
+item_told place None = told.Stray
+item_told place (Some msg) = told_at place msg
+
+abbrev pub place_then : Place → Option GameMsg → Place
+place_then place None = Parted
+place_then place (Some msg) = place_behind place msg
+
+-- the things that items tell, one behind the other
+abbrev pub things_of : Place → List Item → List (Told WorldState Entry)
 things_of place [] = []
-things_of place (p ∷ packets) = elim (read_msg p.kind p.body) [ Some msg ↦ told_at place msg ∷ things_of (place_behind place msg) packets | None ↦ told.Stray ∷ things_of Parted packets ]
-
--- a bad size is not permitted either
-abbrev pub things_behind : End → List (Told WorldState Entry)
-things_behind (rest_of rest) = []
-things_behind (bad_size n) = told.Stray ∷ []
+things_of place (i ∷ items) = item_told place i.msg ∷ things_of (place_then place i.msg) items
 
 -- the things that a stream tells, from its beginning
 abbrev pub things_in : List ℕ → List (Told WorldState Entry)
-things_in bytes = let read = reading 32767 bytes in things_of Asking read.0 ++ things_behind read.1
+things_in bytes = things_of Asking (items_in bytes)
 
--- what a front of a stream shows its client: its phase; once it is loaded, its map's world and frame, the permitted frame,
--- the commands, and the words to compare
-abbrev pub shown : Origin → List ℕ → lockstep.Shown WorldState Entry
-shown o bytes = lockstep.shown (game_of o) lockstep.Joining (things_in bytes)
+-- ---- what a stream shows
+
+-- how a client stands by what it was told
+pub data Phase : Type 0 where
+  -- it has no map yet
+  Joining : Phase
+  -- it has its map, and plays
+  Loaded : Phase
+  -- it was ended with a code
+  EndedWith : (code : ℕ) → Phase
+  -- the game was over
+  ShutDown : Phase
+  -- what begins at this byte of its stream is not permitted there
+  WrongAt : (at : ℕ) → Phase
+
+-- what a client was shown
+pub record Shown : Type 0 where
+  pub phase : Phase
+  -- where the dialogue stands
+  pub place : Place
+  -- once it has its map: the map's world and frame, the permitted frame, the commands, and the words to compare
+  pub seen : lockstep.Shown WorldState Entry
+  -- its client number, 0 before the welcome
+  pub client : ℕ
+  -- its own company, 255 before one is named
+  pub company : ℕ
+
+-- before the first item
+abbrev pub nothing_shown : Shown
+nothing_shown = record { phase = Joining; place = Asking; seen = lockstep.Joining; client = 0; company = 255 }
+
+-- it was not ended, nor told what is not permitted
+abbrev pub goes_on : Phase → Bool
+goes_on Joining = true
+goes_on Loaded = true
+goes_on _ = false
+
+-- the code of a server that is full
+abbrev pub server_full : ℕ
+server_full = 14
+
+-- a client learns its number by its welcome, and its company wherever this number is named with one
+abbrev pub learns : Option GameMsg → Shown → Shown
+learns (Some (ServerWelcome client seed id)) s = record s { client = client }
+learns (Some (ServerClientInfo client company name)) s = record s { company = cond (client == s.client) company s.company }
+learns (Some (ServerMove client company)) s = record s { company = cond (client == s.client) company s.company }
+learns _ s = s
+
+-- how a client ends by a message that tells its end: by a code, or because the game is over
+abbrev pub end_by : Option GameMsg → Phase
+end_by (Some ServerFull) = EndedWith server_full
+end_by (Some ServerBanned) = EndedWith kicked
+end_by (Some (ServerError code)) = EndedWith code
+end_by _ = ShutDown
+
+-- the phase behind an item, by what lockstep sees then
+abbrev pub phase_by : lockstep.Shown WorldState Entry → Item → Phase
+phase_by lockstep.Joining i = Joining
+phase_by (lockstep.Running view) i = Loaded
+phase_by lockstep.EndedJoining i = end_by i.msg
+phase_by (lockstep.Ended view) i = end_by i.msg
+phase_by lockstep.WrongJoining i = WrongAt i.at
+phase_by (lockstep.Wrong view) i = WrongAt i.at
+
+-- an item more: what it tells is seen
+abbrev pub with_item : Origin → Shown → Item → Shown
+with_item o s i =
+    let seen = lockstep.seen (game_of o) s.seen (item_told s.place i.msg) in
+    record s { phase = phase_by seen i; place = place_then s.place i.msg; seen = seen }
+
+-- and it is learnt from, where the client goes on by it
+abbrev pub behind : Origin → Shown → Item → Shown
+behind o s i = let next = with_item o s i in if goes_on next.phase then learns i.msg next else next
+
+-- the first item that ends the client is the last one that counts
+abbrev pub unless_over : Origin → Shown → Item → Shown
+unless_over o s i = if goes_on s.phase then behind o s i else s
+
+-- what a front of a stream shows its client
+abbrev pub shown : Origin → List ℕ → Shown
+shown o bytes = fold (unless_over o) nothing_shown (items_in bytes)

@@ -102,16 +102,14 @@ pieces_of (suc n) (b ∷ bs) = take 1400 (b ∷ bs) ∷ pieces_of n (drop 1400 (
 abbrev pub map_left : Origin → Table → Member → List ℕ
 map_left o t m = drop (1400 * m.pieces) (map_of (world_at o t.journal m.map_frame))
 
--- these pieces count as told
-abbrev pub told_pieces : List (List ℕ) → Member → Table → Deed
-told_pieces pieces m t = becomes (with_member (record m { pieces = m.pieces + length pieces }) t)
+-- its map was told whole: it is DONE_MAP
+abbrev pub finishes_map : Member → Table → Deed
+finishes_map m t = becomes (with_member (record m { status = DoneMap }) t)
 
-abbrev pub is_done : Member → Table → Deed
-is_done m t = becomes (with_member (record m { status = DoneMap }) t)
-
--- the member is told up to four pieces, and behind the last one that the map is done: then it is DONE_MAP
+-- the member is told up to four pieces, which count as told, and behind the last one that the map is done
 abbrev pub next_pieces : List ℕ → Member → Table → Deed
-next_pieces left m t = let pieces = pieces_of 4 left in tells_what (m.conn ∷ []) map_pieces t ▹ told_pieces pieces m ▹ where_ (not (nat_lt (4 * 1400) (length left))) (is_done m)
+next_pieces left m t = let told = record m { pieces = m.pieces + length (pieces_of 4 left) } in
+    tells_what (m.conn ∷ []) map_pieces (with_member told t) ▹ where_ (not (nat_lt (4 * 1400) (length left))) (finishes_map told)
 
 abbrev pub if_downloading : Option Member → Origin → Table → Deed
 if_downloading None o t = becomes t

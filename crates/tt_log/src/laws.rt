@@ -10,6 +10,8 @@ ghost use Rattle.tt_log.specs.Deed.{Said, becomes};
 ghost use Rattle.tt_log.specs.History.{AreFor, AreRising, journal_of, table_of, world_behind};
 ghost use Rattle.tt_log.specs.Origin.{IsJournal, Origin, above, folded, game_of, world_at};
 ghost use Rattle.tt_lockstep.specs.Journal.{AreAbove, AreUpTo};
+ghost use Rattle.tt_lockstep.specs.Shown as lockstep;
+ghost use Rattle.tt_log.specs.Shown.{shown, things_in};
 ghost use Rattle.tt_world.specs.declared.command.Entry.{Entry};
 ghost use Rattle.tt_log.specs.Table.{Table, is_live, member_of};
 ghost use Rattle.tt_log.specs.Told.{heard, heard_from, is_entry, sent};
@@ -121,4 +123,9 @@ pub fn a_tick_is_a_frame()
     ensures frame { (o : Origin) (t : Table) (e : Event) → is_tick e ≡ false → (stepped o t e).frame ≡ t.frame }
     ensures top { (o : Origin) (t : Table) (e : Event) → is_tick e ≡ false → (stepped o t e).top ≡ t.top }
     ensures journal { (o : Origin) (t : Table) (e : Event) → is_tick e ≡ false → (stepped o t e).journal ≡ t.journal }
+{}
+
+/// What a stream shows a client is what lockstep makes of the things that the stream tells.
+pub fn shown_is_seen()
+    ensures { (o : Origin) (bytes : List ℕ) → (shown o bytes).seen ≡ lockstep.shown (game_of o) lockstep.Joining (things_in bytes) }
 {}

@@ -1,103 +1,78 @@
--- Joining and downloading: lists of events, and what each game is made from.
-use Rattle.std.specs.Prelude.{List, [], ◌∷◌, codes}
+-- Joining and downloading: lists of events, and what a game is made from that is not plain.
+use Rattle.std.specs.Prelude.{List, [], ◌∷◌, ◌++◌, replicate, codes}
 use Rattle.tt_edge.specs.declared.event.Event.{Event}
 use Rattle.tt_edge.specs.declared.event.Event.TheVariants.{Broken, Shut, Tick}
 use Rattle.tt_world.specs.Setup.{plain}
 use Rattle.tt_log.specs.Origin.{Origin}
-use Rattle.tt_rows.specs.Words.{made_from, opens, says}
+use Rattle.tt_rows.specs.Words.{made_from, opens, ann, bob, joins, spectates, asks_what_game, gives_password, asks_for_map, has_loaded, says}
 
 -- A bad size ends its own connection alone.
-abbrev pub two_joins_one_broken_game : Origin
-two_joins_one_broken_game = made_from plain
-
 abbrev pub two_joins_one_broken : List Event
 two_joins_one_broken =
-    opens ∷ opens ∷ Broken 1 ∷ says 2 (codes "11000231332e34000d000000416e6e00ff") ∷ []
+    opens ∷ opens ∷ Broken 1 ∷ spectates 2 ann ∷ []
 
 -- An empty name ends with its code.
-abbrev pub empty_name_game : Origin
-empty_name_game = made_from plain
-
 abbrev pub empty_name : List Event
 empty_name =
-    opens ∷ says 1 (codes "0e000231332e34000d00000000ff") ∷ []
+    opens ∷ spectates 1 [] ∷ []
 
 -- Two members want one name.
-abbrev pub same_name_game : Origin
-same_name_game = made_from plain
-
 abbrev pub same_name : List Event
 same_name =
-    opens ∷ opens ∷ says 1 (codes "11000231332e34000d000000416e6e00ff") ∷ says 2 (codes "11000231332e34000d000000416e6e00ff") ∷ []
+    opens ∷ opens ∷ spectates 1 ann ∷ spectates 2 ann ∷ []
 
 -- A spectator from its opening into the game.
-abbrev pub whole_join_game : Origin
-whole_join_game = made_from plain
-
 abbrev pub whole_join : List Event
 whole_join =
-    opens ∷ says 1 (codes "11000231332e34000d000000416e6e00ff") ∷ says 1 (codes "03000d") ∷ Tick ∷ says 1 (codes "030013") ∷ Tick ∷ []
+    opens ∷ spectates 1 ann ∷ asks_for_map 1 ∷ Tick ∷ has_loaded 1 ∷ Tick ∷ []
 
 -- The second waits until the first has its map.
-abbrev pub next_downloads_game : Origin
-next_downloads_game = made_from plain
-
 abbrev pub next_downloads : List Event
 next_downloads =
-    opens ∷ opens ∷ says 1 (codes "11000231332e34000d000000416e6e00ff") ∷ says 2 (codes "11000231332e34000d000000426f6200ff") ∷ says 1 (codes "03000d") ∷ says 2 (codes "03000d") ∷ Tick ∷ says 1 (codes "030013") ∷ []
+    opens ∷ opens ∷ spectates 1 ann ∷ spectates 2 bob ∷ asks_for_map 1 ∷ asks_for_map 2 ∷ Tick ∷ has_loaded 1 ∷ []
 
 -- The second begins where the first leaves.
-abbrev pub first_leaves_game : Origin
-first_leaves_game = made_from plain
-
 abbrev pub first_leaves : List Event
 first_leaves =
-    opens ∷ opens ∷ says 1 (codes "11000231332e34000d000000416e6e00ff") ∷ says 2 (codes "11000231332e34000d000000426f6200ff") ∷ says 1 (codes "03000d") ∷ says 2 (codes "03000d") ∷ Shut 1 ∷ []
+    opens ∷ opens ∷ spectates 1 ann ∷ spectates 2 bob ∷ asks_for_map 1 ∷ asks_for_map 2 ∷ Shut 1 ∷ []
+
+-- a game with a password
+abbrev pub password_game : Origin
+password_game = made_from (record plain { password = codes "tttttttttttttttttttttttttttttttt" })
 
 -- A game with a password asks for it.
-abbrev pub asked_for_password_game : Origin
-asked_for_password_game = made_from (record plain { password = codes "tttttttttttttttttttttttttttttttt" })
-
 abbrev pub asked_for_password : List Event
 asked_for_password =
-    opens ∷ says 1 (codes "11000231332e34000d000000416e6e00ff") ∷ []
+    opens ∷ spectates 1 ann ∷ []
 
 -- The right digest is let in.
-abbrev pub right_password_game : Origin
-right_password_game = made_from (record plain { password = codes "tttttttttttttttttttttttttttttttt" })
-
 abbrev pub right_password : List Event
 right_password =
-    opens ∷ says 1 (codes "11000231332e34000d000000416e6e00ff") ∷ says 1 (codes "240009373062633866346237326138363932313436386266386538343431646365353100") ∷ []
+    opens ∷ spectates 1 ann ∷ gives_password 1 (codes "70bc8f4b72a86921468bf8e8441dce51") ∷ []
 
 -- Another digest ends with its code.
-abbrev pub wrong_password_game : Origin
-wrong_password_game = made_from (record plain { password = codes "tttttttttttttttttttttttttttttttt" })
-
 abbrev pub wrong_password : List Event
 wrong_password =
-    opens ∷ says 1 (codes "11000231332e34000d000000416e6e00ff") ∷ says 1 (codes "240009373062633866346237326138363932313436386266386538343431646365353200") ∷ []
+    opens ∷ spectates 1 ann ∷ gives_password 1 (codes "70bc8f4b72a86921468bf8e8441dce52") ∷ []
 
--- More than may be there are told so, and use up a client number.
+-- a game for one client
 abbrev pub full_game : Origin
 full_game = made_from (record plain { max_clients = 1 })
 
+-- More than may be there are told so, and use up a client number.
 abbrev pub full : List Event
 full =
-    opens ∷ opens ∷ says 1 (codes "11000231332e34000d000000416e6e00ff") ∷ Shut 1 ∷ opens ∷ says 3 (codes "11000231332e34000d000000426f6200ff") ∷ []
+    opens ∷ opens ∷ spectates 1 ann ∷ Shut 1 ∷ opens ∷ spectates 3 bob ∷ []
 
 -- Packets of a server are not expected from a client, and one that spells nothing is an illegal one.
-abbrev pub servers_packets_game : Origin
-servers_packets_game = made_from plain
-
 abbrev pub servers_packets : List Event
 servers_packets =
-    opens ∷ opens ∷ opens ∷ says 1 (codes "2c00060205000000abababababababababababababababab05000000abababababababababababababababab") ∷ says 2 (codes "0400063f") ∷ says 3 (codes "060011000000") ∷ []
+    opens ∷ opens ∷ opens
+    ∷ says 1 (codes "2c00060205000000abababababababababababababababab05000000abababababababababababababababab")
+    ∷ says 2 (codes "0400063f") ∷ says 3 (codes "060011000000") ∷ []
 
 -- Packets that a status does not permit, the numbers of a game, and a company that is not live.
-abbrev pub wrong_times_game : Origin
-wrong_times_game = made_from plain
-
 abbrev pub wrong_times : List Event
 wrong_times =
-    opens ∷ opens ∷ opens ∷ opens ∷ says 1 (codes "03000d") ∷ says 2 (codes "11000231332e34000d000000426f6200ff") ∷ says 2 (codes "11000231332e34000d000000426f6200ff") ∷ says 3 (codes "030004") ∷ says 3 (codes "030025") ∷ says 4 (codes "11000231332e34000d000000416e6e000e") ∷ []
+    replicate 4 opens ++ (asks_for_map 1 ∷ spectates 2 bob ∷ spectates 2 bob ∷ asks_what_game 3
+    ∷ says 3 (codes "030025") ∷ joins 4 ann 14 ∷ [])

@@ -4,3 +4,4 @@ pub mod LimitsGames
 pub mod CommandsGames
 pub mod TalksGames
 pub mod StepsGames
+pub mod ShownGames

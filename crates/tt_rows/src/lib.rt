@@ -7,6 +7,7 @@
 mod commands;
 mod joins;
 mod limits;
+mod shown;
 mod steps;
 mod talks;
 
@@ -25,13 +26,17 @@ pub use limits::{
     makes_late_behind_101_ticks, makes_limits_of_map, makes_limits_of_time,
     makes_quiet_for_100_ticks,
 };
+pub use shown::{
+    shows_a_founder, shows_a_spectator, shows_a_stop, shows_its_end, shows_moves,
+    shows_two_founders, shows_where_it_is_wrong,
+};
 pub use steps::{
     makes_another_grf_version, makes_another_revision, makes_broken_behind_the_welcome,
     makes_chat_in_the_game, makes_files_unasked, makes_joins_twice, makes_map_asked_for_twice,
-    makes_map_loaded_before_it_came, makes_name_judged_before_company,
-    makes_name_too_long_with_a_number, makes_name_with_a_number, makes_no_such_company,
-    makes_quits_at_once, makes_shut_untold, makes_stranger_ends_unheard, makes_told_of_the_game,
-    makes_welcomed_and_quiet,
+    makes_map_loaded_before_it_came, makes_map_told_in_two_ticks, makes_map_told_whole,
+    makes_name_judged_before_company, makes_name_too_long_with_a_number, makes_name_with_a_number,
+    makes_no_such_company, makes_quits_at_once, makes_shut_untold, makes_stranger_ends_unheard,
+    makes_told_of_the_game, makes_welcomed_and_quiet,
 };
 pub use talks::{
     makes_chats, makes_company_password, makes_cost_met, makes_cost_reached, makes_moves,

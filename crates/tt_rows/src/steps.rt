@@ -1,10 +1,10 @@
 //! First steps of members. These functions do nothing: their contracts are the games.
-ghost use Rattle.std.specs.Prelude.{◌≡◌, [], ◌++◌, true, false, codes, Some};
+ghost use Rattle.std.specs.Prelude.{◌≡◌, [], ◌∷◌, ◌++◌, true, false, codes, Some, take};
 ghost use Rattle.tt_log.specs.Told.{sent};
 ghost use Rattle.tt_log.specs.Table.{is_live};
 ghost use Rattle.tt_log.specs.History.{table_of, journal_of};
-ghost use Rattle.tt_rows.specs.Words.{hex, name_on};
-ghost use Rattle.tt_rows.specs.StepsGames.{plain_game, welcomed_and_quiet, told_of_the_game, another_revision, another_grf_version, no_such_company, files_unasked, broken_behind_the_welcome, shut_untold, name_too_long_with_a_number, name_with_a_number, map_asked_for_twice, map_loaded_before_it_came, joins_twice, quits_at_once, name_judged_before_company, stranger_ends_unheard, chat_in_the_game};
+ghost use Rattle.tt_rows.specs.Words.{has_loaded, hex, name_on, pieces_on, plain_game};
+ghost use Rattle.tt_rows.specs.StepsGames.{welcomed_and_quiet, told_of_the_game, another_revision, another_grf_version, no_such_company, files_unasked, broken_behind_the_welcome, shut_untold, name_too_long_with_a_number, name_with_a_number, map_asked_for_twice, map_loaded_before_it_came, joins_twice, quits_at_once, name_judged_before_company, stranger_ends_unheard, chat_in_the_game, map_told_whole, map_told_in_two_ticks, signs_game};
 
 /// A welcomed member that never asks for the map ends behind 101 ticks.
 pub fn makes_welcomed_and_quiet()
@@ -149,4 +149,19 @@ pub fn makes_chat_in_the_game()
     ensures live_2 { is_live (table_of plain_game chat_in_the_game) 2 ≡ true }
     ensures journal { journal_of plain_game chat_in_the_game ≡ [] }
     ensures frame { ((table_of plain_game chat_in_the_game).frame ≡ 1) × ((table_of plain_game chat_in_the_game).top ≡ 1) }
+{}
+
+/// The pieces of a map that were told stay counted once it was told whole.
+pub fn makes_map_told_whole()
+    ensures before { pieces_on (table_of plain_game (take 3 map_told_whole)) 1 ≡ Some 0 }
+    ensures behind { pieces_on (table_of plain_game map_told_whole) 1 ≡ Some 1 }
+{}
+
+/// Four pieces are told in a tick, and the last two in the next one.
+pub fn makes_map_told_in_two_ticks()
+    ensures first { pieces_on (table_of signs_game (take 4 map_told_in_two_ticks)) 1 ≡ Some 4 }
+    ensures behind { pieces_on (table_of signs_game map_told_in_two_ticks) 1 ≡ Some 6 }
+    // So it may say that it has loaded its map behind the second one, and not before.
+    ensures early { is_live (table_of signs_game (take 4 map_told_in_two_ticks ++ has_loaded 1 ∷ [])) 1 ≡ false }
+    ensures loaded { is_live (table_of signs_game (map_told_in_two_ticks ++ has_loaded 1 ∷ [])) 1 ≡ true }
 {}

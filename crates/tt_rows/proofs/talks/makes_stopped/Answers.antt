@@ -38,3 +38,7 @@ returns-clause-frame c = (refl, refl)
 pub returns-clause-world : goal.returns-clause-world
 unfolding number_at within_at truth_at fixed_at before_zero text_at digest_at optional_digest_at raw_at items_at marked_at is_text is_digest is_utf8 chars encode digits block_words rounds compress hash_after digest_bytes md5 encode_with new_id new_name
 returns-clause-world c = refl
+
+pub returns-clause-ends : goal.returns-clause-ends
+unfolding number_at within_at truth_at fixed_at before_zero text_at digest_at optional_digest_at raw_at items_at marked_at is_text is_digest is_utf8 chars encode digits block_words rounds compress hash_after digest_bytes md5 encode_with new_id new_name
+returns-clause-ends c = refl

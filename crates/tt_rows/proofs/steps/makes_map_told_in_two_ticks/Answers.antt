@@ -1,0 +1,28 @@
+-- Both sides compute.
+use Rattle.std.specs.Prelude.{refl}
+use Rattle.tt_frame.specs.Reading.{number_at, within_at, truth_at, fixed_at, before_zero, text_at, digest_at, optional_digest_at, raw_at}
+use Rattle.tt_frame.specs.ItemForms.{items_at, marked_at}
+use Rattle.tt_frame.specs.Text.{is_text, is_digest}
+use Rattle.std.specs.Str.{is_utf8, chars}
+use Rattle.std.specs.Fmt.{digits}
+use lib.Utf8.{encode}
+use Rattle.md5.specs.Md5.{block_words, rounds, compress, hash_after, digest_bytes, md5}
+use Rattle.hex.specs.Hex.{encode_with}
+use Rattle.tt_world.specs.Commands.{new_id, new_name}
+use Rattle.tt_rows.proofs.steps.makes_map_told_in_two_ticks.Goals as goal
+
+pub returns-clause-first : goal.returns-clause-first
+unfolding number_at within_at truth_at fixed_at before_zero text_at digest_at optional_digest_at raw_at items_at marked_at is_text is_digest is_utf8 chars encode digits block_words rounds compress hash_after digest_bytes md5 encode_with new_id new_name
+returns-clause-first c = refl
+
+pub returns-clause-behind : goal.returns-clause-behind
+unfolding number_at within_at truth_at fixed_at before_zero text_at digest_at optional_digest_at raw_at items_at marked_at is_text is_digest is_utf8 chars encode digits block_words rounds compress hash_after digest_bytes md5 encode_with new_id new_name
+returns-clause-behind c = refl
+
+pub returns-clause-early : goal.returns-clause-early
+unfolding number_at within_at truth_at fixed_at before_zero text_at digest_at optional_digest_at raw_at items_at marked_at is_text is_digest is_utf8 chars encode digits block_words rounds compress hash_after digest_bytes md5 encode_with new_id new_name
+returns-clause-early c = refl
+
+pub returns-clause-loaded : goal.returns-clause-loaded
+unfolding number_at within_at truth_at fixed_at before_zero text_at digest_at optional_digest_at raw_at items_at marked_at is_text is_digest is_utf8 chars encode digits block_words rounds compress hash_after digest_bytes md5 encode_with new_id new_name
+returns-clause-loaded c = refl
