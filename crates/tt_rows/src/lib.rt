@@ -1,7 +1,8 @@
 //! Worked games: what the definitions make of small lists of events, computed by the checker, byte by byte.
 //!
 //! Each function is a game: its contract says what was sent to each connection, who is live, the journal, the frame and the
-//! world behind the events. What is wanted came from outside the definitions.
+//! world behind the events; those of `shown` say what a stream shows its client. What is wanted came from outside the
+//! definitions.
 #![tactic(auto)]
 
 mod commands;
