@@ -10,11 +10,11 @@ use Rattle.tt_log.specs.declared.script.line.Line1.{Line1}
 use Rattle.tt_log.specs.declared.script.setting.Setting.{Setting}
 use Rattle.tt_log.specs.declared.script.step.Step.TheVariants.{Set, Line}
 use Rattle.tt_log.specs.declared.script.writing.Part.{Part}
-use Rattle.tt_log.specs.declared.script.writing.Part.TheVariants.{Number, Words, Hex, Plain}
+use Rattle.tt_log.specs.declared.script.writing.Part.TheVariants.{Number, Text, Hex, Plain}
 
 abbrev pub part_text : Part → List ℕ
 part_text (Number n) = decimal n
-part_text (Words bytes) = text_spelled bytes.now
+part_text (Text bytes) = text_spelled bytes.now
 part_text (Hex bytes) = encode_lower bytes.now
 part_text (Plain bytes) = bytes.now
 

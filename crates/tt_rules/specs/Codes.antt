@@ -1,7 +1,7 @@
 -- The reasons for which a connection ends, by their codes.
 use Rattle.std.specs.Prelude.{ℕ}
 
--- what is not built yet
+-- GENERAL; a hub gives it for what it does not take
 abbrev pub general : ℕ
 general = 0
 

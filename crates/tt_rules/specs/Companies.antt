@@ -1,5 +1,5 @@
 -- Which companies live, as fifteen truths by number.
-use Rattle.std.specs.Prelude.{ℕ, ◌<◌, Bool, true, false, not, List, map, replicate, slice_index_or, slice_set, Option, is_some}
+use Rattle.std.specs.Prelude.{ℕ, Bool, true, false, not, List, map, replicate, slice_index_or, slice_set, Option, is_some}
 use Rattle.std.specs.List.{position}
 use Rattle.tt_world.specs.World.{WorldState}
 

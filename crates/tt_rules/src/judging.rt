@@ -21,13 +21,16 @@ const LAST_COMPANY: u8 = 14;
 /// The company of those that have none.
 const SPECTATOR: u8 = 255;
 
-/// The reasons for which a connection ends.
+/// Ends a connection: a packet that its status doesn't permit, an unknown code, or an acknowledgement out of range.
 const NOT_EXPECTED: u8 = 7;
 
+/// Ends a connection: a company that is not the member's, or none that lives.
 const COMPANY_MISMATCH: u8 = 11;
 
+/// Ends a connection: thrown out for the server's own command, or for one of no company that lives.
 const KICKED: u8 = 12;
 
+/// Ends a connection: sixteen commands wait already.
 const TOO_MANY_COMMANDS: u8 = 15;
 
 /// What a packet of a member is judged by its status, its waiting commands, the command's code, its company and its
@@ -48,17 +51,20 @@ pub fn verdict(standing: &Standing, live: &Live, msg: &GameMsg) -> Verdict
 fn is_permitted(status: Status, msg: &GameMsg) -> bool
     ensures permits { result ≡ permits msg.now status }
 {
-    let place = status.place();
     match msg {
-        GameMsg::ClientJoin { .. } | GameMsg::ClientGameInfo => place == 0,
-        GameMsg::ClientNewgrfsChecked => place == 1,
-        GameMsg::ClientGamePassword { .. } => place == 2,
-        GameMsg::ClientCompanyPassword { .. } => place == 3,
-        GameMsg::ClientGetmap => place == 4,
-        GameMsg::ClientMapOk => place == 7,
-        GameMsg::ClientAck { .. } | GameMsg::ClientCommand { .. } => place >= 8,
-        GameMsg::ClientChat { .. } | GameMsg::ClientSetName { .. } => place == 9,
-        GameMsg::ClientSetPassword { .. } | GameMsg::ClientMove { .. } => place == 9,
+        GameMsg::ClientJoin { .. } | GameMsg::ClientGameInfo => matches!(status, Status::Inactive),
+        GameMsg::ClientNewgrfsChecked => matches!(status, Status::NewgrfsCheck),
+        GameMsg::ClientGamePassword { .. } => matches!(status, Status::AuthGame),
+        GameMsg::ClientCompanyPassword { .. } => matches!(status, Status::AuthCompany),
+        GameMsg::ClientGetmap => matches!(status, Status::Authorized),
+        GameMsg::ClientMapOk => matches!(status, Status::DoneMap),
+        GameMsg::ClientAck { .. } | GameMsg::ClientCommand { .. } => {
+            matches!(status, Status::PreActive | Status::Active)
+        }
+        GameMsg::ClientChat { .. }
+        | GameMsg::ClientSetName { .. }
+        | GameMsg::ClientSetPassword { .. }
+        | GameMsg::ClientMove { .. } => matches!(status, Status::Active),
         GameMsg::ClientError { .. } | GameMsg::ClientQuit => true,
         _ => false,
     }

@@ -3,6 +3,7 @@ use crate::*;
 use std::test::*;
 use tt_frame::{Line, Name, Short};
 use tt_game::GameMsg;
+use tt_world::Code;
 
 #[test]
 fn a_password_is_digested(rt: HostRuntime) -> Result<(), Fail> {
@@ -142,7 +143,32 @@ fn refusals_stand_in_their_order(rt: HostRuntime) -> Result<(), Fail> {
     );
     assert!(rt; command_of(9, 0, 0, &short()).is_none());
     assert!(rt; command_of(8, 0, 0, &short()).is_some());
-    assert_eq!(rt; number_of(tt_world::Code::NewCompany), 8);
+    assert_eq!(rt; number_of(Code::NewCompany), 8);
+    Ok(())
+}
+
+#[test]
+fn codes_and_statuses_have_their_numbers(rt: HostRuntime) -> Result<(), Fail> {
+    assert_eq!(rt; code_of(2), Some(Code::Give));
+    assert_eq!(rt; code_of(8), Some(Code::NewCompany));
+    assert_eq!(rt; code_of(9), None);
+    for (place, status) in statuses().into_iter().enumerate() {
+        assert_eq!(rt; usize::from(status.place()), place);
+    }
+    Ok(())
+}
+
+#[test]
+fn fifteen_companies_live_at_most(rt: HostRuntime) -> Result<(), Fail> {
+    let mut live = Live::none();
+    assert!(rt; !live.has(0));
+    for n in 0..15u8 {
+        assert_eq!(rt; live.add(), Some(n));
+        assert!(rt; live.has(n));
+    }
+    assert_eq!(rt; live.add(), None);
+    assert!(rt; live.has(14));
+    assert!(rt; !live.has(15));
     Ok(())
 }
 

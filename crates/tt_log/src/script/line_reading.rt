@@ -31,52 +31,24 @@ pub fn step_of(alloc: Global, text: &[u8]) -> Result<Step, NoLine>
 fn line_of(alloc: Global, word: &[u8], words: &mut Words) -> Result<Step, NoLine>
     ensures { LineRead result (row_at (pick lines word.now) words.old) }
 {
-    if word == b"set".as_slice() {
-        return set(alloc, words);
+    match word {
+        w if w == b"set".as_slice() => set(alloc, words),
+        w if w == b"open".as_slice() => words.ended(Step::Line(Line1::Open)),
+        w if w == b"side".as_slice() => words.ended(Step::Line(Line1::Side)),
+        w if w == b"bytes".as_slice() => piece(alloc, words),
+        w if w == b"shut".as_slice() => shut(words),
+        w if w == b"tick".as_slice() => tick(words),
+        w if w == b"stop".as_slice() => words.ended(Step::Line(Line1::Stop)),
+        w if w == b"join".as_slice() => join(alloc, words),
+        w if w == b"up".as_slice() => up(words),
+        w if w == b"down".as_slice() => down(words),
+        w if w == b"run".as_slice() => run(words),
+        w if w == b"pump".as_slice() => pump(words),
+        w if w == b"do".as_slice() => act(alloc, words),
+        w if w == b"forge".as_slice() => forge(alloc, words),
+        w if w == b"=".as_slice() => expected(alloc, words),
+        _ => Err(NoLine::Bad),
     }
-    if word == b"open".as_slice() {
-        return words.ended(Step::Line(Line1::Open));
-    }
-    if word == b"side".as_slice() {
-        return words.ended(Step::Line(Line1::Side));
-    }
-    if word == b"bytes".as_slice() {
-        return piece(alloc, words);
-    }
-    if word == b"shut".as_slice() {
-        return shut(words);
-    }
-    if word == b"tick".as_slice() {
-        return tick(words);
-    }
-    if word == b"stop".as_slice() {
-        return words.ended(Step::Line(Line1::Stop));
-    }
-    if word == b"join".as_slice() {
-        return join(alloc, words);
-    }
-    if word == b"up".as_slice() {
-        return up(words);
-    }
-    if word == b"down".as_slice() {
-        return down(words);
-    }
-    if word == b"run".as_slice() {
-        return run(words);
-    }
-    if word == b"pump".as_slice() {
-        return pump(words);
-    }
-    if word == b"do".as_slice() {
-        return act(alloc, words);
-    }
-    if word == b"forge".as_slice() {
-        return forge(alloc, words);
-    }
-    if word == b"=".as_slice() {
-        return expected(alloc, words);
-    }
-    Err(NoLine::Bad)
 }
 
 /// A setting.

@@ -78,26 +78,14 @@ fn naming_of(alloc: Global, conn: u32, code: Code, words: &mut Words) -> Result<
 pub fn order_of(alloc: Global, conn: u32, word: &[u8], words: &mut Words) -> Result<Step, NoLine>
     ensures { LineRead result (row_at (pick (orders conn) word.now) words.old) }
 {
-    if word == b"loan".as_slice() {
-        return sum(conn, Code::IncreaseLoan, words);
+    match word {
+        w if w == b"loan".as_slice() => sum(conn, Code::IncreaseLoan, words),
+        w if w == b"repay".as_slice() => sum(conn, Code::DecreaseLoan, words),
+        w if w == b"give".as_slice() => gift(conn, words),
+        w if w == b"sign".as_slice() => sign(alloc, conn, Code::PlaceSign, words),
+        w if w == b"resign".as_slice() => sign(alloc, conn, Code::RenameSign, words),
+        w if w == b"company".as_slice() => naming_of(alloc, conn, Code::RenameCompany, words),
+        w if w == b"president".as_slice() => naming_of(alloc, conn, Code::RenamePresident, words),
+        _ => Err(NoLine::Bad),
     }
-    if word == b"repay".as_slice() {
-        return sum(conn, Code::DecreaseLoan, words);
-    }
-    if word == b"give".as_slice() {
-        return gift(conn, words);
-    }
-    if word == b"sign".as_slice() {
-        return sign(alloc, conn, Code::PlaceSign, words);
-    }
-    if word == b"resign".as_slice() {
-        return sign(alloc, conn, Code::RenameSign, words);
-    }
-    if word == b"company".as_slice() {
-        return naming_of(alloc, conn, Code::RenameCompany, words);
-    }
-    if word == b"president".as_slice() {
-        return naming_of(alloc, conn, Code::RenamePresident, words);
-    }
-    Err(NoLine::Bad)
 }

@@ -1,6 +1,6 @@
 //! The words behind `set`: a key and what it says.
 ghost use Rattle.std.specs.Prelude.{◌≡◌};
-ghost use Rattle.tt_log.specs.Rows.{LineRead, WordRead, row_at, pick, number_at};
+ghost use Rattle.tt_log.specs.Rows.{LineRead, WordRead, row_at, pick, number_at, ended_at};
 ghost use Rattle.tt_log.specs.Reading.{settings};
 
 use crate::script::bad::NoLine;
@@ -17,57 +17,44 @@ fn limit(words: &mut Words) -> Result<u16, NoLine>
     number16(words, 1, 65_535)
 }
 
+/// What the record of events may cost.
+fn cost(words: &mut Words) -> Result<u64, NoLine>
+    ensures read { WordRead (λ n. n) result words.new (number_at 64 1073741824 words.old) }
+{
+    let n = number(words, 64, 1_073_741_824)?;
+    Ok(n as u64)
+}
+
+/// The line of a setting, where nothing is left of it.
+fn line_of(setting: Setting, words: &Words) -> Result<Step, NoLine>
+    ensures { LineRead result (ended_at (Step.Set setting) words.now) }
+{
+    words.ended(Step::Set(setting))
+}
+
 /// The line of that key.
 pub fn setting_of(alloc: Global, word: &[u8], words: &mut Words) -> Result<Step, NoLine>
     ensures { LineRead result (row_at (pick settings word.now) words.old) }
 {
-    if word == b"seed".as_slice() {
-        let setting = Setting::Seed(any(words)?);
-        return words.ended(Step::Set(setting));
+    match word {
+        w if w == b"seed".as_slice() => line_of(Setting::Seed(any(words)?), words),
+        w if w == b"frame_freq".as_slice() => {
+            line_of(Setting::FrameFreq(number8(words, 0, 64)?), words)
+        }
+        w if w == b"sync_freq".as_slice() => {
+            line_of(Setting::SyncFreq(number16(words, 1, 1_000)?), words)
+        }
+        w if w == b"clients".as_slice() => {
+            line_of(Setting::Clients(number8(words, 1, 255)?), words)
+        }
+        w if w == b"init".as_slice() => line_of(Setting::Init(limit(words)?), words),
+        w if w == b"password".as_slice() => line_of(Setting::PassLimit(limit(words)?), words),
+        w if w == b"download".as_slice() => line_of(Setting::Download(limit(words)?), words),
+        w if w == b"join".as_slice() => line_of(Setting::Join(limit(words)?), words),
+        w if w == b"lag".as_slice() => line_of(Setting::Lag(limit(words)?), words),
+        w if w == b"cost".as_slice() => line_of(Setting::Cost(cost(words)?), words),
+        w if w == b"pw".as_slice() => line_of(Setting::Pw(password(alloc, words)?), words),
+        w if w == b"admin".as_slice() => line_of(Setting::Admin(password(alloc, words)?), words),
+        _ => Err(NoLine::Bad),
     }
-    if word == b"frame_freq".as_slice() {
-        let setting = Setting::FrameFreq(number8(words, 0, 64)?);
-        return words.ended(Step::Set(setting));
-    }
-    if word == b"sync_freq".as_slice() {
-        let setting = Setting::SyncFreq(number16(words, 1, 1_000)?);
-        return words.ended(Step::Set(setting));
-    }
-    if word == b"clients".as_slice() {
-        let setting = Setting::Clients(number8(words, 1, 255)?);
-        return words.ended(Step::Set(setting));
-    }
-    if word == b"init".as_slice() {
-        let setting = Setting::Init(limit(words)?);
-        return words.ended(Step::Set(setting));
-    }
-    if word == b"password".as_slice() {
-        let setting = Setting::PassLimit(limit(words)?);
-        return words.ended(Step::Set(setting));
-    }
-    if word == b"download".as_slice() {
-        let setting = Setting::Download(limit(words)?);
-        return words.ended(Step::Set(setting));
-    }
-    if word == b"join".as_slice() {
-        let setting = Setting::Join(limit(words)?);
-        return words.ended(Step::Set(setting));
-    }
-    if word == b"lag".as_slice() {
-        let setting = Setting::Lag(limit(words)?);
-        return words.ended(Step::Set(setting));
-    }
-    if word == b"cost".as_slice() {
-        let setting = Setting::Cost(number(words, 64, 1_073_741_824)? as u64);
-        return words.ended(Step::Set(setting));
-    }
-    if word == b"pw".as_slice() {
-        let setting = Setting::Pw(password(alloc, words)?);
-        return words.ended(Step::Set(setting));
-    }
-    if word == b"admin".as_slice() {
-        let setting = Setting::Admin(password(alloc, words)?);
-        return words.ended(Step::Set(setting));
-    }
-    Err(NoLine::Bad)
 }

@@ -15,7 +15,7 @@ pub enum Part<'a> {
     /// A number in decimal.
     Number(u64),
     /// A text in hexadecimal digits, or a dash.
-    Words(&'a [u8]),
+    Text(&'a [u8]),
     /// Bytes in hexadecimal digits.
     Hex(&'a [u8]),
     /// Bytes as they are.
@@ -57,7 +57,7 @@ fn put_part(alloc: Global, out: &mut Vec<u8>, part: &Part) -> Result<(), OutOfMe
 {
     match part {
         Part::Number(n) => put_number(out, *n),
-        Part::Words(bytes) => put_text(alloc, out, bytes),
+        Part::Text(bytes) => put_text(alloc, out, bytes),
         Part::Hex(bytes) => put_hex(alloc, out, bytes),
         Part::Plain(bytes) => {
             out.extend_from_slice(bytes)?;
