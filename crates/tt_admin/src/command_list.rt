@@ -58,7 +58,7 @@ impl CommandName {
     }
 
     /// It does nothing: its contract says that the name is a text of at most 31 bytes.
-    fn has_a_text(&self)
+    fn has_texts(&self)
         ensures { is_text 31 self.now.1.0 ≡ true }
     {
         let _name = self.name.bytes();
@@ -115,7 +115,7 @@ impl CommandNames {
         ensures ok { OnOk result (self.new ≡ self.old ++ command ∷ []) }
         ensures err { OnErr result (self.new ≡ self.old) }
     {
-        command.has_a_text();
+        command.has_texts();
         match self.content.push(command) {
             Ok(()) => Ok(()),
             Err(_) => Err(OutOfMemory),

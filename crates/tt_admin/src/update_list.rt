@@ -13,8 +13,8 @@ use arrayvec::ArrayVec;
 use std::marker::Model;
 use tt_frame::{Bad, Fields, OutOfMemory, Put, UpTo, finish, number16, put_head, up_to};
 
-/// A type that an admin may ask for, and the bits of how: 1 polled, 2 each day, 4 week, 8 month, 16 quarter, 32 year, 64
-/// at once.
+/// A type that an admin may ask for, and the bits of when it may be told: 1 when it is polled, 2 each day, 4 each week, 8 each
+/// month, 16 each quarter, 32 each year, 64 at once.
 ///
 /// Contracts see it as an item of the message: the number of the type, and the bits.
 #[derive(Clone, Copy, Debug, Default, PartialEq, Eq, PartialOrd, Ord, Hash)]

@@ -231,3 +231,17 @@ pub next_at_once : (ways : Ways) (before : List Heard) (h : Heard) → (Contains
 next_at_once ways before h live test =
     told_append ways before (h ∷ [])
     ∙ ap (λ (t : Told). told_in ways before ++ t ∷ []) (step_next (last_word ways before) ways (stage_in ways before) h (word_agrees ways before) (word_ends ways before live) test)
+
+-- where the server has gone, while the attempt is open
+step_gone : (v : Told) (ways : Ways) (stage : Stage) → Agrees stage v → Ended stage v → (v ≡ AllFailed → ⊥) → (stepped ways stage ServerGone).told ≡ AllFailed
+step_gone v ways Fresh is end still = absurd is
+step_gone v ways Over is end still = absurd (still end)
+step_gone v ways TryingDirect is end still = refl
+step_gone v ways TryingStun is end still = refl
+step_gone v ways TryingTurn is end still = refl
+step_gone v ways (AwaitingStun server client) is end still = refl
+
+pub gone_at_once : (ways : Ways) (before : List Heard) → (Contains before Connected → ⊥) → (last_word ways before ≡ AllFailed → ⊥) → told_in ways (before ++ ServerGone ∷ []) ≡ told_in ways before ++ AllFailed ∷ []
+gone_at_once ways before live still =
+    told_append ways before (ServerGone ∷ [])
+    ∙ ap (λ (t : Told). told_in ways before ++ t ∷ []) (step_gone (last_word ways before) ways (stage_in ways before) (word_agrees ways before) (word_ends ways before live) still)

@@ -19,10 +19,18 @@ pub struct Ways {
 /// What an attempt hears.
 #[derive(Clone, Copy, Debug, PartialEq, Eq)]
 pub enum Heard {
-    /// A peer says that the way with this tracking number failed: 1 direct, 2 STUN, 3 TURN.
-    Failed { tracking: u8 },
-    /// A side (0 the server, 1 the client) says whether it reached the STUN desk.
-    StunResult { side: u8, ok: bool },
+    /// A peer says that a way failed.
+    Failed {
+        /// The number of that way: 1 direct, 2 STUN, 3 TURN. Another number changes nothing.
+        tracking: u8,
+    },
+    /// A side says whether it reached the STUN desk.
+    StunResult {
+        /// Which side: 0 the server, 1 the client. Another number changes nothing.
+        side: u8,
+        /// Whether it did. Until both sides have, a result that isn't ok fails STUN, also of a side that said ok before.
+        ok: bool,
+    },
     /// The client is connected, or its connection to the coordinator ended.
     Connected,
     /// The server's connection to the coordinator ended.
@@ -70,8 +78,8 @@ pub(crate) enum Stage {
 
 /// An attempt to connect a client with a server: `first` is called once, and then `step` for each event.
 ///
-/// Contracts see the ways that apply, and how far it is.
-#[derive(Clone, Copy, Debug, PartialEq, Eq)]
+/// It can't be copied, so that no way is told twice. Contracts see the ways that apply, and how far it is.
+#[derive(Debug, PartialEq, Eq, Drop)]
 pub struct Attempt {
     ways: Ways,
     stage: Stage,

@@ -25,6 +25,9 @@ pub fn next_only_after_failure()
     ensures at_once { (ways : Ways) (before : List Heard) (h : Heard) → (Contains before Connected → ⊥)
         → fails (last_word ways before) h ≡ true
         → told_in ways (before ++ h ∷ []) ≡ told_in ways before ++ next_way ways (last_word ways before) ∷ [] }
+    // Where the server has gone the end is told at once, unless it was told or the client was connected before.
+    ensures gone { (ways : Ways) (before : List Heard) → (Contains before Connected → ⊥) → (last_word ways before ≡ AllFailed → ⊥)
+        → told_in ways (before ++ ServerGone ∷ []) ≡ told_in ways before ++ AllFailed ∷ [] }
 {}
 
 /// Behind `Connected` or the end nothing more is told.
@@ -42,7 +45,8 @@ pub fn addresses_after_both_results()
         → (last_word ways before ≡ AskStun) × BothOk ways (before ++ h ∷ []) }
 {}
 
-/// An event that doesn't speak of what is tried changes nothing, and neither does a result that was said before.
+/// An event that doesn't speak of what is tried changes nothing, and neither does a repeated ok: one that the same side said
+/// before, behind the same question. A result that isn't ok is no repetition, whoever says it.
 pub fn other_events_change_nothing()
     ensures foreign { (ways : Ways) (before after : List Heard) (h : Heard) → is_foreign (last_word ways before) h ≡ true
         → ChangesNothing ways before h after }

@@ -57,15 +57,24 @@ fn ways_that_do_not_apply_are_passed_over(rt: HostRuntime) {
     assert!(rt; attempt.step(failed(3)) == Told::AllFailed);
 }
 
+const NONE: Ways = Ways {
+    direct: false,
+    stun: false,
+    turn: false,
+};
+
 #[test]
 fn without_any_way_all_failed_at_once(rt: HostRuntime) {
-    let mut attempt = Attempt::new(Ways {
-        direct: false,
-        stun: false,
-        turn: false,
-    });
+    let mut attempt = Attempt::new(NONE);
     assert!(rt; attempt.first() == Told::AllFailed);
     assert!(rt; attempt.step(failed(1)) == Told::Nothing);
+    assert!(rt; attempt.step(failed(2)) == Told::Nothing);
+    assert!(rt; attempt.step(failed(3)) == Told::Nothing);
+    assert!(rt; attempt.step(result(0, true)) == Told::Nothing);
+    assert!(rt; attempt.step(result(1, true)) == Told::Nothing);
+    assert!(rt; attempt.step(result(0, false)) == Told::Nothing);
+    assert!(rt; attempt.step(Heard::ServerGone) == Told::Nothing);
+    assert!(rt; attempt.step(Heard::Connected) == Told::Nothing);
     assert!(rt; attempt.step(Heard::ServerGone) == Told::Nothing);
 }
 
@@ -80,6 +89,28 @@ fn a_result_that_is_not_ok_leads_to_turn(rt: HostRuntime) {
     assert!(rt; attempt.step(failed(1)) == Told::Nothing);
     assert!(rt; attempt.step(Heard::Connected) == Told::Nothing);
     assert!(rt; attempt.step(failed(3)) == Told::Nothing);
+}
+
+#[test]
+fn without_a_connection_the_same_attempt_fails_at_turn(rt: HostRuntime) {
+    let mut attempt = Attempt::new(ALL);
+    assert!(rt; attempt.first() == Told::Direct);
+    assert!(rt; attempt.step(failed(1)) == Told::AskStun);
+    assert!(rt; attempt.step(result(0, true)) == Told::Nothing);
+    assert!(rt; attempt.step(result(1, false)) == Told::Turn);
+    assert!(rt; attempt.step(result(1, true)) == Told::Nothing);
+    assert!(rt; attempt.step(failed(1)) == Told::Nothing);
+    assert!(rt; attempt.step(failed(3)) == Told::AllFailed);
+    assert!(rt; attempt.step(failed(3)) == Told::Nothing);
+}
+
+#[test]
+fn a_side_that_takes_back_its_ok_fails_stun(rt: HostRuntime) {
+    let mut attempt = Attempt::new(ALL);
+    assert!(rt; attempt.first() == Told::Direct);
+    assert!(rt; attempt.step(failed(1)) == Told::AskStun);
+    assert!(rt; attempt.step(result(0, true)) == Told::Nothing);
+    assert!(rt; attempt.step(result(0, false)) == Told::Turn);
 }
 
 #[test]
@@ -111,9 +142,44 @@ fn a_server_that_has_gone_ends_the_attempt(rt: HostRuntime) {
     assert!(rt; attempt.first() == Told::Direct);
     assert!(rt; attempt.step(Heard::ServerGone) == Told::AllFailed);
     assert!(rt; attempt.step(Heard::ServerGone) == Told::Nothing);
-    let mut awaiting = Attempt::new(ALL);
-    assert!(rt; awaiting.first() == Told::Direct);
-    assert!(rt; awaiting.step(failed(1)) == Told::AskStun);
-    assert!(rt; awaiting.step(Heard::ServerGone) == Told::AllFailed);
-    assert!(rt; awaiting.step(result(0, false)) == Told::Nothing);
+}
+
+#[test]
+fn a_server_that_has_gone_before_its_result_ends_the_attempt(rt: HostRuntime) {
+    let mut attempt = Attempt::new(ALL);
+    assert!(rt; attempt.first() == Told::Direct);
+    assert!(rt; attempt.step(failed(1)) == Told::AskStun);
+    assert!(rt; attempt.step(Heard::ServerGone) == Told::AllFailed);
+    assert!(rt; attempt.step(result(0, false)) == Told::Nothing);
+}
+
+#[test]
+fn a_server_that_has_gone_after_one_ok_ends_the_attempt(rt: HostRuntime) {
+    let mut attempt = Attempt::new(ALL);
+    assert!(rt; attempt.first() == Told::Direct);
+    assert!(rt; attempt.step(failed(1)) == Told::AskStun);
+    assert!(rt; attempt.step(result(1, true)) == Told::Nothing);
+    assert!(rt; attempt.step(Heard::ServerGone) == Told::AllFailed);
+    assert!(rt; attempt.step(result(0, true)) == Told::Nothing);
+}
+
+#[test]
+fn a_server_that_has_gone_after_the_addresses_ends_the_attempt(rt: HostRuntime) {
+    let mut attempt = Attempt::new(ALL);
+    assert!(rt; attempt.first() == Told::Direct);
+    assert!(rt; attempt.step(failed(1)) == Told::AskStun);
+    assert!(rt; attempt.step(result(0, true)) == Told::Nothing);
+    assert!(rt; attempt.step(result(1, true)) == Told::Stun);
+    assert!(rt; attempt.step(Heard::ServerGone) == Told::AllFailed);
+    assert!(rt; attempt.step(failed(2)) == Told::Nothing);
+}
+
+#[test]
+fn a_server_that_has_gone_after_turn_ends_the_attempt(rt: HostRuntime) {
+    let mut attempt = Attempt::new(ALL);
+    assert!(rt; attempt.first() == Told::Direct);
+    assert!(rt; attempt.step(failed(1)) == Told::AskStun);
+    assert!(rt; attempt.step(result(1, false)) == Told::Turn);
+    assert!(rt; attempt.step(Heard::ServerGone) == Told::AllFailed);
+    assert!(rt; attempt.step(failed(3)) == Told::Nothing);
 }

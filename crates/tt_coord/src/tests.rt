@@ -1,7 +1,8 @@
 //! The lists of servers and files, and the messages of the STUN desk and the TURN server, there and back.
+mod limits;
 mod rows;
 
-use crate::{Bad, CoordMsg, Info, Listed, LookupFile, LookupFiles, Servers, StunMsg, TurnMsg};
+use crate::{CoordMsg, Info, Listed, LookupFile, LookupFiles, Servers, StunMsg, TurnMsg};
 use std::alloc::Global;
 use std::test::Fail;
 use tt_frame::{Text, UpTo};
@@ -112,22 +113,4 @@ fn the_turn_server_is_told_a_ticket(rt: HostRuntime) -> Result<(), Fail> {
     assert_eq!(rt; out.as_slice(), expected.as_slice());
     assert!(rt; TurnMsg::decode(rt.alloc(), 1, &expected[3..])? == message);
     Ok(())
-}
-
-#[test]
-fn other_bodies_are_no_messages_of_the_desk_or_the_turn_server(rt: HostRuntime) {
-    let version = StunMsg::decode(rt.alloc(), 0, b"\x02tok1\0\x01");
-    assert!(rt; matches!(version, Err(Bad::Malformed { at: 0 })));
-    let side = StunMsg::decode(rt.alloc(), 0, b"\x01tok1\0\x02");
-    assert!(rt; matches!(side, Err(Bad::Malformed { at: 6 })));
-    let unknown = StunMsg::decode(rt.alloc(), 1, b"");
-    assert!(rt; matches!(unknown, Err(Bad::Malformed { at: 0 })));
-    let version = TurnMsg::decode(rt.alloc(), 1, b"\0tok1\0");
-    assert!(rt; matches!(version, Err(Bad::Malformed { at: 0 })));
-    let behind = TurnMsg::decode(rt.alloc(), 2, b"127.0.0.1\0\0");
-    assert!(rt; matches!(behind, Err(Bad::Malformed { at: 10 })));
-    let error = TurnMsg::decode(rt.alloc(), 0, b"\0");
-    assert!(rt; matches!(error, Err(Bad::Malformed { at: 0 })));
-    let unknown = TurnMsg::decode(rt.alloc(), 3, b"");
-    assert!(rt; matches!(unknown, Err(Bad::Malformed { at: 0 })));
 }

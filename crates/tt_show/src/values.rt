@@ -12,7 +12,8 @@ ghost use Rattle.tt_show.specs.ValueWords.{value_word};
 
 use crate::forms::{Form, Width};
 use tt_frame::{
-    Bad, Digest, Fields, digest, fixed, number8, number16, number32, number64, optional_digest, truth,
+    Bad, Digest, Fields, digest, fixed, number8, number16, number32, number64, optional_digest,
+    truth,
 };
 
 /// A field's value.

@@ -1,4 +1,6 @@
 //! Every message there and back, cut, lengthened, and with each field past its range.
+//!
+//! One row stands for one message, and the same bytes are written in words in the tests of the crate that shows packets.
 use crate::{AdminMsg, Bad};
 use std::alloc::Global;
 use std::test::Fail;
@@ -57,7 +59,8 @@ fn rows() -> &'static [(u8, usize, &'static [u8])] {
     &ROWS
 }
 
-fn is_malformed(alloc: Global, kind: u8, body: &[u8], place: usize) -> bool {
+/// Whether this body spells nothing, and stops there.
+pub(crate) fn is_malformed(alloc: Global, kind: u8, body: &[u8], place: usize) -> bool {
     match AdminMsg::decode(alloc, kind, body) {
         Err(Bad::Malformed { at }) => at == place,
         _ => false,
@@ -101,8 +104,9 @@ fn a_packet_with_a_byte_behind_is_malformed_there(rt: HostRuntime) -> Result<(),
     Ok(())
 }
 
-/// A field that is one above its range, or an item that is cut: the number, the place of that field, and the body.
-const ABOVE: [(u8, usize, &[u8]); 18] = [
+/// A field that is past its range, an item that is cut, or a number that no message has: the number, the place of that field,
+/// and the body.
+const REFUSED: [(u8, usize, &[u8]); 19] = [
     (4, 0, b"\x03\x03\0\0\0Hi\0"),
     (102, 0, b"\x15"),
     (103, 1, b"\x03\x02\0\0?\0\0"),
@@ -119,6 +123,7 @@ const ABOVE: [(u8, usize, &[u8]); 18] = [
     (115, 10, b"\x01Acme\0Bob\0\x02"),
     (119, 0, b"\x03\x03\0\0\0Hi\0"),
     (122, 0, b"\x02"),
+    (122, 1, b"\x01\x07"),
     (122, 3, b"\x01\x07\0Pause"),
     (122, 9, b"\x01\x07\0Pause\0\x02"),
     (9, 0, b""),
@@ -127,53 +132,14 @@ const ABOVE: [(u8, usize, &[u8]); 18] = [
     (255, 0, b"\x01"),
 ];
 
-fn above() -> &'static [(u8, usize, &'static [u8])] {
-    &ABOVE
+fn refused() -> &'static [(u8, usize, &'static [u8])] {
+    &REFUSED
 }
 
 #[test]
-fn a_field_above_its_range_is_malformed_at_its_place(rt: HostRuntime) {
-    for row in above().iter() {
+fn what_is_refused_is_malformed_at_its_place(rt: HostRuntime) {
+    for row in refused().iter() {
         let (kind, place, body) = *row;
         assert!(rt; is_malformed(rt.alloc(), kind, body, place));
     }
-}
-
-#[test]
-fn a_text_longer_than_its_field_is_malformed_at_its_place(rt: HostRuntime) {
-    let mut name = [b'A'; 901];
-    name[900] = 0;
-    assert!(rt; is_malformed(rt.alloc(), 5, &name, 0));
-    assert!(rt; AdminMsg::decode(rt.alloc(), 5, &name[1..]).is_ok());
-}
-
-#[test]
-fn a_list_has_at_most_255_types(rt: HostRuntime) -> Result<(), Fail> {
-    let mut body = vec![in rt.alloc(); 3]?;
-    for _ in 0..255 {
-        body.extend_from_slice(&[1, 2, 0, 3, 0])?;
-    }
-    body.push(0)?;
-    assert!(rt; AdminMsg::decode(rt.alloc(), 103, body.as_slice()).is_ok());
-    body.truncate(1276);
-    body.extend_from_slice(&[1, 2, 0, 3, 0, 0])?;
-    assert!(rt; is_malformed(rt.alloc(), 103, body.as_slice(), 1276));
-    Ok(())
-}
-
-#[test]
-fn a_list_has_at_most_255_commands(rt: HostRuntime) -> Result<(), Fail> {
-    let mut body = Vec::new(rt.alloc());
-    for _ in 0..255 {
-        body.extend_from_slice(&[1, 2, 0, 0])?;
-    }
-    body.push(0)?;
-    let message = AdminMsg::decode(rt.alloc(), 122, body.as_slice())?;
-    let mut out = Vec::new(rt.alloc());
-    message.encode(&mut out)?;
-    assert_eq!(rt; &out.as_slice()[3..], body.as_slice());
-    body.truncate(1020);
-    body.extend_from_slice(&[1, 2, 0, 0, 0])?;
-    assert!(rt; is_malformed(rt.alloc(), 122, body.as_slice(), 1020));
-    Ok(())
 }

@@ -12,4 +12,4 @@ kept true old new x is few fit one = (omega (arith, ap length is, length-append 
 kept false old new x is few fit one = (omega (arith, ap length is), rw is fit)
 
 pub invariant_of-self : goal.invariant_of-self
-invariant_of-self c = kept _ _ c.push.new.self.items c.args.command c.push.ensures.items (omega (arith, c.requires, ap length c.self.view_is)) c.self.invariant.1 (omega arith, (c.has_a_text.ensures, tt))
+invariant_of-self c = kept _ _ c.push.new.self.items c.args.command c.push.ensures.items (omega (arith, c.requires, ap length c.self.view_is)) c.self.invariant.1 (omega arith, (c.has_texts.ensures, tt))
