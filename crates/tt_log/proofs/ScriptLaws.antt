@@ -24,7 +24,8 @@ use Rattle.tt_log.proofs.TableLaws.{read_found, read_back}
 
 -- ---- lists
 
-all_snoc : {A : Type 0} (P : A → Type 0) (xs : List A) (x : A) → AllByRecursion P xs → P x → AllByRecursion P (xs ++ x ∷ [])
+-- what holds of each holds of the first ones, of the last one, and with one more
+pub all_snoc : {A : Type 0} (P : A → Type 0) (xs : List A) (x : A) → AllByRecursion P xs → P x → AllByRecursion P (xs ++ x ∷ [])
 all_snoc P [] x all one = (one, tt)
 all_snoc P (y ∷ xs) x all one = (all.0, all_snoc P xs x all.1 one)
 
@@ -34,11 +35,11 @@ all_take P (suc n) [] all = tt
 all_take P zero (x ∷ xs) all = tt
 all_take P (suc n) (x ∷ xs) all = (all.0, all_take P n xs all.1)
 
-all_front : {A : Type 0} (P : A → Type 0) (xs ys : List A) → AllByRecursion P (xs ++ ys) → AllByRecursion P xs
+pub all_front : {A : Type 0} (P : A → Type 0) (xs ys : List A) → AllByRecursion P (xs ++ ys) → AllByRecursion P xs
 all_front P [] ys all = tt
 all_front P (x ∷ xs) ys all = (all.0, all_front P xs ys all.1)
 
-all_last : {A : Type 0} (P : A → Type 0) (xs : List A) (x : A) → AllByRecursion P (xs ++ x ∷ []) → P x
+pub all_last : {A : Type 0} (P : A → Type 0) (xs : List A) (x : A) → AllByRecursion P (xs ++ x ∷ []) → P x
 all_last P [] x all = all.0
 all_last P (y ∷ xs) x all = all_last P xs x all.1
 

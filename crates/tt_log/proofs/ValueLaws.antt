@@ -10,6 +10,7 @@ use Rattle.std.proofs.lemmas.Slice.Eq.{bytes_eq-Decides}
 use Rattle.hex.specs.Hex.{encode_lower, decode_of, lower_digits}
 use Rattle.hex.specs.declared.error.FromHexError.{FromHexError}
 use Rattle.hex.proofs.HexLemmas.{decode_of-encode_lower, decode_of-ok, length-encode_with}
+use Rattle.tt_frame.proofs.TestLaws.{both_and, le_of_test, test_of_le, lt_of_test, test_of_lt}
 use Rattle.tt_frame.specs.Packet.{IsBytes}
 use Rattle.tt_frame.specs.Text.{is_text}
 use Rattle.tt_log.specs.Forms.{IsTextFrom, text_spelled}
@@ -26,23 +27,8 @@ pub if_none : {A : Type 0} (t : Bool) (x : A) → (t ≡ true → ⊥) → cond 
 if_none true x never = absurd (never refl)
 if_none false x never = refl
 
-both : (a b : Bool) → a ≡ true → b ≡ true → (a && b) ≡ true
-both a b p q = rw (p, q) refl
-
 same_bytes : (w : List ℕ) → bytes_eq w w ≡ true
 same_bytes w = (bytes_eq-Decides w w).1 refl
-
-pub less_test : (a b : ℕ) → a < b → nat_lt a b ≡ true
-less_test a b lt = grind arith
-
-pub less_is : (a b : ℕ) → nat_lt a b ≡ true → a < b
-less_is a b e = grind arith
-
-pub at_most_test : (a b : ℕ) → a ≤ b → nat_le a b ≡ true
-at_most_test a b le = grind arith
-
-pub at_most_is : (a b : ℕ) → nat_le a b ≡ true → a ≤ b
-at_most_is a b e = grind arith
 
 -- ---- numbers
 
@@ -50,7 +36,7 @@ pub number_found : (w : List ℕ) (n : ℕ) → w ≡ decimal n → n < 2 ^ 32 �
 unfolding number_in
 number_found w n is lt =
     let value : digits_value 10 (decimal n) ≡ n = digits_value-decimal own n (omega (arith, lt)) in
-    let test : (bytes_eq (decimal n) (decimal n) && nat_lt n (2 ^ 32)) ≡ true = both _ _ (same_bytes (decimal n)) (less_test n (2 ^ 32) lt) in
+    let test : (bytes_eq (decimal n) (decimal n) && nat_lt n (2 ^ 32)) ≡ true = both_and _ _ (same_bytes (decimal n)) (test_of_lt n (2 ^ 32) lt) in
     rw (is, value, test) refl
 
 pub number_back : (w : List ℕ) (n : ℕ) → number_in w ≡ Some n → (w ≡ decimal n) × (n < 2 ^ 32)
@@ -60,7 +46,7 @@ number_back w n e =
     let got = if_some (bytes_eq (decimal v) w && nat_lt v (2 ^ 32)) v n e in
     let parts = and_parts (bytes_eq (decimal v) w) (nat_lt v (2 ^ 32)) got.0 in
     let is : decimal v ≡ w = (bytes_eq-Decides (decimal v) w).0 parts.0 in
-    let lt : v < 2 ^ 32 = less_is v (2 ^ 32) parts.1 in
+    let lt : v < 2 ^ 32 = lt_of_test v (2 ^ 32) parts.1 in
     (sym is ∙ ap decimal got.1, omega (arith, lt, got.1))
 
 some_or_none : (o : Option ℕ) → ((n : ℕ) → o ≡ Some n → ⊥) → o ≡ None
@@ -72,19 +58,19 @@ number_is w (Some n) found small none = sym (number_found w n found small)
 number_is w None found small none = sym (some_or_none (number_in w) (λ n e. let back = number_back w n e in none n back.1 back.0))
 
 pub within_found : (least most n : ℕ) → least ≤ n → n ≤ most → within least most n ≡ Some n
-within_found least most n low high = rw (at_most_test least n low, at_most_test n most high) refl
+within_found least most n low high = rw (test_of_le least n low, test_of_le n most high) refl
 
 pub within_back : (least most n m : ℕ) → within least most n ≡ Some m → (n ≡ m) × (least ≤ n) × (n ≤ most)
 within_back least most n m e =
     let got = if_some (nat_le least n && nat_le n most) n m e in
     let parts = and_parts (nat_le least n) (nat_le n most) got.0 in
-    (got.1, at_most_is least n parts.0, at_most_is n most parts.1)
+    (got.1, le_of_test least n parts.0, le_of_test n most parts.1)
 
 pub too_low : (least most n : ℕ) → n < least → within least most n ≡ None
-too_low least most n low = if_none (nat_le least n && nat_le n most) n (λ e. let parts = and_parts (nat_le least n) (nat_le n most) e in let no = at_most_is least n parts.0 in omega (arith, no, low))
+too_low least most n low = if_none (nat_le least n && nat_le n most) n (λ e. let parts = and_parts (nat_le least n) (nat_le n most) e in let no = le_of_test least n parts.0 in omega (arith, no, low))
 
 pub too_high : (least most n : ℕ) → most < n → within least most n ≡ None
-too_high least most n high = if_none (nat_le least n && nat_le n most) n (λ e. let parts = and_parts (nat_le least n) (nat_le n most) e in let no = at_most_is n most parts.1 in omega (arith, no, high))
+too_high least most n high = if_none (nat_le least n && nat_le n most) n (λ e. let parts = and_parts (nat_le least n) (nat_le n most) e in let no = le_of_test n most parts.1 in omega (arith, no, high))
 
 -- ---- digits
 
@@ -94,7 +80,7 @@ ok_list a b e = cc
 pub hex_found : (w piece : List ℕ) → IsPiece piece → w ≡ encode_lower piece → hex_in w ≡ Some piece
 unfolding hex_in
 hex_found w piece fits is =
-    let test : (nat_lt 0 (length piece) && bytes_eq (encode_lower piece) (encode_lower piece)) ≡ true = both _ _ (less_test 0 (length piece) fits.some) (same_bytes (encode_lower piece)) in
+    let test : (nat_lt 0 (length piece) && bytes_eq (encode_lower piece) (encode_lower piece)) ≡ true = both_and _ _ (test_of_lt 0 (length piece) fits.some) (same_bytes (encode_lower piece)) in
     rw (is, decode_of-encode_lower piece fits.bytes, test) refl
 
 so_back : (w piece : List ℕ) (r : Result (List ℕ) FromHexError) → decode_of w ≡ r → spelled_so w r ≡ Some piece → IsPiece piece × (w ≡ encode_lower piece)
@@ -103,7 +89,7 @@ so_back w piece (Ok content) decoded e =
     let got = if_some (nat_lt 0 (length content) && bytes_eq (encode_lower content) w) content piece e in
     let parts = and_parts (nat_lt 0 (length content)) (bytes_eq (encode_lower content) w) got.0 in
     let is : encode_lower content ≡ w = (bytes_eq-Decides (encode_lower content) w).0 parts.1 in
-    let some : 0 < length content = less_is 0 (length content) parts.0 in
+    let some : 0 < length content = lt_of_test 0 (length content) parts.0 in
     let fits : IsPiece content = record { bytes = (decode_of-ok w content decoded).3; some = some } in
     rw (← got.1) (fits, sym is)
 
@@ -152,10 +138,10 @@ unfolding text_in
 text_back w content e = text_by w content (bytes_eq w (codes "-")) refl e
 
 pub text_within_found : (least most : ℕ) (content : List ℕ) → IsTextFrom least most content → text_within least most content ≡ Some content
-text_within_found least most content fits = rw (at_most_test least (length content) fits.some, fits.text) refl
+text_within_found least most content fits = rw (test_of_le least (length content) fits.some, fits.text) refl
 
 pub text_within_back : (least most : ℕ) (content kept : List ℕ) → text_within least most content ≡ Some kept → (content ≡ kept) × (least ≤ length content) × (is_text most content ≡ true)
 text_within_back least most content kept e =
     let got = if_some (nat_le least (length content) && is_text most content) content kept e in
     let parts = and_parts (nat_le least (length content)) (is_text most content) got.0 in
-    (got.1, at_most_is least (length content) parts.0, parts.1)
+    (got.1, le_of_test least (length content) parts.0, parts.1)

@@ -189,3 +189,41 @@ fn a_script_opens_65535_connections_at_most(rt: HostRuntime) -> Result<(), Fail>
     assert_eq!(rt; bad_line(rt.alloc(), bytes.as_slice())?, 65_537);
     Ok(())
 }
+
+#[test]
+fn behind_the_last_line_a_reader_gives_none(rt: HostRuntime) -> Result<(), Fail> {
+    let mut reader = ScriptReader::new(b"tick 2");
+    let only = reader.next(rt.alloc())?;
+    assert!(rt; is_two_ticks(&only));
+    for _ in 0..2 {
+        let end = reader.next(rt.alloc())?;
+        assert!(rt; end.is_none());
+    }
+    Ok(())
+}
+
+#[test]
+fn bytes_are_those_of_their_vector(rt: HostRuntime) -> Result<(), Fail> {
+    let bytes = Bytes::new(Vec::from_slice(rt.alloc(), b"\x00\xffab")?);
+    assert_eq!(rt; bytes.bytes(), b"\x00\xffab".as_slice());
+    Ok(())
+}
+
+#[test]
+fn a_setting_has_a_place_and_may_be_plain(rt: HostRuntime) -> Result<(), Fail> {
+    assert_eq!(rt; Setting::Seed(0).place(), 0);
+    assert_eq!(rt; Setting::Cost(64).place(), 9);
+    assert!(rt; Setting::Lag(500).is_plain());
+    assert!(rt; !Setting::Lag(501).is_plain());
+    Ok(())
+}
+
+#[test]
+fn open_side_and_join_open_a_connection(rt: HostRuntime) -> Result<(), Fail> {
+    let script = parse_script(rt.alloc(), b"open\nside\ntick 3\njoin 61 255 - -\nstop\n")?;
+    assert_eq!(rt; script.lines.len(), 5);
+    for (line, wanted) in script.lines.iter().zip([1, 1, 0, 1, 0]) {
+        assert_eq!(rt; line.openings(), wanted);
+    }
+    Ok(())
+}

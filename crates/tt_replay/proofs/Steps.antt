@@ -1,7 +1,6 @@
 -- Scripts that are played, step by step.
 use Rattle.std.proofs.Common.{◌≡◌, ℕ, ◌+◌, ◌-◌, ◌≤◌, List, [], ◌∷◌, ◌++◌, length, take, drop, map, true, refl, sym, ap, subst, ◌∙◌, arith}
 use Rattle.std.specs.Prelude.{sum_by, fold}
-use Rattle.std.specs.List.{AllByRecursion}
 use Rattle.std.proofs.lemmas.List.{take-append-drop, take-map, length-map, length-append, append-nil}
 use Rattle.std.proofs.lemmas.List.Sums.{sum_by-append, sum_by-cons, fold-append}
 use Rattle.std.proofs.lemmas.Grind.{flat_map-append}
@@ -14,7 +13,7 @@ use Rattle.tt_log.specs.Standing.{Standing}
 use Rattle.tt_log.specs.Reader as reader
 use Rattle.tt_log.specs.declared.script.line.Line1.{Line1}
 use Rattle.tt_log.specs.declared.script.step.Step.{Step}
-use Rattle.tt_log.proofs.ScriptLaws.{steps_take, goes_on, same_steps, one_of, first_of_script}
+use Rattle.tt_log.proofs.ScriptLaws.{all_snoc, all_front, all_last, steps_take, goes_on, same_steps, one_of, first_of_script}
 use Rattle.tt_world.specs.declared.setup.Setup.{Setup}
 use Rattle.tt_replay.specs.declared.play.Play.{Play}
 use Rattle.tt_replay.specs.Script.{is_built, ticks_in, IsBuilt, IsPlayed, IsPlayedWith, MayFollow}
@@ -22,18 +21,6 @@ use Rattle.tt_replay.specs.Played.{nothing, done, played}
 use Rattle.tt_replay.specs.Playing.{IsAt, PlayedTo}
 
 -- ---- steps that are played
-
-all_front : {A : Type 0} (P : A → Type 0) (xs ys : List A) → AllByRecursion P (xs ++ ys) → AllByRecursion P xs
-all_front P [] ys all = tt
-all_front P (x ∷ xs) ys all = (all.0, all_front P xs ys all.1)
-
-all_last : {A : Type 0} (P : A → Type 0) (xs : List A) (x : A) → AllByRecursion P (xs ++ x ∷ []) → P x
-all_last P [] x all = all.0
-all_last P (y ∷ xs) x all = all_last P xs x all.1
-
-all_snoc : {A : Type 0} (P : A → Type 0) (xs : List A) (x : A) → AllByRecursion P xs → P x → AllByRecursion P (xs ++ x ∷ [])
-all_snoc P [] x all one = (one, tt)
-all_snoc P (y ∷ xs) x all one = (all.0, all_snoc P xs x all.1 one)
 
 pub sum_snoc : (f : Step → ℕ) (steps : List Step) (step : Step) → sum_by f (steps ++ step ∷ []) ≡ sum_by f steps + f step
 sum_snoc f steps step = omega (arith, sum_by-append f steps (step ∷ []), sum_by-cons f step [])
