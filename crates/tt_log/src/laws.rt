@@ -111,10 +111,13 @@ pub fn queue_is_of_those_that_load()
     ensures once { (o : Origin) (es : List Event) (conn : ℕ) → length (filter (λ (c : ℕ). c == conn) (table_of o es).queue) ≤ 1 }
 {}
 
-/// The members stand in the order of their connections, each on one of its own, and each connection was opened.
+/// The members stand in the order of their connections, each on one of its own, and each connection was opened; their client
+/// numbers rise in the same order, from above the server's own, and each was given.
 pub fn members_in_order()
     ensures rising { (o : Origin) (es : List Event) → AreRising 0 (map (λ (m : Member). m.conn) (table_of o es).members) }
     ensures opened { (o : Origin) (es : List Event) → AllByRecursion (λ (c : ℕ). c ≤ (table_of o es).openings) (map (λ (m : Member). m.conn) (table_of o es).members) }
+    ensures clients { (o : Origin) (es : List Event) → AreRising 1 (map (λ (m : Member). m.client) (table_of o es).members) }
+    ensures given { (o : Origin) (es : List Event) → AllByRecursion (λ (k : ℕ). k ≤ (table_of o es).clients) (map (λ (m : Member). m.client) (table_of o es).members) }
 {}
 
 /// Only a tick runs the game, and it runs one frame; any other event leaves the frame, the permitted frame and the journal.
