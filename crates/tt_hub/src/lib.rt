@@ -7,7 +7,7 @@ mod plan;
 mod table;
 mod verdict;
 
-pub use hub::Hub;
+pub use hub::{FromErr, Hub};
 
 #[cfg(test)]
 mod tests;

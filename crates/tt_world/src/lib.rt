@@ -32,8 +32,8 @@ pub use laws::{
     refused_command_changes_nothing,
 };
 pub use limits::{
-    COMPANIES, LOAN_STEP, MOST_GIFT, MOST_LOAN, MOST_MONEY, NEW_COMPANY_MOST, PARTS_OF_DAY, SIGNS,
-    TILES,
+    COMPANIES, LAST_START_DAY, LOAN_STEP, MOST_GIFT, MOST_LOAN, MOST_MONEY, NEW_COMPANY_MOST,
+    PARTS_OF_DAY, SIGNS, TILES,
 };
 pub use places::{is_taken, no_companies};
 pub use random::Random;
