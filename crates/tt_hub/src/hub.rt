@@ -162,21 +162,21 @@ impl Core for Hub {
     ghost use Rattle.tt_hub.specs.Hub.{taken, sent, is_live, is_over, takes};
     ghost use Rattle.tt_hub.specs.Laws.{sent_grows, ended_stays, unopened, over_is_last};
 
-    type Made = Setup;
+    type Made = (Setup, World);
 
-    ghost made = { λ h. h.setup };
+    ghost made = { λ h. (h.setup, h.start) };
 
     ghost events = { λ h. h.events };
 
     ghost taken = { taken };
 
-    ghost sent = { sent };
+    ghost sent = { λ made. sent made.0 };
 
-    ghost is_live = { is_live };
+    ghost is_live = { λ made. is_live made.0 };
 
-    ghost is_over = { is_over };
+    ghost is_over = { λ made. is_over made.0 };
 
-    ghost takes = { takes };
+    ghost takes = { λ made. takes made.0 };
 
     fn event(&mut self, event: Event) -> Result<u32, CoreErr> {
         if is_over(self.table) {
@@ -223,13 +223,13 @@ impl Core for Hub {
         is_over(self.table)
     }
 
-    ghost sent_grows = { sent_grows };
+    ghost sent_grows = { λ made. sent_grows made.0 };
 
-    ghost ended_stays = { ended_stays };
+    ghost ended_stays = { λ made. ended_stays made.0 };
 
-    ghost unopened = { unopened };
+    ghost unopened = { λ made. unopened made.0 };
 
-    ghost over_is_last = { over_is_last };
+    ghost over_is_last = { λ made. over_is_last made.0 };
 }
 
 /// Runs a frame at a tick.
