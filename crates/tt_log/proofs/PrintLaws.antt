@@ -7,7 +7,7 @@ use Rattle.std.proofs.lemmas.Str.{IsUtf8-nil}
 use Rattle.std.proofs.lemmas.List.{append-nil}
 use Rattle.std.proofs.lemmas.List.Sums.{sum_by-append, sum_by-cons, fold-append}
 use Rattle.std.proofs.lemmas.Grind.{flat_map-append}
-use Rattle.tt_frame.proofs.TextLaws.{is_text-from_IsText}
+use Rattle.tt_frame.proofs.TextLaws.{is_text-from_IsText, length_of_text}
 use Rattle.tt_lines.specs.Lines.{HasNo, lines_of}
 use Rattle.tt_log.specs.declared.script.bad.ScriptBad.{ScriptBad}
 use Rattle.tt_log.specs.Forms.{number, text, hex, saved, key, IsTextFrom, Fits, Word, named, word, rest, word_text, WordFits, behind_blanks, parted}
@@ -31,7 +31,7 @@ use Rattle.tt_log.specs.declared.script.setting.Setting.{Setting}
 use Rattle.tt_log.specs.declared.script.setting.Setting.TheVariants.{Seed, FrameFreq, SyncFreq, Clients, Init, PassLimit, Download, Join as JoinLimit, Lag, Cost, Pw, Admin}
 use Rattle.tt_log.specs.declared.script.step.Step.{Step}
 use Rattle.tt_log.specs.declared.script.step.Step.TheVariants.{Set, Saved, Line}
-use Rattle.tt_world.specs.Setup.{plain}
+use Rattle.tt_world.specs.Setup.{plain, Fits as FitsSetup}
 use Rattle.tt_world.specs.declared.setup.Setup.{Setup}
 use Rattle.tt_world.specs.declared.command.Code.{Code}
 use Rattle.tt_world.specs.declared.command.Code.TheVariants.{IncreaseLoan, DecreaseLoan, Give, PlaceSign, RenameSign, RenameCompany, RenamePresident, Pause, NewCompany}
@@ -450,6 +450,22 @@ plain_told = record {
   name = refl;
   revision = refl;
   id = refl;
+}
+
+-- a setup that is told fits its ranges
+pub told_fits : (st : Setup) → IsTold st → FitsSetup st
+told_fits st told = record {
+  frame_freq = let range = told.settings.1.0.1.0 in (range.0, range.1);
+  sync_freq = let range = told.settings.1.1.0.1.0 in (range.0, range.1);
+  max_clients = let range = told.settings.1.1.1.0.1.0 in (range.0, range.1);
+  init = let range = told.settings.1.1.1.1.0.1.0 in (range.0, range.1);
+  pass_limit = let range = told.settings.1.1.1.1.1.0.1.0 in (range.0, range.1);
+  download = let range = told.settings.1.1.1.1.1.1.0.1.0 in (range.0, range.1);
+  join = let range = told.settings.1.1.1.1.1.1.1.0.1.0 in (range.0, range.1);
+  lag = let range = told.settings.1.1.1.1.1.1.1.1.0.1.0 in (range.0, range.1);
+  cost = let range = told.settings.1.1.1.1.1.1.1.1.1.0.1.0 in (range.0, range.1);
+  password = length_of_text 32 st.password told.settings.1.1.1.1.1.1.1.1.1.1.0.1.0.text;
+  admin_password = length_of_text 32 st.admin_password told.settings.1.1.1.1.1.1.1.1.1.1.1.0.1.0.text;
 }
 
 told_with : (st : Setup) (x : Setting) → IsSetting x → IsTold st → IsTold (with_setting st x)
