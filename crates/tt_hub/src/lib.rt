@@ -8,6 +8,3 @@ mod table;
 mod verdict;
 
 pub use hub::{FromErr, Hub};
-
-#[cfg(test)]
-mod tests;

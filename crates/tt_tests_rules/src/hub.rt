@@ -1,7 +1,8 @@
-//! A game of ticks, and a join.
-use super::*;
+//! A game of ticks, a join, and a game from a saved world.
 use std::test::*;
 use tt_edge::{Body, Core, CoreErr, Door, Event, Peer, drain};
+use tt_hub::{FromErr, Hub};
+use tt_map::decode_map;
 use tt_world::Setup;
 
 #[test]
@@ -12,8 +13,8 @@ fn ticks_raise_the_greatest_permitted_frame(rt: HostRuntime) -> Result<(), Fail>
     let mut hub = Hub::new(alloc, &setup)?;
     let tops = [4, 4, 4, 4, 8];
     for top in tops {
-        assert_eq!(rt; hub.event(Event::Tick), Ok(0));
-        assert_eq!(rt; hub.top(), top);
+        assert_eq!(rt; hub.event(Event::Tick), Ok(0), "before the top {top}");
+        assert_eq!(rt; hub.top(), top, "at the frame {}", hub.frame());
     }
     assert_eq!(rt; hub.frame(), 5);
     assert_eq!(rt; hub.world().part(), 5);
@@ -83,5 +84,30 @@ fn an_unopened_connection_gives_nothing(rt: HostRuntime) -> Result<(), Fail> {
     let mut out = [7; 4];
     let took = hub.take(1, &mut out);
     assert_eq!(rt; (took.count, took.done, out), (0, true, [7; 4]));
+    Ok(())
+}
+
+/// The map of a saved game in the first version: day 29, part 73, and the company 0 with a loan of 300,000.
+const SAVED: &[u8] =
+    b"OTTN\x00\x01\x00\x00GAME\x00\x00\x00\x06\x00\x00\x00\x1d\x49\x00RAND\x00\x00\x00\x08\x00\x00\
+    \x00\x00\x00\x00\x00\x00CMPY\x00\x00\x00\x12\x01\x00\x00\x00\x00\x00\x00\x00\x00\x00\x00\x04\x93\xe0\x01A\x01BSIGN\
+    \x00\x00\x00\x02\x00\x00ENDC\x00\x00\x00\x00";
+
+#[test]
+fn a_game_goes_on_from_a_saved_world(rt: HostRuntime) -> Result<(), Fail> {
+    let alloc = rt.alloc();
+    let world = decode_map(alloc, SAVED)?;
+    if world.day() > 900_000_000 {
+        return Err("a day before the last start")?;
+    }
+    let mut hub = match Hub::from_world(alloc, &Setup::plain(), world) {
+        Ok(hub) => hub,
+        Err(FromErr { world: _world }) => return Err("memory ran out")?,
+    };
+    assert_eq!(rt; (hub.frame(), hub.world().day()), (0, 29));
+    assert_eq!(rt; hub.event(Event::Tick), Ok(0));
+    assert_eq!(rt; (hub.frame(), hub.world().day()), (1, 30));
+    let company = hub.world().company(0).ok_or("a company")?;
+    assert_eq!(rt; (company.money, company.loan), (249, 300_000));
     Ok(())
 }

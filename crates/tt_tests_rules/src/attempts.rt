@@ -1,6 +1,6 @@
 //! Codes that are parsed and drawn, and runs of attempts.
-use crate::{Attempt, Heard, InviteCode, Told, Ways};
 use std::test::Fail;
+use tt_attempts::{Attempt, Heard, InviteCode, Told, Ways};
 use tt_world::Random;
 
 #[test]

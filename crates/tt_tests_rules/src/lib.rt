@@ -1,0 +1,15 @@
+//! What the libraries of worlds, maps, attempts, scripts and the hub answer to numbers and bytes from outside.
+//!
+//! Only tests stand here, over public calls, so that a change of a library proves the library alone.
+#![tactic(auto)]
+
+#[cfg(test)]
+mod attempts;
+#[cfg(test)]
+mod hub;
+#[cfg(test)]
+mod log;
+#[cfg(test)]
+mod map;
+#[cfg(test)]
+mod world;
