@@ -1,7 +1,6 @@
 -- What events add to the journal.
-use Rattle.std.proofs.Common.{◌≡◌, ℕ, ◌+◌, ◌≤◌, List, [], ◌∷◌, ◌++◌, refl, ap, sym, ◌∙◌, true, false, Bool, arith, append-nil, append_assoc}
-use Rattle.std.specs.Prelude.{fold, map, flat_map, take, nat_lt}
-use Rattle.std.proofs.lemmas.Bool.{ltb-true}
+use Rattle.std.proofs.Common.{◌≡◌, ◌⊎◌, inl, inr, ℕ, ◌+◌, ◌≤◌, ◌<◌, List, [], ◌∷◌, ◌++◌, refl, ap, sym, ◌∙◌, true, false, Bool, arith, append-nil, append_assoc}
+use Rattle.std.specs.Prelude.{fold, map, flat_map, take}
 use Rattle.std.proofs.lemmas.List.Sums.{fold-append}
 use Rattle.tt_edge.specs.declared.event.Event.{Event}
 use Rattle.tt_edge.specs.declared.event.Event.TheVariants.{Open, Packet, Broken, Shut, Tick, Stop}
@@ -13,10 +12,10 @@ use Rattle.tt_log.specs.Origin.{Origin, IsJournal, game_of, world_at}
 use Rattle.tt_log.specs.Table.{Table, first}
 use Rattle.tt_log.specs.Member.{Member}
 use Rattle.tt_log.specs.Deed.{where_}
-use Rattle.tt_log.specs.Tick.{stamps, own_entry, entry_of, stamped, counted, permitted, allowed, ticked}
-use Rattle.tt_log.specs.Events.{by_event, charged, shut_down, stepped, takes}
+use Rattle.tt_log.specs.Tick.{stamps, own_entry, entry_of, ticked}
+use Rattle.tt_log.specs.Events.{by_event, taken, stepped, takes}
 use Rattle.tt_log.specs.History.{table_of, journal_of, AreFor}
-use Rattle.tt_log.proofs.Clock.{SameClock, event-same, later-same, stamped-same, taken, ends_by}
+use Rattle.tt_log.proofs.Clock.{SameClock, SameRun, Ticked, ticked-is, event-same, taken-run}
 use Rattle.tt_log.proofs.Refusing.{table-snoc}
 
 -- ---- stamps are for the frame above the permitted one
@@ -49,52 +48,33 @@ pub record Adds (t u : Table) : Type 0 where
   pub journal : u.journal ≡ t.journal ++ more
   pub are_for : AreFor (t.top + 1) more
 
-adds-none : (t u : Table) → SameClock t u → Adds t u
+adds-none : (t u : Table) → SameRun t u → Adds t u
 adds-none t u same = record { rises = omega (arith, same.top); more = []; journal = same.journal ∙ sym (append-nil t.journal); are_for = tt }
 
-raised-top : (b : Bool) (top : ℕ) (t : Table) → (b ≡ true → t.top ≤ top) → t.top ≤ (where_ b (permitted top) t).table.top
-raised-top true top t up = up refl
-raised-top false top t up = omega arith
+top-rises : (o : Origin) (t u : Table) → ((t.top < t.frame + 1) × (u.top ≡ t.frame + 1 + o.setup.frame_freq)) ⊎ ((t.frame + 1 ≤ t.top) × (u.top ≡ t.top)) → t.top ≤ u.top
+top-rises o t u (inl is) = omega (arith, is.0, is.1)
+top-rises o t u (inr is) = omega (arith, is.1)
 
-raised-journal : (b : Bool) (top : ℕ) (t : Table) → (where_ b (permitted top) t).table.journal ≡ t.journal
-raised-journal true top t = refl
-raised-journal false top t = refl
+ticked-adds : (o : Origin) (t u : Table) → Ticked o t u → Adds t u
+ticked-adds o t u is = record { rises = top-rises o t u is.top; more = stamps t; journal = is.journal; are_for = stamps-for t }
 
-ticked-adds : (o : Origin) (t : Table) → Adds t (ticked o t).table
-ticked-adds o t =
-    let u : Table = (counted (stamped t).table).table in
-    let later : SameClock (allowed o u).table (ticked o t).table = later-same o t in
-    let up : u.top ≤ (allowed o u).table.top = raised-top (nat_lt u.top u.frame) (u.frame + o.setup.frame_freq) u (λ is. omega (arith, ltb-true u.top u.frame is)) in
-    record {
-      rises = omega (arith, later.top, up, (stamped-same t).top);
-      more = stamps t;
-      journal = later.journal ∙ raised-journal (nat_lt u.top u.frame) (u.frame + o.setup.frame_freq) u ∙ (stamped-same t).journal;
-      are_for = stamps-for t;
-    }
+adds-run : (t u v : Table) → Adds t u → SameRun u v → Adds t v
+adds-run t u v a same = record { rises = omega (arith, a.rises, same.top); more = a.more; journal = same.journal ∙ a.journal; are_for = a.are_for }
+
+clock-adds : (t u : Table) → SameClock t u → Adds t u
+clock-adds t u same = adds-none t u (record { frame = same.frame; top = same.top; journal = same.journal })
 
 event-adds : (o : Origin) (e : Event) (t : Table) → Adds t (by_event o e t).table
-event-adds o Tick t = ticked-adds o t
-event-adds o (Open door peer) t = adds-none t (by_event o (Open door peer) t).table (event-same o (Open door peer) t refl)
-event-adds o (Packet conn kind body) t = adds-none t (by_event o (Packet conn kind body) t).table (event-same o (Packet conn kind body) t refl)
-event-adds o (Broken conn) t = adds-none t (by_event o (Broken conn) t).table (event-same o (Broken conn) t refl)
-event-adds o (Shut conn) t = adds-none t (by_event o (Shut conn) t).table (event-same o (Shut conn) t refl)
-event-adds o Stop t = adds-none t t (record { frame = refl; top = refl; over = refl; journal = refl })
-
-pub closed-journal : (b : Bool) (t : Table) → (where_ b shut_down t).table.journal ≡ t.journal
-closed-journal true t = refl
-closed-journal false t = refl
-
-pub closed-top : (b : Bool) (t : Table) → (where_ b shut_down t).table.top ≡ t.top
-closed-top true t = refl
-closed-top false t = refl
+event-adds o Tick t = ticked-adds o t (ticked o t).table (ticked-is o t)
+event-adds o (Open door peer) t = clock-adds t (by_event o (Open door peer) t).table (event-same o (Open door peer) t refl)
+event-adds o (Packet conn kind body) t = clock-adds t (by_event o (Packet conn kind body) t).table (event-same o (Packet conn kind body) t refl)
+event-adds o (Broken conn) t = clock-adds t (by_event o (Broken conn) t).table (event-same o (Broken conn) t refl)
+event-adds o (Shut conn) t = clock-adds t (by_event o (Shut conn) t).table (event-same o (Shut conn) t refl)
+event-adds o Stop t = adds-none t t (record { frame = refl; top = refl; journal = refl })
 
 taken-adds : (b : Bool) (o : Origin) (e : Event) (t : Table) → Adds t (where_ b (taken o e) t).table
-taken-adds true o e t =
-    let u : Table = (by_event o e t).table in
-    let v : Table = (charged e u).table in
-    let a : Adds t u = event-adds o e t in
-    record { rises = omega (arith, a.rises, closed-top (ends_by o e v) v); more = a.more; journal = closed-journal (ends_by o e v) v ∙ a.journal; are_for = a.are_for }
-taken-adds false o e t = adds-none t t (record { frame = refl; top = refl; over = refl; journal = refl })
+taken-adds true o e t = adds-run t (by_event o e t).table (taken o e t).table (event-adds o e t) (taken-run o e t)
+taken-adds false o e t = adds-none t t (record { frame = refl; top = refl; journal = refl })
 
 pub step-adds : (o : Origin) (t : Table) (e : Event) → Adds t (stepped o t e)
 step-adds o t e = taken-adds (takes t e) o e t
@@ -158,15 +138,15 @@ from-stamped o [] t kept = kept
 from-stamped o (e ∷ es) t kept = from-stamped o es (stepped o t e) (adds-stamped o t (stepped o t e) (step-adds o t e) kept)
 
 pub is-stamped : (o : Origin) (es : List Event) → IsStamped o (journal_of o es) (table_of o es).top
-is-stamped o es = from-stamped o es first (record { rising = tt; stamped = tt })
+is-stamped o es = from-stamped o es (first o) (record { rising = tt; stamped = tt })
 
 pub event-adds-for : (o : Origin) (es : List Event) (e : Event) → (more : List Entry) × (journal_of o (es ++ e ∷ []) ≡ journal_of o es ++ more) × AreFor ((table_of o es).top + 1) more
 event-adds-for o es e = let a : Adds (table_of o es) (stepped o (table_of o es) e) = step-adds o (table_of o es) e in (a.more, ap (λ (t : Table). t.journal) (table-snoc o es e) ∙ a.journal, a.are_for)
 
 pub journal-grows : (o : Origin) (es fs : List Event) → (more : List Entry) × (journal_of o (es ++ fs) ≡ journal_of o es ++ more) × AreAbove (game_of o) (table_of o es).top more
-journal-grows o es fs = let g : Grows o (table_of o es) (fold (stepped o) (table_of o es) fs) = from-grows o fs (table_of o es) in (g.more, ap (λ (t : Table). t.journal) (fold-append (stepped o) first es fs) ∙ g.journal, g.are_above)
+journal-grows o es fs = let g : Grows o (table_of o es) (fold (stepped o) (table_of o es) fs) = from-grows o fs (table_of o es) in (g.more, ap (λ (t : Table). t.journal) (fold-append (stepped o) (first o) es fs) ∙ g.journal, g.are_above)
 
 pub world-stays : (o : Origin) (es fs : List Event) (f : ℕ) → f ≤ (table_of o es).top → world_at o (journal_of o (es ++ fs)) f ≡ world_at o (journal_of o es) f
 world-stays o es fs f l =
     let g : Grows o (table_of o es) (fold (stepped o) (table_of o es) fs) = from-grows o fs (table_of o es) in
-    ap (λ (t : Table). world_at o t.journal f) (fold-append (stepped o) first es fs) ∙ ap (λ (xs : List Entry). world_at o xs f) g.journal ∙ world-stable (game_of o) f (table_of o es).top (journal_of o es) g.more g.are_above l
+    ap (λ (t : Table). world_at o t.journal f) (fold-append (stepped o) (first o) es fs) ∙ ap (λ (xs : List Entry). world_at o xs f) g.journal ∙ world-stable (game_of o) f (table_of o es).top (journal_of o es) g.more g.are_above l

@@ -1,263 +1,265 @@
--- The order of the members.
-use Rattle.std.proofs.Common.{◌≡◌, ℕ, ◌+◌, ◌-◌, ◌≤◌, ◌<◌, List, [], ◌∷◌, ◌++◌, refl, true, false, Bool, Option, Some, None, arith}
-use Rattle.std.specs.Prelude.{fold, position, ◌*◌, ◌==◌, length, nat_lt, map, find, cond, ◌%◌, not, nat_le}
+-- Members and admins stand in the order of their connections, each on one of its own; client numbers rise in the same order.
+use Rattle.std.proofs.Common.{◌≡◌, ◌⊎◌, inl, inr, ℕ, ◌+◌, ◌≤◌, ◌<◌, List, [], ◌∷◌, ◌++◌, refl, ap, ap₂, sym, ◌∙◌, subst, true, false, Bool, Option, Some, None, arith}
+use Rattle.std.specs.Prelude.{◌==◌, length, nat_le, map, filter, find, cond, not, fold}
 use Rattle.std.specs.List.{AllByRecursion}
-use Rattle.tt_edge.specs.declared.event.Door.TheVariants.{Main, Side}
+use Rattle.std.proofs.lemmas.Bool.{eq-eqb, ne_eqb}
 use Rattle.tt_edge.specs.declared.event.Event.{Event}
-use Rattle.tt_edge.specs.declared.event.Event.TheVariants.{Open, Packet, Broken, Shut, Tick, Stop}
-use Rattle.tt_game.specs.declared.message.GameMsg.{GameMsg}
-use Rattle.tt_game.specs.declared.message.GameMsg.TheVariants.{ClientJoin, ClientGameInfo, ClientGamePassword, ClientCompanyPassword, ClientGetmap, ClientMapOk, ClientAck, ClientCommand, ClientChat, ClientSetName, ClientSetPassword, ClientMove, ClientError, ClientQuit, ServerErrorQuit, ServerQuit}
-use Rattle.tt_world.specs.declared.command.Command.{Command}
-use Rattle.tt_world.specs.declared.command.Entry.{Entry}
-use Rattle.tt_rules.specs.Commands.{command_of}
-use Rattle.tt_rules.specs.declared.status.Status.TheVariants.{Map, MapWait, PreActive, Active, DoneMap}
-use Rattle.tt_rules.specs.declared.status.Verdict.{Verdict}
-use Rattle.tt_rules.specs.declared.status.Verdict.TheVariants.{Allowed, Ends}
-use Rattle.tt_log.specs.Origin.{Origin, world_at, at_frame}
-use Rattle.tt_log.specs.Table.{Table, first, member_of, with_member, digest_of, now_in, is_on}
-use Rattle.tt_log.specs.Member.{Member, is_in, new_member}
-use Rattle.tt_log.specs.Deed.{Deed, where_}
-use Rattle.tt_log.specs.Queue.{asks}
-use Rattle.tt_log.specs.Ending.{leaves, ends_untold}
-use Rattle.tt_log.specs.Judged.{judged}
-use Rattle.tt_log.specs.PacketRules.{does, company_step_by, password_step_by, enters, becomes_active, asks_company, acknowledges, has_caught_up, waits_by}
-use Rattle.tt_log.specs.Tick.{stamps, drawn, tells_entries, stamped, counted, permitted, told_frame, allowed, moved_if, all_moved, foundings, founders_moved, synced, mapped, if_downloading, next_pieces, finishes_map, pieces_of, map_left, late, ends_if, limited, each_limited, ticked}
-use Rattle.tt_log.specs.Events.{read_msg, opened, arrives, counted_in, by_verdict, heard, to_member, by_event, charged, shut_down, stepped, takes}
-use Rattle.tt_log.specs.History.{table_of}
-use Rattle.tt_log.proofs.Clock.{taken, ends_by}
-use Rattle.tt_log.specs.History.{AreRising}
-use Rattle.tt_log.proofs.Apart.{KnowsOpened, step-rises, step-knows, stepped-taken, closed-openings, arrives-openings}
-use Rattle.tt_log.proofs.Malformed.{conns, others, with-conns, moved-there, left-there, leaves-there}
-use Rattle.tt_log.proofs.Onward.{drawn-conns, told-conns}
+use Rattle.tt_log.specs.declared.deed.Step.{Step}
+use Rattle.tt_log.specs.Origin.{Origin}
+use Rattle.tt_log.specs.Member.{Member, new_member}
+use Rattle.tt_log.specs.Admin.{Admin, new_admin}
+use Rattle.tt_log.specs.Table.{Table, first, is_on, is_admin_on, member_of, admin_of}
+use Rattle.tt_log.specs.Deed.{Deed, becomes}
+use Rattle.tt_log.specs.Desk.{admin_arrives, counted_aside, most_admins}
+use Rattle.tt_log.specs.Tick.{drawn}
+use Rattle.tt_log.specs.Events.{arrives, counted_in, stepped}
+use Rattle.tt_log.specs.History.{table_of, AreRising}
+use Rattle.tt_log.proofs.Lists.{Among, NotIn, IsOther, all-append, all-so, all-of-filter, among-all}
+use Rattle.tt_log.proofs.Crew.{On, put, conns, admin_conns, put-conns, on-found, found-on}
+use Rattle.tt_log.proofs.Changes.{turned-conn, turned-client, moved-conn, moved-client, turned, moved}
+use Rattle.tt_log.proofs.Walk.{Base, Walk, Doors, Closing, Moves, Ticks, running, of-asks, of-enters, of-leaves, of-deed}
+use Rattle.tt_log.proofs.Clock.{from-all}
 
--- connections rise, and none is above a number
-pub record IsOrdered (n : ℕ) (xs : List ℕ) : Type 0 where
-  pub rise : AreRising 0 xs
-  pub under : AllByRecursion (λ x. x ≤ n) xs
+-- ---- lists that rise
 
-abbrev Ordered : ℕ → Table → Type 0
-Ordered n t = IsOrdered n (conns t.members)
+pub rise-from : (j k : ℕ) (xs : List ℕ) → j ≤ k → AreRising k xs → AreRising j xs
+rise-from j k [] l r = tt
+rise-from j k (x ∷ xs) l r = let a : k < x = r.0 in (omega (arith, l, a), r.1)
 
-rise-less : (m n : ℕ) (xs : List ℕ) → m ≤ n → AreRising n xs → AreRising m xs
-rise-less m n [] l r = tt
-rise-less m n (x ∷ xs) l r = let a : n < x = r.0 in (omega (arith, l, a), r.1)
+pub rise-filter : {A : Type 0} (f : A → ℕ) (p : A → Bool) (k : ℕ) (xs : List A) → AreRising k (map f xs) → AreRising k (map f (filter p xs))
+rise-filter f p k [] r = tt
+rise-filter f p k (x ∷ xs) r = let a : k < f x = r.0 in
+    elim (p x) as (λ b. AreRising k (map f (cond b (x ∷ filter p xs) (filter p xs))))
+    [ true ↦ (r.0, rise-filter f p (f x) xs r.1) | false ↦ rise-from k (f x) (map f (filter p xs)) (omega (arith, a)) (rise-filter f p (f x) xs r.1) ]
 
-rise-one : (b : Bool) (n : ℕ) (m : Member) (ms : List Member) → n < m.conn → AreRising m.conn (conns ms) → AreRising n (conns (cond b (m ∷ ms) ms))
-rise-one true n m ms l r = (l, r)
-rise-one false n m ms l r = rise-less n m.conn (conns ms) (omega (arith, l)) r
+pub all-map-filter : {A : Type 0} (Q : ℕ → Type 0) (f : A → ℕ) (p : A → Bool) (xs : List A) → AllByRecursion Q (map f xs) → AllByRecursion Q (map f (filter p xs))
+all-map-filter Q f p [] a = tt
+all-map-filter Q f p (x ∷ xs) a = elim (p x) as (λ b. AllByRecursion Q (map f (cond b (x ∷ filter p xs) (filter p xs)))) [ true ↦ (a.0, all-map-filter Q f p xs a.1) | false ↦ all-map-filter Q f p xs a.1 ]
 
-rise-others : (n x : ℕ) (ms : List Member) → AreRising n (conns ms) → AreRising n (conns (others x ms))
-rise-others n x [] r = tt
-rise-others n x (m ∷ ms) r = rise-one (not (is_on x m)) n m (others x ms) r.0 (rise-others m.conn x ms r.1)
+pub rise-more : {A : Type 0} (f : A → ℕ) (k n : ℕ) (xs : List A) (new : A) → AreRising k (map f xs) → AllByRecursion (λ x. x ≤ n) (map f xs) → k ≤ n → n < f new → AreRising k (map f (xs ++ new ∷ []))
+rise-more f k n [] new r a l above = (omega (arith, l, above), tt)
+rise-more f k n (x ∷ xs) new r a l above = (r.0, rise-more f (f x) n xs new r.1 a.1 a.0 above)
 
-under-one : (b : Bool) (n : ℕ) (m : Member) (ms : List Member) → m.conn ≤ n → AllByRecursion (λ x. x ≤ n) (conns ms) → AllByRecursion (λ x. x ≤ n) (conns (cond b (m ∷ ms) ms))
-under-one true n m ms l a = (l, a)
-under-one false n m ms l a = a
+pub all-more : {A : Type 0} (Q : ℕ → Type 0) (f : A → ℕ) (xs : List A) (new : A) → AllByRecursion Q (map f xs) → Q (f new) → AllByRecursion Q (map f (xs ++ new ∷ []))
+all-more Q f [] new a q = (q, tt)
+all-more Q f (x ∷ xs) new a q = (a.0, all-more Q f xs new a.1 q)
 
-under-others : (n x : ℕ) (ms : List Member) → AllByRecursion (λ x. x ≤ n) (conns ms) → AllByRecursion (λ x. x ≤ n) (conns (others x ms))
-under-others n x [] a = tt
-under-others n x (m ∷ ms) a = under-one (not (is_on x m)) n m (others x ms) a.0 (under-others n x ms a.1)
+pub map-same : {A : Type 0} (f : A → ℕ) (g : A → A) (xs : List A) → ((x : A) → f (g x) ≡ f x) → map f (map g xs) ≡ map f xs
+map-same f g [] same = refl
+map-same f g (x ∷ xs) same = ap₂ (λ (y : ℕ) (ys : List ℕ). y ∷ ys) (same x) (map-same f g xs same)
 
-same-ordered : (n : ℕ) (xs ys : List ℕ) → ys ≡ xs → IsOrdered n xs → IsOrdered n ys
-same-ordered n xs ys same a = rw same a
+pub rising-not : (k c : ℕ) (xs : List ℕ) → c ≤ k → AreRising k xs → NotIn c xs
+rising-not k c [] l r = tt
+rising-not k c (x ∷ xs) l r = let a : k < x = r.0 in (ne_eqb x c (λ e. omega (arith, e, l, a)), rising-not x c xs (omega (arith, l, a)) r.1)
 
-put-ordered : (n : ℕ) (m : Member) (t : Table) → Ordered n t → Ordered n (with_member m t)
-put-ordered n m t a = same-ordered n (conns t.members) (conns (with_member m t).members) (with-conns m t.members) a
+pub under-not : (n c : ℕ) (xs : List ℕ) → n < c → AllByRecursion (λ x. x ≤ n) xs → NotIn c xs
+under-not n c [] l a = tt
+under-not n c (x ∷ xs) l a = let b : x ≤ n = a.0 in (ne_eqb x c (λ e. omega (arith, e, l, b)), under-not n c xs l a.1)
 
-where-ordered : (n : ℕ) (b : Bool) (rule : Table → Deed) (t : Table) → Ordered n t → Ordered n (rule t).table → Ordered n (where_ b rule t).table
-where-ordered n true rule t a r = r
-where-ordered n false rule t a r = a
+under-later : (n : ℕ) (xs : List ℕ) → AllByRecursion (λ x. x ≤ n) xs → AllByRecursion (λ x. x ≤ n + 1) xs
+under-later n xs a = all-so (λ (x : ℕ). x ≤ n) (λ (x : ℕ). x ≤ n + 1) xs (λ x l. omega (arith, l)) a
 
-leaves-ordered : (n : ℕ) (o : Origin) (m : Member) (news : GameMsg) (t : Table) → Ordered n t → Ordered n (leaves o m news t).table
-leaves-ordered n o m news t a = same-ordered n (conns (others m.conn t.members)) (conns (leaves o m news t).table.members) (leaves-there o m news t).conns
-    (record { rise = rise-others 0 m.conn t.members a.rise; under = under-others n m.conn t.members a.under })
+-- ---- the members' client numbers
 
-company-ordered : (n : ℕ) (digest : Option (List ℕ)) (o : Origin) (m : Member) (t : Table) → Ordered n t → Ordered n (company_step_by digest o m t).table
-company-ordered n None o m t a = put-ordered n _ t a
-company-ordered n (Some digest) o m t a = put-ordered n _ t a
+abbrev pub clients : List Member → List ℕ
+clients ms = map (λ (m : Member). m.client) ms
 
-password-ordered : (n : ℕ) (password : List ℕ) (o : Origin) (m : Member) (t : Table) → Ordered n t → Ordered n (password_step_by password o m t).table
-password-ordered n [] o m t a = company-ordered n (digest_of t m.asked) o m t a
-password-ordered n (b ∷ bs) o m t a = put-ordered n _ t a
+rising-above : (k : ℕ) (m : Member) (ms : List Member) → AreRising k (conns ms) → Among m ms → k < m.conn
+rising-above k m [] r there = absurd there
+rising-above k m (x ∷ xs) r (inl here) = subst (λ (y : Member). k < y.conn) here r.0
+rising-above k m (x ∷ xs) r (inr later) = let a : k < x.conn = r.0 in let b : x.conn < m.conn = rising-above x.conn m xs r.1 later in omega (arith, a, b)
 
-enters-ordered : (n : ℕ) (o : Origin) (m : Member) (t : Table) → Ordered n t → Ordered n (enters o m t).table
-enters-ordered n o m t a =
-    let u : Table = with_member (record (now_in PreActive t m) { acked = m.map_frame; told = t.top }) t in
-    same-ordered n (conns u.members) (conns (enters o m t).table.members) (left-there o (position (λ x. x == m.conn) u.queue) u).conns (put-ordered n _ t a)
+put-none : (n : Member) (ms : List Member) → NotIn n.conn (conns ms) → put n ms ≡ ms
+put-none n [] a = refl
+put-none n (x ∷ xs) a = rw a.0 (ap (λ (ys : List Member). x ∷ ys) (put-none n xs a.1))
 
-asks-ordered : (n : ℕ) (o : Origin) (m : Member) (t : Table) → Ordered n t → Ordered n (asks o m t).table
-asks-ordered n o m t a =
-    let u : Table = record (with_member (now_in MapWait t m) t) { queue = t.queue ++ m.conn ∷ [] } in
-    same-ordered n (conns u.members) (conns (asks o m t).table.members) (moved-there o (length t.queue) (m.conn ∷ []) u).conns (put-ordered n (now_in MapWait t m) t a)
+-- in rising order one connection has one member
+pub put-clients : (k : ℕ) (n m : Member) (ms : List Member) → AreRising k (conns ms) → Among m ms → n.conn ≡ m.conn → n.client ≡ m.client → clients (put n ms) ≡ clients ms
+put-clients k n m [] r there c e = refl
+put-clients k n m (x ∷ xs) r (inl here) c e =
+    let at : x.conn ≡ n.conn = ap (λ (y : Member). y.conn) here ∙ sym c in
+    let own : n.client ≡ x.client = e ∙ sym (ap (λ (y : Member). y.client) here) in
+    let is : (x.conn == n.conn) ≡ true = eq-eqb x.conn n.conn at in
+    let rest : put n xs ≡ xs = put-none n xs (rising-not x.conn n.conn (conns xs) (omega (arith, at)) r.1) in
+    ap₂ (λ (b : Bool) (ys : List Member). (cond b n x).client ∷ clients ys) is rest ∙ ap (λ (y : ℕ). y ∷ clients xs) own
+put-clients k n m (x ∷ xs) r (inr later) c e =
+    let above : x.conn < m.conn = rising-above x.conn m xs r.1 later in
+    let is : (x.conn == n.conn) ≡ false = ne_eqb x.conn n.conn (λ same. omega (arith, same, c, above)) in
+    ap₂ (λ (b : Bool) (ys : List ℕ). (cond b n x).client ∷ ys) is (put-clients x.conn n m xs r.1 later c e)
 
-active-ordered : (n : ℕ) (m : Member) (t : Table) → Ordered n t → Ordered n (becomes_active m t).table
-active-ordered n m t a = let u : Table = with_member (now_in Active t m) t in where-ordered n (m.asked == 254) (asks_company (now_in Active t m)) u (put-ordered n (now_in Active t m) t a) (put-ordered n (now_in Active t m) t a)
+-- ---- what is in order
 
-acknowledges-ordered : (n : ℕ) (m : Member) (frame : ℕ) (t : Table) → Ordered n t → Ordered n (acknowledges m frame t).table
-acknowledges-ordered n m frame t a =
-    let k : Member = record m { acked = frame } in
-    let u : Table = with_member k t in
-    where-ordered n (has_caught_up frame t m) (becomes_active k) u (put-ordered n k t a) (active-ordered n k u (put-ordered n k t a))
+pub record IsOrdered (openings last : ℕ) (members numbers admins : List ℕ) : Type 0 where
+  pub rise : AreRising 0 members
+  pub under : AllByRecursion (λ c. c ≤ openings) members
+  pub clients : AreRising 1 numbers
+  pub given : AllByRecursion (λ k. k ≤ last) numbers
+  pub some : 1 ≤ last
+  pub admins_rise : AreRising 0 admins
+  pub admins_under : AllByRecursion (λ c. c ≤ openings) admins
+  -- nobody is both
+  pub apart : AllByRecursion (λ a. NotIn a members) admins
 
-waits-ordered : (n : ℕ) (command : Option Command) (m : Member) (company : ℕ) (t : Table) → Ordered n t → Ordered n (waits_by command m company t).table
-waits-ordered n None m company t a = a
-waits-ordered n (Some command) m company t a = put-ordered n _ t a
+abbrev pub Ordered : Table → Type 0
+Ordered t = IsOrdered t.openings t.clients (conns t.members) (clients t.members) (admin_conns t.admins)
 
-does-ordered : (n : ℕ) (o : Origin) (m : Member) (said : GameMsg) (t : Table) → Ordered n t → Ordered n (does o m said t).table
-does-ordered n o m (ClientJoin revision grf name company) t a = password-ordered n o.setup.password o _ t a
-does-ordered n o m ClientGameInfo t a = a
-does-ordered n o m (ClientGamePassword digest) t a = company-ordered n (digest_of t m.asked) o m t a
-does-ordered n o m (ClientCompanyPassword digest) t a = put-ordered n _ t a
-does-ordered n o m ClientGetmap t a = asks-ordered n o m t a
-does-ordered n o m ClientMapOk t a = enters-ordered n o m t a
-does-ordered n o m (ClientAck frame) t a = acknowledges-ordered n m frame t a
-does-ordered n o m (ClientCommand company code number to text) t a = waits-ordered n (command_of code number to text) m company t a
-does-ordered n o m (ClientChat scope to text) t a = a
-does-ordered n o m (ClientSetName name) t a = put-ordered n _ t a
-does-ordered n o m (ClientSetPassword digest) t a = a
-does-ordered n o m (ClientMove company digest) t a = put-ordered n _ t a
-does-ordered n o m (ClientError code) t a = leaves-ordered n o m (ServerErrorQuit m.client code) t a
-does-ordered n o m ClientQuit t a = leaves-ordered n o m (ServerQuit m.client) t a
-does-ordered n o m other t a = a
+abbrev KeepsOrder : Table → List Step → Table → Type 0
+KeepsOrder t steps u = Ordered t → Ordered u
 
-verdict-ordered : (n : ℕ) (v : Verdict) (o : Origin) (m : Member) (said : GameMsg) (t : Table) → Ordered n t → Ordered n (by_verdict v o m said t).table
-verdict-ordered n Allowed o m said t a = does-ordered n o m said t a
-verdict-ordered n (Ends code) o m said t a = leaves-ordered n o m (ServerErrorQuit m.client code) t a
+same-ordered : (openings last : ℕ) (xs ys ks ls admins : List ℕ) → ys ≡ xs → ls ≡ ks → IsOrdered openings last xs ks admins → IsOrdered openings last ys ls admins
+same-ordered openings last xs ys ks ls admins e f h = rw (e, f) h
 
-heard-ordered : (n : ℕ) (said : Option GameMsg) (o : Origin) (m : Member) (t : Table) → Ordered n t → Ordered n (heard said o m t).table
-heard-ordered n None o m t a = leaves-ordered n o m (ServerErrorQuit m.client 4) t a
-heard-ordered n (Some said) o m t a = verdict-ordered n (judged o t m said) o m said t a
+put-ordered : (t : Table) (n m : Member) → On t m → n.conn ≡ m.conn → n.client ≡ m.client → Ordered t → IsOrdered t.openings t.clients (conns (put n t.members)) (clients (put n t.members)) (admin_conns t.admins)
+put-ordered t n m on c e h = same-ordered t.openings t.clients _ _ _ _ _ (put-conns n t.members) (put-clients 0 n m t.members h.rise on c e) h
 
--- ---- the steps of a tick
+fewer-ordered : (p : Member → Bool) (t : Table) → Ordered t → IsOrdered t.openings t.clients (conns (filter p t.members)) (clients (filter p t.members)) (admin_conns t.admins)
+fewer-ordered p t h = record {
+  rise = rise-filter (λ (m : Member). m.conn) p 0 t.members h.rise;
+  under = all-map-filter (λ c. c ≤ t.openings) (λ (m : Member). m.conn) p t.members h.under;
+  clients = rise-filter (λ (m : Member). m.client) p 1 t.members h.clients;
+  given = all-map-filter (λ k. k ≤ t.clients) (λ (m : Member). m.client) p t.members h.given;
+  some = h.some;
+  admins_rise = h.admins_rise;
+  admins_under = h.admins_under;
+  apart = all-so (λ a. NotIn a (conns t.members)) _ (admin_conns t.admins) (λ a none. all-of-filter (λ (m : Member). m.conn) p a t.members none) h.apart;
+}
 
-stamps-ordered : (n : ℕ) (es : List Entry) (t : Table) → Ordered n t → Ordered n (tells_entries es t).table
-stamps-ordered n [] t a = a
-stamps-ordered n (e ∷ es) t a = stamps-ordered n es t a
+fewer-admins : (p : Admin → Bool) (t : Table) → Ordered t → IsOrdered t.openings t.clients (conns t.members) (clients t.members) (admin_conns (filter p t.admins))
+fewer-admins p t h = record {
+  rise = h.rise;
+  under = h.under;
+  clients = h.clients;
+  given = h.given;
+  some = h.some;
+  admins_rise = rise-filter (λ (a : Admin). a.conn) p 0 t.admins h.admins_rise;
+  admins_under = all-map-filter (λ c. c ≤ t.openings) (λ (a : Admin). a.conn) p t.admins h.admins_under;
+  apart = all-map-filter (λ a. NotIn a (conns t.members)) (λ (a : Admin). a.conn) p t.admins h.apart;
+}
 
-stamped-ordered : (n : ℕ) (t : Table) → Ordered n t → Ordered n (stamped t).table
-stamped-ordered n t a = stamps-ordered n (stamps t) (record t { members = map drawn t.members; own = []; journal = t.journal ++ stamps t }) (same-ordered n (conns t.members) (conns (map drawn t.members)) (drawn-conns t.members) a)
+none-ordered : (openings last : ℕ) → 1 ≤ last → IsOrdered openings last [] [] []
+none-ordered openings last some = record { rise = tt; under = tt; clients = tt; given = tt; some = some; admins_rise = tt; admins_under = tt; apart = tt }
 
-allowed-ordered : (n : ℕ) (o : Origin) (t : Table) → Ordered n t → Ordered n (allowed o t).table
-allowed-ordered n o t a = where-ordered n (nat_lt t.top t.frame) (permitted (t.frame + o.setup.frame_freq)) t a (same-ordered n (conns t.members) (conns (map (told_frame (t.frame + o.setup.frame_freq)) t.members)) (told-conns (t.frame + o.setup.frame_freq) t.members) a)
+-- ---- the walk
 
-moved-if-ordered : (n : ℕ) (m : Option Member) (company : ℕ) (t : Table) → Ordered n t → Ordered n (moved_if m company t).table
-moved-if-ordered n None company t a = a
-moved-if-ordered n (Some m) company t a = put-ordered n _ t a
+order-base : (o : Origin) → Base o KeepsOrder
+order-base o = record {
+  still = λ t h. h;
+  joins = λ t u v xs ys a b h. b (a h);
+  turns = λ c t m on may h. put-ordered t (turned c t m) m on (turned-conn c t m) (turned-client c t m) h;
+  tells_one = λ t m msg on talk h. h;
+  tells_some = λ t to w there news h. h;
+  tells_admins = λ t to msg there h. h;
+}
 
-all-moved-ordered : (n : ℕ) (fs : List (ℕ × ℕ)) (t : Table) → Ordered n t → Ordered n (all_moved fs t).table
-all-moved-ordered n [] t a = a
-all-moved-ordered n (f ∷ fs) t a =
-    let u : Table = (moved_if (find (λ m. m.client == f.0) t.members) f.1 t).table in
-    all-moved-ordered n fs u (moved-if-ordered n (find (λ m. m.client == f.0) t.members) f.1 t a)
+order-moves : (o : Origin) → Moves o KeepsOrder
+order-moves o = record {
+  moving = λ v t m on may h. put-ordered t (moved v t m) m on (moved-conn v t m) (moved-client v t m) h;
+  recalls = λ t m on at h. h;
+  waits_on = λ t conn n there h. h;
+  stands = λ t m on h. h;
+  cuts = λ t place h. h;
+  parts = λ t m on h. fewer-ordered (λ n. not (is_on m.conn n)) t h;
+  greets = λ t m on at h. put-ordered t _ m on refl refl h;
+}
 
-pieces-ordered : (n : ℕ) (left : List ℕ) (m : Member) (t : Table) → Ordered n t → Ordered n (next_pieces left m t).table
-pieces-ordered n left m t a =
-    let told : Member = record m { pieces = m.pieces + length (pieces_of 4 left) } in
-    let u : Table = with_member told t in
-    let b : Ordered n u = put-ordered n told t a in
-    where-ordered n (not (nat_lt (4 * 1400) (length left))) (finishes_map told) u b (put-ordered n (record told { status = DoneMap }) u b)
+order-walk : (o : Origin) → Walk o KeepsOrder
+order-walk o = record {
+  base = order-base o;
+  locks = λ t m digest on allowed h. h;
+  orders = λ t c is h. h;
+  asks_map = λ t m on at. of-asks o KeepsOrder (order-base o) (order-moves o) t m on at;
+  enters_game = λ t m on at. of-enters o KeepsOrder (order-base o) (order-moves o) t m on at;
+  goes = λ t m farewell on. of-leaves o KeepsOrder (order-base o) (order-moves o) t m farewell on;
+  goes_aside = λ t a on h. fewer-admins (λ b. not (is_admin_on a.conn b)) t h;
+}
 
-if-downloading-ordered : (n : ℕ) (m : Option Member) (o : Origin) (t : Table) → Ordered n t → Ordered n (if_downloading m o t).table
-if-downloading-ordered n None o t a = a
-if-downloading-ordered n (Some m) o t a = pieces-ordered n (map_left o t m) m t a
+later-ordered : (t : Table) (last : ℕ) → t.clients ≤ last → Ordered t → IsOrdered (t.openings + 1) last (conns t.members) (clients t.members) (admin_conns t.admins)
+later-ordered t last l h = record {
+  rise = h.rise;
+  under = under-later t.openings (conns t.members) h.under;
+  clients = h.clients;
+  given = all-so (λ k. k ≤ t.clients) (λ k. k ≤ last) (clients t.members) (λ k a. omega (arith, a, l)) h.given;
+  some = omega (arith, h.some, l);
+  admins_rise = h.admins_rise;
+  admins_under = under-later t.openings (admin_conns t.admins) h.admins_under;
+  apart = h.apart;
+}
 
-ends-if-ordered : (n : ℕ) (code : Option ℕ) (o : Origin) (m : Member) (t : Table) → Ordered n t → Ordered n (ends_if code o m t).table
-ends-if-ordered n None o m t a = a
-ends-if-ordered n (Some code) o m t a = leaves-ordered n o m (ServerErrorQuit m.client code) t a
+others-new : (n : ℕ) (ms : List Member) (new : Member) (admins : List ℕ) → new.conn ≡ n + 1 → AllByRecursion (λ a. a ≤ n) admins → AllByRecursion (λ a. NotIn a (conns ms)) admins → AllByRecursion (λ a. NotIn a (conns (ms ++ new ∷ []))) admins
+others-new n ms new [] is low apart = tt
+others-new n ms new (a ∷ admins) is low apart =
+    let l : a ≤ n = low.0 in
+    (all-more (IsOther a) (λ (m : Member). m.conn) ms new apart.0 (ne_eqb new.conn a (λ e. omega (arith, e, is, l))), others-new n ms new admins is low.1 apart.1)
 
-limited-ordered : (n : ℕ) (m : Option Member) (o : Origin) (t : Table) → Ordered n t → Ordered n (limited m o t).table
-limited-ordered n None o t a = a
-limited-ordered n (Some m) o t a = ends-if-ordered n (late o t m m.status) o m t a
+arrives-ordered : (full : Bool) (t : Table) → Ordered t → Ordered (arrives full (counted_in t)).table
+arrives-ordered true t h = later-ordered t (t.clients + 1) (omega arith) h
+arrives-ordered false t h =
+    let new : Member = new_member (t.openings + 1) (t.clients + 1) t.frame in
+    let later = later-ordered t (t.clients + 1) (omega arith) h in
+    record {
+      rise = rise-more (λ (m : Member). m.conn) 0 t.openings t.members new h.rise h.under (omega arith) (omega arith);
+      under = all-more (λ c. c ≤ t.openings + 1) (λ (m : Member). m.conn) t.members new later.under (omega arith);
+      clients = rise-more (λ (m : Member). m.client) 1 t.clients t.members new h.clients h.given h.some (omega arith);
+      given = all-more (λ k. k ≤ t.clients + 1) (λ (m : Member). m.client) t.members new later.given (omega arith);
+      some = later.some;
+      admins_rise = later.admins_rise;
+      admins_under = later.admins_under;
+      apart = others-new t.openings t.members new (admin_conns t.admins) refl h.admins_under h.apart;
+    }
 
-each-limited-ordered : (n : ℕ) (o : Origin) (ms : List Member) (t : Table) → Ordered n t → Ordered n (each_limited o ms t).table
-each-limited-ordered n o [] t a = a
-each-limited-ordered n o (m ∷ ms) t a =
-    let u : Table = (limited (member_of t m.conn) o t).table in
-    each-limited-ordered n o ms u (limited-ordered n (member_of t m.conn) o t a)
+aside-ordered : (full : Bool) (t : Table) → Ordered t → Ordered (admin_arrives full (counted_aside t)).table
+aside-ordered true t h = later-ordered t t.clients (omega arith) h
+aside-ordered false t h =
+    let new : Admin = new_admin (t.openings + 1) t.frame in
+    let later = later-ordered t t.clients (omega arith) h in
+    record {
+      rise = later.rise;
+      under = later.under;
+      clients = later.clients;
+      given = later.given;
+      some = later.some;
+      admins_rise = rise-more (λ (a : Admin). a.conn) 0 t.openings t.admins new h.admins_rise h.admins_under (omega arith) (omega arith);
+      admins_under = all-more (λ c. c ≤ t.openings + 1) (λ (a : Admin). a.conn) t.admins new later.admins_under (omega arith);
+      apart = all-more (λ a. NotIn a (conns t.members)) (λ (a : Admin). a.conn) t.admins new h.apart (under-not t.openings (t.openings + 1) (conns t.members) (omega arith) h.under);
+    }
 
-ticked-ordered : (n : ℕ) (o : Origin) (t : Table) → Ordered n t → Ordered n (ticked o t).table
-ticked-ordered n o t h =
-    let a : Table = (counted (stamped t).table).table in
-    let b : Table = (allowed o a).table in
-    let c : Table = (founders_moved o b).table in
-    let d : Table = (synced o c).table in
-    let e : Table = (mapped o d).table in
-    let hb : Ordered n b = allowed-ordered n o a (stamped-ordered n t h) in
-    let hc : Ordered n c = all-moved-ordered n (foundings (world_at o b.journal (b.frame - 1)) (at_frame o b.frame b.journal)) b hb in
-    let hd : Ordered n d = where-ordered n (c.frame % o.setup.sync_freq == 0) _ c hc hc in
-    let he : Ordered n e = if-downloading-ordered n (find (is_in Map) d.members) o d hd in
-    each-limited-ordered n o e.members e he
+order-doors : (o : Origin) → Doors o KeepsOrder
+order-doors o = record { comes = λ t h. arrives-ordered (nat_le o.setup.max_clients (length t.members)) t h; comes_aside = λ t h. aside-ordered (nat_le most_admins (length t.admins)) t h }
 
--- ---- events
+order-ticks : (o : Origin) → Ticks o KeepsOrder
+order-ticks o = record {
+  stamping = λ t h. same-ordered t.openings t.clients _ _ _ _ _ (map-same (λ (m : Member). m.conn) drawn t.members (λ m. refl)) (map-same (λ (m : Member). m.client) drawn t.members (λ m. refl)) h;
+  running = λ t b is. run-ordered b t;
+}
+  where
+    run-ordered : (b : Bool) (t : Table) → Ordered t → Ordered (running b o t)
+    run-ordered true t h = h
+    run-ordered false t h = h
 
-rise-last : (m n : ℕ) (ms : List Member) (new : Member) → m < new.conn → AreRising m (conns ms) → AllByRecursion (λ x. x ≤ n) (conns ms) → n < new.conn → AreRising m (conns (ms ++ new ∷ []))
-rise-last m n [] new l r under above = (l, tt)
-rise-last m n (x ∷ xs) new l r under above = let a : x.conn ≤ n = under.0 in (r.0, rise-last x.conn n xs new (omega (arith, a, above)) r.1 under.1 above)
+order-closing : (o : Origin) → Closing o KeepsOrder
+order-closing o = record { charges = λ t e h. h; closes = λ t h. none-ordered t.openings t.clients h.some }
 
-under-more : (m n : ℕ) (xs : List ℕ) → m ≤ n → AllByRecursion (λ x. x ≤ m) xs → AllByRecursion (λ x. x ≤ n) xs
-under-more m n [] l a = tt
-under-more m n (x ∷ xs) l a = let b : x ≤ m = a.0 in (omega (arith, b, l), under-more m n xs l a.1)
+pub step-ordered : (o : Origin) (e : Event) (t : Table) → Ordered t → Ordered (stepped o t e)
+step-ordered o e t h = of-deed o KeepsOrder (order-walk o) (order-ticks o) (order-doors o) (order-closing o) e t h
 
-under-last : (n : ℕ) (ms : List Member) (new : Member) → AllByRecursion (λ x. x ≤ n) (conns ms) → new.conn ≤ n → AllByRecursion (λ x. x ≤ n) (conns (ms ++ new ∷ []))
-under-last n [] new a l = (l, tt)
-under-last n (m ∷ ms) new a l = (a.0, under-last n ms new a.1 l)
+pub is-ordered : (o : Origin) (es : List Event) → Ordered (table_of o es)
+is-ordered o es = from-all o Ordered (step-ordered o) es (first o) (none-ordered 0 1 (omega arith))
 
-more-ordered : (m n : ℕ) (xs : List ℕ) → m ≤ n → IsOrdered m xs → IsOrdered n xs
-more-ordered m n xs l a = record { rise = a.rise; under = under-more m n xs l a.under }
+-- ---- nobody is both
 
-arrives-ordered : (full : Bool) (t : Table) (n : ℕ) → t.openings ≡ n + 1 → Ordered n t → IsOrdered (n + 1) (conns (arrives full t).table.members)
-arrives-ordered true t n is a = more-ordered n (n + 1) (conns t.members) (omega arith) a
-arrives-ordered false t n is a =
-    let new : Member = new_member t.openings t.clients t.frame in
-    record { rise = rise-last 0 n t.members new (omega (arith, is)) a.rise a.under (omega (arith, is)); under = under-last (n + 1) t.members new (under-more n (n + 1) (conns t.members) (omega arith) a.under) (omega (arith, is)) }
+find-none : (conn : ℕ) (admins : List Admin) → NotIn conn (admin_conns admins) → find (is_admin_on conn) admins ≡ None
+find-none conn [] a = refl
+find-none conn (x ∷ xs) a = rw a.0 (find-none conn xs a.1)
 
-member-ordered : (n : ℕ) (m : Option Member) (rule : Member → Table → Deed) (t : Table) → Ordered n t → ((m : Member) → Ordered n (rule m t).table) → Ordered n (to_member m rule t).table
-member-ordered n None rule t a rules = a
-member-ordered n (Some m) rule t a rules = rules m
+apart-from : (conn : ℕ) (ms : List Member) (m : Member) (admins : List ℕ) → Among m ms → m.conn ≡ conn → AllByRecursion (λ a. NotIn a (conns ms)) admins → NotIn conn admins
+apart-from conn ms m [] on at h = tt
+apart-from conn ms m (a ∷ admins) on at h =
+    let other : IsOther a m.conn = among-all (λ (n : Member). IsOther a n.conn) m ms on (others-all a ms h.0) in
+    (ne_eqb a conn (λ same. let e : (m.conn == a) ≡ true = eq-eqb m.conn a (at ∙ sym same) in absurd cc), apart-from conn ms m admins on at h.1)
+  where
+    others-all : (a : ℕ) (ms : List Member) → NotIn a (conns ms) → AllByRecursion (λ (n : Member). IsOther a n.conn) ms
+    others-all a [] h = tt
+    others-all a (x ∷ xs) h = (h.0, others-all a xs h.1)
 
--- the last connection that an event may have opened
-abbrev reached : Event → Table → ℕ
-reached (Open Main peer) t = t.openings + 1
-reached (Open Side peer) t = t.openings
-reached (Packet conn kind body) t = t.openings
-reached (Broken conn) t = t.openings
-reached (Shut conn) t = t.openings
-reached Tick t = t.openings
-reached Stop t = t.openings
-
-event-ordered : (o : Origin) (e : Event) (t : Table) → Ordered t.openings t → IsOrdered (reached e t) (conns (by_event o e t).table.members)
-event-ordered o (Open Main peer) t a = arrives-ordered (nat_le o.setup.max_clients (length t.members)) (counted_in t) t.openings refl a
-event-ordered o (Open Side peer) t a = a
-event-ordered o (Packet conn kind body) t a = member-ordered t.openings (member_of t conn) (heard (read_msg kind body) o) t a (λ m. heard-ordered t.openings (read_msg kind body) o m t a)
-event-ordered o (Broken conn) t a = member-ordered t.openings (member_of t conn) (heard None o) t a (λ m. heard-ordered t.openings None o m t a)
-event-ordered o (Shut conn) t a = member-ordered t.openings (member_of t conn) (λ m. ends_untold o m 3) t a (λ m. leaves-ordered t.openings o m (ServerErrorQuit m.client 3) t a)
-event-ordered o Tick t a = ticked-ordered t.openings o t a
-event-ordered o Stop t a = a
-
-closed-ordered : (b : Bool) (n : ℕ) (t : Table) → Ordered n t → Ordered n (where_ b shut_down t).table
-closed-ordered true n t a = record { rise = tt; under = tt }
-closed-ordered false n t a = a
-
-reached-within : (o : Origin) (e : Event) (t : Table) → takes t e ≡ true → KnowsOpened t → reached e t ≤ (stepped o t e).openings
-reached-within o (Open Main peer) t is knows =
-    let v : Table = (charged (Open Main peer) (opened o t).table).table in
-    omega (arith, stepped-taken o (Open Main peer) t is, closed-openings (ends_by o (Open Main peer) v) v, arrives-openings (nat_le o.setup.max_clients (length t.members)) (counted_in t))
-reached-within o (Open Side peer) t is knows = step-rises o (Open Side peer) t knows
-reached-within o (Packet conn kind body) t is knows = step-rises o (Packet conn kind body) t knows
-reached-within o (Broken conn) t is knows = step-rises o (Broken conn) t knows
-reached-within o (Shut conn) t is knows = step-rises o (Shut conn) t knows
-reached-within o Tick t is knows = step-rises o Tick t knows
-reached-within o Stop t is knows = step-rises o Stop t knows
-
-step-by : (b : Bool) (o : Origin) (e : Event) (t : Table) → takes t e ≡ b → KnowsOpened t → Ordered t.openings t → IsOrdered (stepped o t e).openings (conns (where_ b (taken o e) t).table.members)
-step-by true o e t is knows a =
-    let v : Table = (charged e (by_event o e t).table).table in
-    more-ordered (reached e t) (stepped o t e).openings (conns (taken o e t).table.members) (reached-within o e t is knows) (closed-ordered (ends_by o e v) (reached e t) v (event-ordered o e t a))
-step-by false o e t is knows a = more-ordered t.openings (stepped o t e).openings (conns t.members) (step-rises o e t knows) a
-
-from-ordered : (o : Origin) (es : List Event) (t : Table) → KnowsOpened t → Ordered t.openings t → Ordered (fold (stepped o) t es).openings (fold (stepped o) t es)
-from-ordered o [] t knows a = a
-from-ordered o (e ∷ es) t knows a = from-ordered o es (stepped o t e) (step-knows o e t knows) (step-by (takes t e) o e t refl knows a)
-
-pub is-ordered : (o : Origin) (es : List Event) → Ordered (table_of o es).openings (table_of o es)
-is-ordered o es = from-ordered o es first (λ c above. record { members = tt; queue = tt }) (record { rise = tt; under = tt })
+pub no-admin : (t : Table) (conn : ℕ) (m : Member) → Ordered t → member_of t conn ≡ Some m → admin_of t conn ≡ None
+no-admin t conn m h is = find-none conn t.admins (apart-from conn t.members m (admin_conns t.admins) (on-found t conn m is) (found-on conn t.members m is) h.apart)

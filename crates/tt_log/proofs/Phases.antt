@@ -1,22 +1,36 @@
 -- How far a connection has come: it only comes further, and stands once in the queue just while it waits or downloads.
-use Rattle.std.proofs.Common.{◌≡◌, ◌⊎◌, inl, inr, ap₂, ℕ, ◌+◌, ◌≤◌, ◌<◌, List, [], ◌∷◌, ◌++◌, refl, ap, sym, ◌∙◌, true, false, Bool, Option, Some, None, arith, zero, suc}
-use Rattle.std.specs.Prelude.{◌==◌, drop, take, length, nat_lt, map, find, cond, not, ◌&&◌}
-use Rattle.std.specs.List.{AllByRecursion, list_any}
+use Rattle.std.proofs.Common.{◌≡◌, ◌⊎◌, inl, inr, ap₂, ℕ, ◌+◌, ◌≤◌, ◌<◌, List, [], ◌∷◌, ◌++◌, refl, ap, sym, ◌∙◌, subst, true, false, Bool, Option, Some, None, arith, zero, suc}
+use Rattle.std.specs.Prelude.{◌==◌, drop, take, length, nat_lt, nat_le, map, find, filter, cond, not, ◌&&◌, ◌||◌, position}
+use Rattle.std.specs.List.{AllByRecursion, list_any, position_or_len}
+use Rattle.std.proofs.lemmas.Bool.{eqb-true, eqb-false, ltb-false, leb-false}
+use Rattle.tt_edge.specs.declared.event.Door.TheVariants.{Main, Side}
+use Rattle.tt_edge.specs.declared.event.Event.{Event}
+use Rattle.tt_edge.specs.declared.event.Event.TheVariants.{Open, Packet, Broken, Shut, Tick, Stop}
+use Rattle.tt_edge.specs.Event.{event_cost}
 use Rattle.tt_game.specs.declared.message.GameMsg.{GameMsg}
-use Rattle.tt_game.specs.declared.message.GameMsg.TheVariants.{ServerErrorQuit, ServerError}
-use Rattle.tt_log.specs.Origin.{Origin}
-use Rattle.tt_log.specs.Table.{Table, member_of, with_member, without_member, playing, is_on}
-use Rattle.tt_log.specs.Member.{Member, is_welcomed}
-use Rattle.tt_log.specs.Deed.{What, Step, Deed, ◌▹◌, where_, becomes, tells, tells_what, tells_playing, msg, map_begin, map_pieces, stamp, entries, end}
-use Rattle.tt_log.specs.Queue.{moved_up, left_place, leaves_queue, begins, changed, downloading, waits}
-use Rattle.tt_log.specs.Ending.{leaves, ends}
-use Rattle.std.specs.List.{position_or_len}
-use Rattle.std.proofs.lemmas.Bool.{eqb-true, eqb-false, ltb-false}
+use Rattle.tt_game.specs.declared.message.GameMsg.TheVariants.{ServerCommand, ServerFrame}
 use Rattle.tt_rules.specs.Statuses.{rank}
-use Rattle.tt_log.specs.Deed.{game, sync}
+use Rattle.tt_log.specs.declared.deed.Step.{Step}
+use Rattle.tt_log.specs.declared.deed.What.{What}
+use Rattle.tt_log.specs.declared.deed.What.TheVariants.{Msg, ToAdmin, MapBegin, MapPieces, Sync, Entries, Stamp, End}
+use Rattle.tt_rules.specs.declared.status.Status.TheVariants.{MapWait}
+use Rattle.tt_log.specs.Origin.{Origin}
+use Rattle.tt_log.specs.Member.{Member, is_playing, is_welcomed, new_member}
+use Rattle.tt_log.specs.Table.{Table, member_of, with_member, without_member, playing, welcomed, is_on, now_in}
+use Rattle.tt_log.specs.Deed.{game, Deed, ◌▹◌, where_, where_some, becomes, tells, tells_what, tells_each, tells_playing}
 use Rattle.tt_log.specs.Told.{is_entry}
-use Rattle.tt_log.proofs.Apart.{all-append, all-drop, all-filter, IsOther, NotIn}
-use Rattle.tt_log.proofs.Malformed.{conns, others, with-conns, live-conns, stays-all, found-on}
+use Rattle.tt_log.specs.Frames.{tells_fresh}
+use Rattle.tt_log.specs.Queue.{moved_up, left_place, leaves_queue, begins, begins_for, downloading, waits, asks}
+use Rattle.tt_log.specs.Ending.{Farewell, Quitting, Failing, tells_farewell, leaves}
+use Rattle.tt_log.specs.PacketRules.{client_info, enters, acknowledged, closed_token}
+use Rattle.tt_log.specs.Desk.{admin_arrives, admin_opens, counted_aside, most_admins}
+use Rattle.tt_log.specs.Tick.{drawn, ticked}
+use Rattle.tt_log.specs.Events.{by_event, arrives, opened, counted_in, charged, closed, stops, shut_down, taken, takes, deed, is_stop, last_frame}
+use Rattle.tt_log.proofs.Lists.{Among, IsOther, NotIn, Within, all-append, all-drop, all-filter, all-map, among-all, any-not}
+use Rattle.tt_log.proofs.Crew.{On, put, put-all, put-conns, conns, others, live-conns, found-on}
+use Rattle.tt_log.proofs.Changes.{step, Change, wants_password, is_let_in, gets_token, gets_frame, answers, plays, commands, has_name, goes_to, founds, gets_pieces, has_all, Asks, May, turned, told_with, turned_in, steps_with, moved, Move, queues, begins_map, loads, IsTalk, IsNews, turned-conn}
+use Rattle.tt_log.proofs.Ordered.{map-same}
+use Rattle.tt_log.proofs.Walk.{stamping, running, Base, Walk, Ticks, Closing, Of, of-event, of-ticked, of-taken}
 
 -- ---- phases
 
@@ -59,13 +73,10 @@ Has c p t = Holds c p t.members t.queue
 -- ---- what is told meanwhile
 
 abbrev pub is_command : What → Bool
-is_command (msg m) = is_entry (game m)
-is_command (entries frame) = true
-is_command (stamp e) = true
-is_command map_begin = false
-is_command map_pieces = false
-is_command sync = false
-is_command end = false
+is_command (Msg m) = is_entry (game m)
+is_command (Entries frame) = true
+is_command (Stamp e) = true
+is_command other = false
 
 -- a step tells the connection no command
 abbrev pub Quiet : ℕ → Step → Type 0
@@ -182,15 +193,11 @@ place-live Early c q xs ys e h = h
 place-live Queued c q xs ys e h = (h.0, e ∙ h.1)
 place-live InGame c q xs ys e h = h
 
-pub put-all : (c : ℕ) (p : Phase) (n : Member) (ms : List Member) → Suits c p n → AllByRecursion (Suits c p) ms → AllByRecursion (Suits c p) (map (λ x. cond (x.conn == n.conn) n x) ms)
-put-all c p n [] s a = tt
-put-all c p n (x ∷ xs) s a = (elim (x.conn == n.conn) as (λ b. Suits c p (cond b n x)) [ true ↦ s | false ↦ a.0 ], put-all c p n xs s a.1)
+pub any-with : (c : ℕ) (n : Member) (ms : List Member) → list_any (λ x. x == c) (conns (put n ms)) ≡ list_any (λ x. x == c) (conns ms)
+any-with c n ms = ap (λ (xs : List ℕ). list_any (λ x. x == c) xs) (put-conns n ms)
 
-pub any-with : (c : ℕ) (n : Member) (ms : List Member) → list_any (λ x. x == c) (conns (map (λ x. cond (x.conn == n.conn) n x) ms)) ≡ list_any (λ x. x == c) (conns ms)
-any-with c n ms = ap (λ (xs : List ℕ). list_any (λ x. x == c) xs) (with-conns n ms)
-
-pub put : (c : ℕ) (p : Phase) (n : Member) (t : Table) → Suits c p n → Has c p t → Has c p (with_member n t)
-put c p n t s h = record { suits = put-all c p n t.members s h.suits; place = place-live p c t.queue (conns t.members) (conns (with_member n t).members) (any-with c n t.members) h.place }
+pub put-holds : (c : ℕ) (p : Phase) (n : Member) (t : Table) → Suits c p n → Has c p t → Holds c p (put n t.members) t.queue
+put-holds c p n t s h = record { suits = put-all (Suits c p) n t.members s h.suits; place = place-live p c t.queue (conns t.members) (conns (put n t.members)) (any-with c n t.members) h.place }
 
 pub put-own-one : (b : Bool) (c : ℕ) (p : Phase) (n x : Member) → (x.conn == n.conn) ≡ b → (n.conn == c) ≡ true → fits p (rank n.status) → Suits c p (cond b n x)
 put-own-one true c p n x is own fit = λ same. fit
@@ -222,24 +229,6 @@ pub queued-fits : (p : Phase) (r : ℕ) → 5 ≤ r → r ≤ 7 → p ≡ Queued
 queued-fits Early r a b is = absurd cc
 queued-fits Queued r a b is = (a, b)
 queued-fits InGame r a b is = absurd cc
-
--- ---- what is found
-
-abbrev pub AllOption : (Member → Type 0) → Option Member → Type 0
-AllOption P None = Unit
-AllOption P (Some m) = P m
-
-pub found-all : (P : Member → Type 0) (test : Member → Bool) (ms : List Member) → AllByRecursion P ms → AllOption P (find test ms)
-found-all P test [] a = tt
-found-all P test (m ∷ ms) a = elim (test m) as (λ b. AllOption P (cond b (Some m) (find test ms))) [ true ↦ a.0 | false ↦ found-all P test ms a.1 ]
-
-pub passed-one : (b : Bool) (test : Member → Bool) (m : Member) (x : Option Member) → test m ≡ b → AllOption (λ n. test n ≡ true) x → AllOption (λ n. test n ≡ true) (cond b (Some m) x)
-passed-one true test m x is a = is
-passed-one false test m x is a = a
-
-pub found-passes : (test : Member → Bool) (ms : List Member) → AllOption (λ n. test n ≡ true) (find test ms)
-found-passes test [] = tt
-found-passes test (m ∷ ms) = passed-one (test m) test m (find test ms) refl (found-passes test ms)
 
 -- ---- the queue
 
@@ -299,17 +288,20 @@ once-within c (y ∷ ys) a = within-one (y == c) c y (place_in c ys) (length ys)
 abbrev pub MayMove : ℕ → Phase → ℕ → Type 0
 MayMove c p x = (x == c) ≡ true → p ≡ Queued
 
-pub changed-holds : (c conn : ℕ) (p : Phase) (m : Option Member) (t : Table) → MayMove c p conn → member_of t conn ≡ m → Has c p t → Has c p (changed m (downloading t) t)
-changed-holds c conn p None t may is h = h
-changed-holds c conn p (Some m) t may is h = put c p (downloading t m) t (λ own. queued-fits p 6 (omega arith) (omega arith) (may (ap (λ (x : ℕ). x == c) (sym (found-on conn t.members m is)) ∙ own))) h
+begins-by : (x : Option Member) (c conn : ℕ) (p : Phase) (t : Table) → MayMove c p conn → member_of t conn ≡ x → Has c p t → KeepsBy c p (where_some x begins_for t)
+begins-by None c conn p t may is h = still-keeps c p t h
+begins-by (Some m) c conn p t may is h = record {
+  holds = put-holds c p (downloading t m) t (λ own. queued-fits p 6 (omega arith) (omega arith) (may (ap (λ (x : ℕ). x == c) (sym (found-on conn t.members m is)) ∙ own))) h;
+  quiet = (refl, tt);
+}
 
-pub begins-keeps : (c : ℕ) (p : Phase) (o : Origin) (conn : ℕ) (t : Table) → MayMove c p conn → Has c p t → KeepsBy c p (begins o conn t)
-begins-keeps c p o conn t may h = record { holds = changed-holds c conn p (member_of t conn) t may refl h; quiet = (refl, tt) }
+pub begins-keeps : (c : ℕ) (p : Phase) (conn : ℕ) (t : Table) → MayMove c p conn → Has c p t → KeepsBy c p (begins conn t)
+begins-keeps c p conn t may h = begins-by (member_of t conn) c conn p t may refl h
 
-pub moved-keeps : (c : ℕ) (p : Phase) (o : Origin) (place : ℕ) (xs : List ℕ) (t : Table) → AllByRecursion (MayMove c p) xs → Has c p t → KeepsBy c p (moved_up o place xs t)
-moved-keeps c p o place [] t may h = still-keeps c p t h
-moved-keeps c p o zero (x ∷ xs) t may h = then-keeps c p (begins o x t) (moved_up o 1 xs) (begins-keeps c p o x t may.0 h) (λ b. moved-keeps c p o 1 xs (begins o x t).table may.1 b)
-moved-keeps c p o (suc place) (x ∷ xs) t may h = then-keeps c p (waits x (suc place) t) (moved_up o (suc (suc place)) xs) (record { holds = h; quiet = (refl, tt) }) (λ b. moved-keeps c p o (suc (suc place)) xs t may.1 b)
+pub moved-keeps : (c : ℕ) (p : Phase) (place : ℕ) (xs : List ℕ) (t : Table) → AllByRecursion (MayMove c p) xs → Has c p t → KeepsBy c p (moved_up place xs t)
+moved-keeps c p place [] t may h = still-keeps c p t h
+moved-keeps c p zero (x ∷ xs) t may h = then-keeps c p (begins x t) (moved_up 1 xs) (begins-keeps c p x t may.0 h) (λ b. moved-keeps c p 1 xs (begins x t).table may.1 b)
+moved-keeps c p (suc place) (x ∷ xs) t may h = then-keeps c p (waits x (suc place) t) (moved_up (suc (suc place)) xs) (record { holds = h; quiet = (refl, tt) }) (λ b. moved-keeps c p (suc (suc place)) xs t may.1 b)
 
 pub none-moves : (c : ℕ) (p : Phase) (xs : List ℕ) → NotIn c xs → AllByRecursion (MayMove c p) xs
 none-moves c p [] a = tt
@@ -333,15 +325,15 @@ place-removed InGame c x q xs apart h = none-removed c x q h
 pub place-cut : (p : Phase) (c x : ℕ) (q xs : List ℕ) → (x == c) ≡ false → Place p c q xs → Place p c (take (place_in x q) q ++ drop (place_in x q + 1) q) xs
 place-cut p c x q xs apart h = rw (removed-is x q) (place-removed p c x q xs apart h)
 
-pub left-keeps : (b : Bool) (c x : ℕ) (p : Phase) (o : Origin) (t : Table) → (x == c) ≡ false → Has c p t → KeepsBy c p (left_place o (cond b (Some (place_in x t.queue)) None) t)
-left-keeps true c x p o t apart h =
+pub left-keeps : (b : Bool) (c x : ℕ) (p : Phase) (t : Table) → (x == c) ≡ false → Has c p t → KeepsBy c p (where_some (cond b (Some (place_in x t.queue)) None) left_place t)
+left-keeps true c x p t apart h =
     let u : Table = record t { queue = take (place_in x t.queue) t.queue ++ drop (place_in x t.queue + 1) t.queue } in
-    moved-keeps c p o (place_in x t.queue) (drop (place_in x t.queue + 1) t.queue) u (moves-behind p c (place_in x t.queue + 1) t.queue (conns t.members) h.place)
+    moved-keeps c p (place_in x t.queue) (drop (place_in x t.queue + 1) t.queue) u (moves-behind p c (place_in x t.queue + 1) t.queue (conns t.members) h.place)
     (record { suits = h.suits; place = place-cut p c x t.queue (conns t.members) apart h.place })
-left-keeps false c x p o t apart h = still-keeps c p t h
+left-keeps false c x p t apart h = still-keeps c p t h
 
-pub leaves-queue-keeps : (c x : ℕ) (p : Phase) (o : Origin) (t : Table) → (x == c) ≡ false → Has c p t → KeepsBy c p (leaves_queue o x t)
-leaves-queue-keeps c x p o t apart h = left-keeps (nat_lt (place_in x t.queue) (length t.queue)) c x p o t apart h
+pub leaves-queue-keeps : (c x : ℕ) (p : Phase) (t : Table) → (x == c) ≡ false → Has c p t → KeepsBy c p (leaves_queue x t)
+leaves-queue-keeps c x p t apart h = left-keeps (nat_lt (place_in x t.queue) (length t.queue)) c x p t apart h
 
 -- the connection itself leaves the queue, once its member plays or is gone
 pub record Cut (c : ℕ) (ms : List Member) (q : List ℕ) : Type 0 where
@@ -360,20 +352,20 @@ pub not-found : (c : ℕ) (q : List ℕ) → nat_lt (place_in c q) (length q) �
 not-found c q is (inl once) = let l : place_in c q < length q = once-within c q once in let m : length q ≤ place_in c q = ltb-false (place_in c q) (length q) is in absurd (omega (arith, l, m))
 not-found c q is (inr none) = none
 
-pub left-cut : (b : Bool) (c : ℕ) (o : Origin) (t : Table) → nat_lt (place_in c t.queue) (length t.queue) ≡ b → Cut c t.members t.queue → Has c InGame (left_place o (cond b (Some (place_in c t.queue)) None) t).table
-left-cut true c o t is cut =
+pub left-cut : (b : Bool) (c : ℕ) (t : Table) → nat_lt (place_in c t.queue) (length t.queue) ≡ b → Cut c t.members t.queue → Has c InGame (where_some (cond b (Some (place_in c t.queue)) None) left_place t).table
+left-cut true c t is cut =
     let u : Table = record t { queue = take (place_in c t.queue) t.queue ++ drop (place_in c t.queue + 1) t.queue } in
     let none : NotIn c u.queue = rw (removed-is c t.queue) (cut-none c t.queue cut.once) in
-    (moved-keeps c InGame o (place_in c t.queue) (drop (place_in c t.queue + 1) t.queue) u
+    (moved-keeps c InGame (place_in c t.queue) (drop (place_in c t.queue + 1) t.queue) u
     (none-moves c InGame (drop (place_in c t.queue + 1) t.queue) (none-behind c (take (place_in c t.queue) t.queue) (drop (place_in c t.queue + 1) t.queue) none))
     (record { suits = cut.suits; place = none })).holds
-left-cut false c o t is cut = record { suits = cut.suits; place = not-found c t.queue is cut.once }
+left-cut false c t is cut = record { suits = cut.suits; place = not-found c t.queue is cut.once }
 
-pub own-leaves : (c : ℕ) (o : Origin) (t : Table) → Cut c t.members t.queue → Has c InGame (leaves_queue o c t).table
-own-leaves c o t cut = left-cut (nat_lt (place_in c t.queue) (length t.queue)) c o t refl cut
+pub own-leaves : (c : ℕ) (t : Table) → Cut c t.members t.queue → Has c InGame (leaves_queue c t).table
+own-leaves c t cut = left-cut (nat_lt (place_in c t.queue) (length t.queue)) c t refl cut
 
-pub leaves-queue-cut : (c x : ℕ) (o : Origin) (t : Table) → x ≡ c → Cut c t.members t.queue → Has c InGame (leaves_queue o x t).table
-leaves-queue-cut c x o t same cut = rw same (own-leaves c o t cut)
+pub leaves-queue-cut : (c x : ℕ) (t : Table) → x ≡ c → Cut c t.members t.queue → Has c InGame (leaves_queue x t).table
+leaves-queue-cut c x t same cut = rw same (own-leaves c t cut)
 
 pub place-once : (p : Phase) (c : ℕ) (q xs : List ℕ) → Place p c q xs → OnceIn c q ⊎ NotIn c q
 place-once Early c q xs h = inr h
@@ -385,18 +377,21 @@ later-end Early = tt
 later-end Queued = tt
 later-end InGame = tt
 
--- ---- ends
+-- ---- a member goes
 
-pub news-quiet : (c : ℕ) (p : Phase) (news : GameMsg) (t : Table) → is_entry (game news) ≡ false → Has c p t → KeepsBy c p (tells_playing news t)
-news-quiet c p news t is h = says-keeps c p (playing t) (msg news) t is h
+gone-one : (b : Bool) (c x : ℕ) (m : Member) (rest ms : List Member) → (m.conn == x) ≡ b → (x == c) ≡ false → list_any (λ y. y == c) (conns rest) ≡ list_any (λ y. y == c) (conns ms)
+    → list_any (λ y. y == c) (conns (cond (not b) (m ∷ rest) rest)) ≡ ((m.conn == c) || list_any (λ y. y == c) (conns ms))
+gone-one true c x m rest ms is apart same = let e : (m.conn == c) ≡ false = ap (λ (y : ℕ). y == c) (eqb-true m.conn x is) ∙ apart in rw e same
+gone-one false c x m rest ms is apart same = ap (λ (b : Bool). (m.conn == c) || b) same
 
 pub any-others : (c x : ℕ) (ms : List Member) → (x == c) ≡ false → list_any (λ y. y == c) (conns (others x ms)) ≡ list_any (λ y. y == c) (conns ms)
-any-others c x ms apart = sym (live-conns c (others x ms)) ∙ stays-all x c ms apart ∙ live-conns c ms
+any-others c x [] apart = refl
+any-others c x (m ∷ ms) apart = gone-one (m.conn == x) c x m (others x ms) ms refl apart (any-others c x ms apart)
 
 pub without-holds : (c x : ℕ) (p : Phase) (t : Table) → (x == c) ≡ false → Has c p t → Has c p (without_member x t)
 without-holds c x p t apart h = record { suits = all-filter (Suits c p) (λ m. not (is_on x m)) t.members h.suits; place = place-live p c t.queue (conns t.members) (conns (others x t.members)) (any-others c x t.members apart) h.place }
 
-pub gone-suits-one : (b : Bool) (c x : ℕ) (m : Member) (ms : List Member) → (m.conn == x) ≡ b → x ≡ c → AllByRecursion (Suits c InGame) ms → AllByRecursion (Suits c InGame) (cond (not b) (m ∷ ms) ms)
+gone-suits-one : (b : Bool) (c x : ℕ) (m : Member) (ms : List Member) → (m.conn == x) ≡ b → x ≡ c → AllByRecursion (Suits c InGame) ms → AllByRecursion (Suits c InGame) (cond (not b) (m ∷ ms) ms)
 gone-suits-one true c x m ms is same a = a
 gone-suits-one false c x m ms is same a = (λ own. absurd (eqb-false m.conn x is (eqb-true m.conn c own ∙ sym same)), a)
 
@@ -404,26 +399,96 @@ pub gone-suits : (c x : ℕ) (ms : List Member) → x ≡ c → AllByRecursion (
 gone-suits c x [] same = tt
 gone-suits c x (m ∷ ms) same = gone-suits-one (m.conn == x) c x m (others x ms) refl same (gone-suits c x ms same)
 
-pub where-cut : (b : Bool) (c : ℕ) (news : GameMsg) (t : Table) → Cut c t.members t.queue → Cut c (where_ b (tells_playing news) t).table.members (where_ b (tells_playing news) t).table.queue
-where-cut true c news t cut = cut
-where-cut false c news t cut = cut
+farewell-keeps : (f : Farewell) (c : ℕ) (p : Phase) (m : Member) (t : Table) → Has c p t → KeepsBy c p (tells_farewell f m t)
+farewell-keeps Quitting c p m t h = record { holds = h; quiet = (refl, (refl, tt)) }
+farewell-keeps (Failing code) c p m t h = record { holds = h; quiet = (refl, (refl, tt)) }
 
-pub leaves-by : (b : Bool) (c : ℕ) (p : Phase) (o : Origin) (m : Member) (news : GameMsg) (t : Table) → (m.conn == c) ≡ b → is_entry (game news) ≡ false → Has c p t → GoesBy c p (leaves o m news t)
-leaves-by true c p o m news t is quiet h =
+farewell-cut : (f : Farewell) (b : Bool) (c : ℕ) (m : Member) (t : Table) → Cut c t.members t.queue → Cut c (where_ b (tells_farewell f m) t).table.members (where_ b (tells_farewell f m) t).table.queue
+farewell-cut Quitting true c m t cut = cut
+farewell-cut (Failing code) true c m t cut = cut
+farewell-cut f false c m t cut = cut
+
+pub leaves-by : (b : Bool) (c : ℕ) (p : Phase) (m : Member) (f : Farewell) (t : Table) → (m.conn == c) ≡ b → Has c p t → GoesBy c p (leaves m f t)
+leaves-by true c p m f t is h =
     let u : Table = without_member m.conn t in
-    let v : Table = (where_ (is_welcomed m) (tells_playing news) u).table in
+    let v : Table = (where_ (is_welcomed m) (tells_farewell f m) u).table in
     let same : m.conn ≡ c = eqb-true m.conn c is in
-    let cut : Cut c v.members v.queue = where-cut (is_welcomed m) c news u (record { suits = gone-suits c m.conn t.members same; once = place-once p c t.queue (conns t.members) h.place }) in
-    record { to = InGame; later = later-end p; holds = leaves-queue-cut c m.conn o v same cut; quiet = tt }
-leaves-by false c p o m news t is quiet h =
+    let cut : Cut c v.members v.queue = farewell-cut f (is_welcomed m) c m u (record { suits = gone-suits c m.conn t.members same; once = place-once p c t.queue (conns t.members) h.place }) in
+    record { to = InGame; later = later-end p; holds = leaves-queue-cut c m.conn v same cut; quiet = tt }
+leaves-by false c p m f t is h =
     let u : Table = without_member m.conn t in
-    let d : Deed = tells_what (m.conn ∷ []) end u ▹ where_ (is_welcomed m) (tells_playing news) in
-    let k : KeepsBy c p d = then-keeps c p (tells_what (m.conn ∷ []) end u) (where_ (is_welcomed m) (tells_playing news)) (says-keeps c p (m.conn ∷ []) end u refl (without-holds c m.conn p t is h))
-    (λ b. where-keeps c p (is_welcomed m) (tells_playing news) u b (λ yes. news-quiet c p news u quiet b)) in
-    goes-kept c p (leaves o m news t) (then-keeps c p d (leaves_queue o m.conn) k (λ b. leaves-queue-keeps c m.conn p o d.table is b))
+    let a : Deed = tells_what (m.conn ∷ []) End u in
+    let d : Deed = a ▹ where_ (is_welcomed m) (tells_farewell f m) in
+    let k : KeepsBy c p d = then-keeps c p a (where_ (is_welcomed m) (tells_farewell f m)) (says-keeps c p (m.conn ∷ []) End u refl (without-holds c m.conn p t is h))
+    (λ b. where-keeps c p (is_welcomed m) (tells_farewell f m) u b (λ yes. farewell-keeps f c p m u b)) in
+    goes-kept c p (leaves m f t) (then-keeps c p d (leaves_queue m.conn) k (λ b. leaves-queue-keeps c m.conn p d.table is b))
 
-pub leaves-goes : (c : ℕ) (p : Phase) (o : Origin) (m : Member) (news : GameMsg) (t : Table) → is_entry (game news) ≡ false → Has c p t → GoesBy c p (leaves o m news t)
-leaves-goes c p o m news t quiet h = leaves-by (m.conn == c) c p o m news t refl quiet h
+-- ---- a member enters the game
 
-pub ends-goes : (c : ℕ) (p : Phase) (o : Origin) (m : Member) (code : ℕ) (t : Table) → Has c p t → GoesBy c p (ends o m code t)
-ends-goes c p o m code t h = kept-goes c p (tells (m.conn ∷ []) (ServerError code) t) (leaves o m (ServerErrorQuit m.client code)) (says-keeps c p (m.conn ∷ []) (msg (ServerError code)) t refl h) (λ b. leaves-goes c p o m (ServerErrorQuit m.client code) t refl b)
+infos-quiet : (c conn : ℕ) (ms : List Member) → AllQuiet c (map (λ m. step (conn ∷ []) (Msg m)) (map client_info ms))
+infos-quiet c conn [] = tt
+infos-quiet c conn (m ∷ ms) = (refl, infos-quiet c conn ms)
+
+pub enters-by : (b : Bool) (c : ℕ) (p : Phase) (m : Member) (t : Table) → (m.conn == c) ≡ b → Has c p t → GoesBy c p (enters m t)
+enters-by true c p m t is h =
+    let n : Member = moved loads t m in
+    let u : Table = with_member n t in
+    let v : Table = (tells_fresh n u).table in
+    let cut : Cut c v.members v.queue = record { suits = put-own c InGame (turned gets_token u n) (put n t.members) is (omega arith); once = place-once p c t.queue (conns t.members) h.place } in
+    record { to = InGame; later = later-end p; holds = leaves-queue-cut c m.conn v (eqb-true m.conn c is) cut; quiet = tt }
+enters-by false c p m t is h =
+    let n : Member = moved loads t m in
+    let u : Table = with_member n t in
+    let d1 : Deed = tells_each m.conn (map client_info (welcomed t)) u in
+    let d2 : Deed = d1 ▹ tells_what (m.conn ∷ []) (Entries m.map_frame) in
+    let d3 : Deed = d2 ▹ tells_fresh n in
+    let k1 : KeepsBy c p d1 = record { holds = put-holds c p n t (λ own. absurd cc) h; quiet = infos-quiet c m.conn (welcomed t) } in
+    let away : list_any (λ x. x == c) (m.conn ∷ []) ≡ false = any-not c (m.conn ∷ []) (is, tt) in
+    let k2 : KeepsBy c p d2 = then-keeps c p d1 (tells_what (m.conn ∷ []) (Entries m.map_frame)) k1 (λ b. record { holds = b; quiet = (away, tt) }) in
+    let k3 : KeepsBy c p d3 = then-keeps c p d2 (tells_fresh n) k2 (λ b. record { holds = put-holds c p (turned gets_token d2.table n) d2.table (λ own. absurd cc) b; quiet = (refl, tt) }) in
+    goes-kept c p (enters m t) (then-keeps c p d3 (leaves_queue m.conn) k3 (λ b. leaves-queue-keeps c m.conn p d3.table is b))
+
+-- ---- a member asks for the map: it stands last
+
+once-last : (c x : ℕ) (q : List ℕ) → (x == c) ≡ true → NotIn c q → OnceIn c (q ++ x ∷ [])
+once-last c x [] own a = inl (own, tt)
+once-last c x (y ∷ ys) own a = inr (a.0, once-last c x ys own a.1)
+
+once-more : (c x : ℕ) (q : List ℕ) → (x == c) ≡ false → OnceIn c q → OnceIn c (q ++ x ∷ [])
+once-more c x [] apart a = absurd a
+once-more c x (y ∷ ys) apart (inl own) = inl (own.0, all-append (IsOther c) ys (x ∷ []) own.1 (apart, tt))
+once-more c x (y ∷ ys) apart (inr other) = inr (other.0, once-more c x ys apart other.1)
+
+place-more : (p : Phase) (c x : ℕ) (q xs : List ℕ) → (x == c) ≡ false → Place p c q xs → Place p c (q ++ x ∷ []) xs
+place-more Early c x q xs apart h = all-append (IsOther c) q (x ∷ []) h (apart, tt)
+place-more Queued c x q xs apart h = (once-more c x q apart h.0, h.1)
+place-more InGame c x q xs apart h = all-append (IsOther c) q (x ∷ []) h (apart, tt)
+
+-- a member that is on the connection is there
+on-there : (c : ℕ) (m : Member) (ms : List Member) → Among m ms → (m.conn == c) ≡ true → list_any (λ x. x == c) (conns ms) ≡ true
+on-there c m [] there own = absurd there
+on-there c m (x ∷ xs) (inl here) own = let e : (x.conn == c) ≡ true = ap (λ (y : Member). y.conn == c) here ∙ own in rw e refl
+on-there c m (x ∷ xs) (inr later) own = or-true (x.conn == c) (list_any (λ y. y == c) (conns xs)) (on-there c m xs later own)
+  where
+    or-true : (a b : Bool) → b ≡ true → (a || b) ≡ true
+    or-true true b is = refl
+    or-true false b is = is
+
+asks-own : (p : Phase) (c : ℕ) (m : Member) (t : Table) → rank m.status ≡ 4 → (m.conn == c) ≡ true → fits p (rank m.status) → On t m → Has c p t → GoesBy c p (asks m t)
+asks-own Early c m t at own fit on h =
+    let n : Member = now_in MapWait t m in
+    let u : Table = record (with_member n t) { queue = t.queue ++ m.conn ∷ [] } in
+    let k : Has c Queued u = record { suits = put-own c Queued n t.members own (omega arith, omega arith); place = (once-last c m.conn t.queue own h.place, any-with c n t.members ∙ on-there c m t.members on own) } in
+    let d : KeepsBy c Queued (moved_up (length t.queue) (m.conn ∷ []) u) = moved-keeps c Queued (length t.queue) (m.conn ∷ []) u (λ own. refl, tt) k in
+    record { to = Queued; later = tt; holds = d.holds; quiet = d.quiet }
+asks-own Queued c m t at own fit on h = let low : 5 ≤ rank m.status = fit.0 in absurd (omega (arith, at, low))
+asks-own InGame c m t at own fit on h = absurd (omega (arith, at, fit))
+
+pub asks-by : (b : Bool) (c : ℕ) (p : Phase) (m : Member) (t : Table) → (m.conn == c) ≡ b → rank m.status ≡ 4 → Suits c p m → On t m → Has c p t → GoesBy c p (asks m t)
+asks-by true c p m t is at s on h = asks-own p c m t at is (s is) on h
+asks-by false c p m t is at s on h =
+    let n : Member = now_in MapWait t m in
+    let v : Holds c p (put n t.members) t.queue = put-holds c p n t (λ own. absurd cc) h in
+    let u : Table = record (with_member n t) { queue = t.queue ++ m.conn ∷ [] } in
+    let k : Has c p u = record { suits = v.suits; place = place-more p c m.conn t.queue (conns (put n t.members)) is v.place } in
+    goes-kept c p (asks m t) (moved-keeps c p (length t.queue) (m.conn ∷ []) u (λ own. absurd cc, tt) k)

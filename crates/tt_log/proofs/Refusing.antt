@@ -6,18 +6,17 @@ use Rattle.tt_log.specs.Origin.{Origin}
 use Rattle.tt_log.specs.Table.{Table, first}
 use Rattle.tt_log.specs.Deed.{Deed, Said, becomes, where_}
 use Rattle.tt_log.specs.Tellings.{tellings}
-use Rattle.tt_log.specs.Events.{deed, stepped, takes}
+use Rattle.tt_log.specs.Events.{deed, stepped, taken, takes}
 use Rattle.tt_log.specs.History.{table_of}
 use Rattle.tt_log.specs.Told.{told_by, told_to, heard}
 use Rattle.tt_log.proofs.Going.{heard-append}
-use Rattle.tt_log.proofs.Clock.{taken}
 
 -- one event more
 pub table-snoc : (o : Origin) (es : List Event) (e : Event) → table_of o (es ++ e ∷ []) ≡ stepped o (table_of o es) e
-table-snoc o es e = fold-append (stepped o) first es (e ∷ [])
+table-snoc o es e = fold-append (stepped o) (first o) es (e ∷ [])
 
 pub heard-snoc : (o : Origin) (es : List Event) (e : Event) (conn : ℕ) → heard o (es ++ e ∷ []) conn ≡ heard o es conn ++ told_by o (table_of o es) e conn
-heard-snoc o es e conn = heard-append o first es (e ∷ []) conn ∙ ap (λ (xs : List Said). heard o es conn ++ xs) (append-nil (told_by o (table_of o es) e conn))
+heard-snoc o es e conn = heard-append o (first o) es (e ∷ []) conn ∙ ap (λ (xs : List Said). heard o es conn ++ xs) (append-nil (told_by o (table_of o es) e conn))
 
 where-not : (b : Bool) (rule : Table → Deed) (t : Table) → b ≡ false → where_ b rule t ≡ becomes t
 where-not true rule t is = absurd cc

@@ -12,8 +12,9 @@ use Rattle.tt_log.specs.Member.{Member, is_loading}
 use Rattle.tt_log.specs.Table.{member_of, is_live}
 use Rattle.tt_log.specs.History.{table_of}
 use Rattle.tt_log.specs.Told.{heard}
-use Rattle.tt_log.proofs.Apart.{NotIn, Apart, any-not}
-use Rattle.tt_log.proofs.Malformed.{found-on}
+use Rattle.tt_log.proofs.Lists.{NotIn, any-not}
+use Rattle.tt_log.proofs.Apart.{Apart}
+use Rattle.tt_log.proofs.Crew.{found-on}
 use Rattle.tt_log.proofs.Phases.{Phase, Early, Queued, InGame, fits, OnceIn, Place}
 use Rattle.tt_log.proofs.Ended.{IsKept, is-kept, suits-found, gone-apart}
 

@@ -1,7 +1,9 @@
 -- What a list of events makes of a game.
 use Rattle.std.specs.Prelude.{◌≡◌, ◌<◌, ℕ, true, List, [], ◌∷◌, fold}
 use Rattle.std.specs.List.{AllByRecursion}
+use Rattle.tt_frame.specs.Packet.{IsBytes}
 use Rattle.tt_edge.specs.declared.event.Event.{Event}
+use Rattle.tt_edge.specs.declared.event.Event.TheVariants.{Packet}
 use Rattle.tt_world.specs.declared.command.Entry.{Entry}
 use Rattle.tt_world.specs.World.{WorldState}
 use Rattle.tt_log.specs.Origin.{Origin}
@@ -10,7 +12,7 @@ use Rattle.tt_log.specs.Events.{takes, stepped}
 
 -- the table behind the events, from nobody being there on
 abbrev pub table_of : Origin → List Event → Table
-table_of o events = fold (stepped o) first events
+table_of o events = fold (stepped o) (first o) events
 
 -- the journal behind the events, and the world
 abbrev pub journal_of : Origin → List Event → List Entry
@@ -34,4 +36,13 @@ AllTaken o t [] = Unit {0}
 AllTaken o t (e ∷ events) = (takes t e ≡ true) × AllTaken o (stepped o t e) events
 
 abbrev pub IsHistory : Origin → List Event → Type 0
-IsHistory o events = AllTaken o first events
+IsHistory o events = AllTaken o (first o) events
+
+-- the body of a packet is bytes, as its type in the code says
+abbrev pub IsEvent : Event → Type 0
+IsEvent (Packet conn kind body) = IsBytes body
+IsEvent other = Unit {0}
+
+-- so it is of each event: whatever speaks of the bytes of what was said has this as its premise
+abbrev pub AreEvents : List Event → Type 0
+AreEvents events = AllByRecursion IsEvent events

@@ -16,18 +16,22 @@ pub mod Written
 -- The book of a game, in reading order
 pub mod Origin
 pub mod Member
+pub mod Admin
 pub mod Table
 pub mod Deed
+pub mod Watching
 pub mod Names
+pub mod Frames
 pub mod Queue
 pub mod Judged
 pub mod Ending
 pub mod PacketRules
+pub mod Desk
 pub mod Tick
 pub mod Events
 pub mod History
 pub mod Tellings
 pub mod Told
 pub mod Stamps
-pub mod NotYet
+pub mod Endings
 pub mod Shown

@@ -22,6 +22,9 @@ pub record Member : Type 0 where
   -- the last frame that it acknowledged, and the greatest permitted frame that it was told
   pub acked : ℕ
   pub told : ℕ
+  -- the open token, which it was told and has not given back, and the frame at which it was told; 0 and 0 where none is open
+  pub token : ℕ
+  pub token_frame : ℕ
   -- the frame of its map, and how many pieces of it were told
   pub map_frame : ℕ
   pub pieces : ℕ
@@ -47,8 +50,23 @@ is_loading m = is_in MapWait m || is_in Map m || is_in DoneMap m
 
 -- what a verdict looks at of it
 abbrev pub standing_of : Member → Standing
-standing_of m = record { status = m.status; company = m.company; waiting = length m.waiting; acked = m.acked; told = m.told }
+standing_of m = record { status = m.status; company = m.company; waiting = length m.waiting; acked = m.acked; told = m.told; token = m.token }
 
 -- a connection that was just opened; an unnamed member has the name `?`, and is in no company
 abbrev pub new_member : ℕ → ℕ → ℕ → Member
-new_member conn client frame = record { conn = conn; client = client; status = Inactive; since = frame; asked = 255; company = 255; name = codes "?"; waiting = []; acked = 0; told = 0; map_frame = 0; pieces = 0 }
+new_member conn client frame = record {
+  conn = conn;
+  client = client;
+  status = Inactive;
+  since = frame;
+  asked = 255;
+  company = 255;
+  name = codes "?";
+  waiting = [];
+  acked = 0;
+  told = 0;
+  token = 0;
+  token_frame = 0;
+  map_frame = 0;
+  pieces = 0;
+}

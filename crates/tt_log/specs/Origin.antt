@@ -1,18 +1,39 @@
 -- What a game is made from, and the journal at this game: lockstep's words, where worlds are those of the world's crate
 -- and entries are commands of companies.
-use Rattle.std.specs.Prelude.{ℕ, List}
+use Rattle.std.specs.Prelude.{ℕ, ◌<◌, ◌≤◌, ◌^◌, List}
+use Rattle.tt_frame.specs.Text.{IsName}
 use Rattle.tt_lockstep.specs.Game.{Game}
 use Rattle.tt_lockstep.specs.Journal as journal
 use Rattle.tt_world.specs.declared.setup.Setup.{Setup}
 use Rattle.tt_world.specs.declared.command.Entry.{Entry}
-use Rattle.tt_world.specs.World.{WorldState}
+use Rattle.tt_world.specs.Setup.{Fits}
+use Rattle.tt_world.specs.World.{WorldState, start}
 use Rattle.tt_world.specs.Commands.{applied}
 use Rattle.tt_world.specs.Economy.{framed}
+use Rattle.tt_map.specs.Maps.{IsTold}
 
--- a game's setup, and the world that it starts with
+-- a game's setup, and the world that it starts with: a saved one, or the setup's own
 pub record Origin : Type 0 where
   pub setup : Setup
   pub start : WorldState
+
+-- a new game begins with the setup's own world
+abbrev pub origin_of : Setup → Origin
+origin_of setup = record { setup = setup; start = start setup }
+
+-- no saved world is of a later day: so no game comes to a day that a map can't tell
+abbrev pub last_start : ℕ
+last_start = 900000000
+
+-- what games are made from: a setup in range, its numbers and texts as their types say, and a world that a map tells
+pub record IsOrigin (o : Origin) : Type 0 where
+  pub setup : Fits o.setup
+  pub seed : o.setup.seed < 2 ^ 32
+  pub name : IsName o.setup.name
+  pub revision : IsName o.setup.revision
+  pub id : IsName o.setup.id
+  pub start : IsTold o.start
+  pub early : o.start.day ≤ last_start
 
 -- the game as lockstep sees it: entries by their frames, what an entry and a frame make of a world, and the word that a
 -- client compares, which is the first of the two random words

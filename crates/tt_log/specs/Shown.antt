@@ -104,7 +104,7 @@ told_fetching frame size come other = told.Stray
 abbrev pub told_in_play : GameMsg → Told WorldState Entry
 told_in_play (ServerClientInfo client company name) = told.Other
 told_in_play (ServerJoin client) = told.Other
-told_in_play (ServerFrame frame max) = told.Frame frame max
+told_in_play (ServerFrame frame max token) = told.Frame frame max
 told_in_play (ServerSync frame word) = told.Sync frame word
 told_in_play (ServerCommand company code number to text frame sender) = entry_told (command_of code number to text) company frame sender
 told_in_play (ServerChat client scope text) = told.Other

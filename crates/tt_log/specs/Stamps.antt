@@ -23,23 +23,29 @@ abbrev pub command_in : GameMsg → List (ℕ × Command)
 command_in (ClientCommand company code number to text) = for_company company (command_of code number to text)
 command_in other = []
 
+-- the commands that a packet holds
+abbrev pub commands_in : Option GameMsg → List (ℕ × Command)
+commands_in None = []
+commands_in (Some msg) = command_in msg
+
 abbrev pub if_allowed : Verdict → List (ℕ × Command) → List (ℕ × Command)
 if_allowed Allowed commands = commands
 if_allowed (Ends code) commands = []
 
+-- those of a packet of a member that is allowed
 abbrev pub accepted_of : Origin → Table → Option Member → Option GameMsg → List (ℕ × Command)
-accepted_of o t None msg = []
-accepted_of o t (Some m) None = []
-accepted_of o t (Some m) (Some msg) = if_allowed (judged o t m msg) (command_in msg)
+accepted_of o t None said = []
+accepted_of o t (Some m) said = if_allowed (judged o t m said) (commands_in said)
 
--- only for an event that is a packet of this connection, while the game is not over
-abbrev pub if_of : Bool → List (ℕ × Command) → List (ℕ × Command)
-if_of true commands = commands
-if_of false commands = []
+-- only where a test holds
+abbrev pub if_so : Bool → List (ℕ × Command) → List (ℕ × Command)
+if_so true commands = commands
+if_so false commands = []
 
--- the command that an event brings and that is allowed
+-- the command of a connection that an event brings and that is allowed: the event is a packet of this connection, and the
+-- game is not over
 abbrev pub accepted_by : Origin → Table → Event → ℕ → List (ℕ × Command)
-accepted_by o t (Packet from kind body) conn = if_of ((from == conn) && not t.over) (accepted_of o t (member_of t conn) (read_msg kind body))
+accepted_by o t (Packet sender kind body) conn = if_so ((sender == conn) && not t.over) (accepted_of o t (member_of t sender) (read_msg kind body))
 accepted_by o t other conn = []
 
 abbrev pub accepted_from : Origin → Table → List Event → ℕ → List (ℕ × Command)
@@ -48,7 +54,7 @@ accepted_from o t (e ∷ events) conn = accepted_by o t e conn ++ accepted_from 
 
 -- the commands of a connection that were allowed, in order, each with the company for which it was
 abbrev pub accepted : Origin → List Event → ℕ → List (ℕ × Command)
-accepted o events conn = accepted_from o first events conn
+accepted o events conn = accepted_from o (first o) events conn
 
 -- what an event puts on the server's own list: what stands behind all that stood there
 abbrev pub ordered_by : Origin → Table → Event → List Command
@@ -60,4 +66,4 @@ ordered_from o t (e ∷ events) = ordered_by o t e ++ ordered_from o (stepped o 
 
 -- all that was ever put on the server's own list, in order
 abbrev pub ordered : Origin → List Event → List Command
-ordered o events = ordered_from o first events
+ordered o events = ordered_from o (first o) events

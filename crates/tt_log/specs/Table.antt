@@ -1,22 +1,28 @@
 -- The server's table: all that the rules speak of, but for the world and bytes.
-use Rattle.std.specs.Prelude.{ℕ, Bool, false, not, ◌==◌, cond, List, [], ◌∷◌, ◌++◌, map, filter, find, length, Option, is_some, option_map}
+use Rattle.std.specs.Prelude.{ℕ, Bool, false, not, ◌==◌, ◌||◌, cond, List, [], ◌∷◌, ◌++◌, map, filter, find, length, Option, Some, None, is_some, option_map}
 use Rattle.tt_world.specs.declared.command.Command.{Command}
 use Rattle.tt_world.specs.declared.command.Entry.{Entry}
 use Rattle.tt_world.specs.World.{WorldState}
 use Rattle.tt_rules.specs.Companies.{living}
 use Rattle.tt_log.specs.Origin.{Origin, world_at}
 use Rattle.tt_rules.specs.declared.status.Status.{Status}
-use Rattle.tt_log.specs.Member.{Member, is_playing, is_welcomed}
+use Rattle.tt_rules.specs.declared.status.Status.TheVariants.{Map}
+use Rattle.tt_log.specs.Member.{Member, is_in, is_playing, is_welcomed}
+use Rattle.tt_log.specs.Admin.{Admin}
 
 pub record Table : Type 0 where
   -- in order of arrival
   pub members : List Member
+  -- the admins, in order of arrival
+  pub admins : List Admin
   -- the connections that asked for the map, in order; the first one downloads
   pub queue : List ℕ
   -- the companies with a password, each with its digest
   pub digests : List (ℕ × List ℕ)
   -- the server's own list of commands that wait
   pub own : List Command
+  -- the random words of the tokens
+  pub tokens : ℕ × ℕ
   pub journal : List Entry
   pub frame : ℕ
   -- the greatest permitted frame
@@ -28,9 +34,23 @@ pub record Table : Type 0 where
   pub cost : ℕ
   pub over : Bool
 
--- nobody is there; the server itself is client 1
-abbrev pub first : Table
-first = record { members = []; queue = []; digests = []; own = []; journal = []; frame = 0; top = 0; openings = 0; clients = 1; cost = 0; over = false }
+-- nobody is there; the server itself is client 1, and the words of the tokens are the seed
+abbrev pub first : Origin → Table
+first o = record {
+  members = [];
+  admins = [];
+  queue = [];
+  digests = [];
+  own = [];
+  tokens = (o.setup.seed, o.setup.seed);
+  journal = [];
+  frame = 0;
+  top = 0;
+  openings = 0;
+  clients = 1;
+  cost = 0;
+  over = false;
+}
 
 -- the world: that of the journal at the table's frame
 abbrev pub world_of : Origin → Table → WorldState
@@ -41,10 +61,10 @@ abbrev pub living_in : Origin → Table → List Bool
 living_in o t = living (world_of o t)
 
 -- how many companies live
-abbrev pub live_companies : Origin → Table → ℕ
-live_companies o t = length (filter (λ (lives : Bool). lives) (living_in o t))
+abbrev pub count_living : List Bool → ℕ
+count_living live = length (filter (λ (lives : Bool). lives) live)
 
--- ---- members
+-- ---- members and admins
 
 abbrev pub is_on : ℕ → Member → Bool
 is_on conn m = m.conn == conn
@@ -52,8 +72,15 @@ is_on conn m = m.conn == conn
 abbrev pub member_of : Table → ℕ → Option Member
 member_of t conn = find (is_on conn) t.members
 
+abbrev pub is_admin_on : ℕ → Admin → Bool
+is_admin_on conn a = a.conn == conn
+
+abbrev pub admin_of : Table → ℕ → Option Admin
+admin_of t conn = find (is_admin_on conn) t.admins
+
+-- a connection is live while a member or an admin is on it
 abbrev pub is_live : Table → ℕ → Bool
-is_live t conn = is_some (member_of t conn)
+is_live t conn = is_some (member_of t conn) || is_some (admin_of t conn)
 
 -- S: the connections of the members that play, in order of arrival
 abbrev pub playing : Table → List ℕ
@@ -70,9 +97,26 @@ with_member m t = record t { members = map (λ n. cond (n.conn == m.conn) m n) t
 abbrev pub without_member : ℕ → Table → Table
 without_member conn t = record t { members = filter (λ m. not (is_on conn m)) t.members }
 
+abbrev pub without_admin : ℕ → Table → Table
+without_admin conn t = record t { admins = filter (λ a. not (is_admin_on conn a)) t.admins }
+
 -- a member with a status that begins now
 abbrev pub now_in : Status → Table → Member → Member
 now_in status t m = record m { status = status; since = t.frame }
+
+-- ---- the download
+
+abbrev pub if_loading : Option Member → Option Member
+if_loading None = None
+if_loading (Some m) = cond (is_in Map m) (Some m) None
+
+abbrev pub first_loading : List ℕ → Table → Option Member
+first_loading [] t = None
+first_loading (conn ∷ conns) t = if_loading (member_of t conn)
+
+-- the member that downloads: the first of the queue, until it was told its map whole
+abbrev pub downloader : Table → Option Member
+downloader t = first_loading t.queue t
 
 -- ---- company passwords
 

@@ -39,7 +39,7 @@ heard_from o t (e ∷ events) conn = told_by o t e conn ++ heard_from o (stepped
 
 -- all that a connection is told
 abbrev pub heard : Origin → List Event → ℕ → List Said
-heard o events conn = heard_from o first events conn
+heard o events conn = heard_from o (first o) events conn
 
 -- the bytes sent to a connection: the spellings of all that it is told
 abbrev pub sent : Origin → List Event → ℕ → List ℕ

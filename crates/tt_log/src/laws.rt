@@ -1,20 +1,34 @@
 //! Laws of the definitions, for every list of events.
-ghost use Rattle.std.specs.Prelude.{◌≡◌, ℕ, [], ◌≤◌, ◌<◌, List, ◌++◌, ◌+◌, ◌∷◌, ◌==◌, filter, fold, length, map, true, false, None, Some};
+ghost use Rattle.std.specs.Prelude.{◌≡◌, ℕ, [], ◌≤◌, ◌<◌, ◌^◌, List, ◌++◌, ◌+◌, ◌∷◌, ◌==◌, filter, fold, length, map, true, false, None, Some};
 ghost use Rattle.tt_edge.specs.declared.event.Event.{Event};
-ghost use Rattle.tt_edge.specs.declared.event.Event.TheVariants.{Packet, Tick};
-ghost use Rattle.tt_edge.specs.Event.{is_tick};
+ghost use Rattle.tt_edge.specs.declared.event.Event.TheVariants.{Tick};
+ghost use Rattle.tt_edge.specs.Event.{cost_of, is_tick, opens, ticks_in};
 ghost use Rattle.std.specs.List.{AllByRecursion, list_any};
 ghost use Rattle.tt_log.specs.Member.{Member, is_loading, is_playing};
-ghost use Rattle.tt_log.specs.Events.{by_event, deed, read_msg, stepped, takes};
-ghost use Rattle.tt_log.specs.Deed.{Said, becomes};
-ghost use Rattle.tt_log.specs.History.{AreFor, AreRising, journal_of, table_of, world_behind};
-ghost use Rattle.tt_log.specs.Origin.{IsJournal, Origin, above, folded, game_of, world_at};
+ghost use Rattle.tt_log.specs.Admin.{Admin};
+ghost use Rattle.tt_log.specs.Events.{deed, last_frame, stepped, takes};
+ghost use Rattle.tt_log.specs.Endings.{EndsWith, IsEcho, IsSameGame, StaysButForQueue};
+ghost use Rattle.tt_log.specs.Judged.{judged};
+ghost use Rattle.tt_rules.specs.Codes.{illegal_packet};
+ghost use Rattle.tt_rules.specs.declared.status.Verdict.TheVariants.{Ends};
+ghost use Rattle.tt_game.specs.declared.message.GameMsg.TheVariants.{ServerError};
+ghost use Rattle.tt_world.specs.declared.setup.Setup.{Setup};
+ghost use Rattle.tt_world.specs.Setup.{Fits};
+ghost use Rattle.tt_frame.specs.Text.{IsName};
+ghost use Rattle.tt_log.specs.Deed.{Said, becomes, game};
+ghost use Rattle.tt_log.specs.History.{AreFor, AreRising, IsHistory, journal_of, table_of};
+ghost use Rattle.tt_log.specs.Origin.{IsJournal, IsOrigin, Origin, above, folded, game_of, origin_of, world_at};
 ghost use Rattle.tt_lockstep.specs.Journal.{AreAbove, AreUpTo};
 ghost use Rattle.tt_lockstep.specs.Shown as lockstep;
 ghost use Rattle.tt_log.specs.Shown.{shown, things_in};
 ghost use Rattle.tt_world.specs.declared.command.Entry.{Entry};
-ghost use Rattle.tt_log.specs.Table.{Table, is_live, member_of};
-ghost use Rattle.tt_log.specs.Told.{heard, heard_from, is_entry, sent};
+ghost use Rattle.tt_log.specs.Table.{Table, admin_of, is_live, member_of};
+ghost use Rattle.tt_log.specs.Told.{heard, heard_from, is_entry, sent, told};
+
+/// A new game of a setup in range is one that games are made from.
+pub fn new_game_is_one()
+    ensures { (setup : Setup) → Fits setup → setup.seed < 2 ^ 32 → IsName setup.name → IsName setup.revision → IsName setup.id → IsOrigin (origin_of setup) }
+{}
 
 /// What is told goes on where events go on, and what was sent stays sent.
 pub fn told_goes_on()
@@ -22,9 +36,10 @@ pub fn told_goes_on()
     ensures grows { (o : Origin) (es fs : List Event) (conn : ℕ) → (more : List ℕ) × (sent o (es ++ fs) conn ≡ sent o es conn ++ more) }
 {}
 
-/// A game that is over does nothing more.
+/// A game that is over does nothing more, and stays so.
 pub fn over_stays()
-    ensures { (o : Origin) (t : Table) (e : Event) → t.over ≡ true → deed o e t ≡ becomes t }
+    ensures does_nothing { (o : Origin) (t : Table) (e : Event) → t.over ≡ true → deed o e t ≡ becomes t }
+    ensures stays { (o : Origin) (es fs : List Event) → (table_of o es).over ≡ true → table_of o (es ++ fs) ≡ table_of o es }
 {}
 
 /// No frame passes the permitted one, and this is never further ahead than it is told.
@@ -33,9 +48,11 @@ pub fn frame_and_top()
     ensures near { (o : Origin) (es : List Event) → (table_of o es).top ≤ (table_of o es).frame + o.setup.frame_freq }
 {}
 
-/// Where the game is over nobody is there.
+/// Where the game is over nobody is there, at neither door.
 pub fn nobody_behind_the_end()
-    ensures { (o : Origin) (es : List Event) → (table_of o es).over ≡ true → (table_of o es).members ≡ [] }
+    ensures members { (o : Origin) (es : List Event) → (table_of o es).over ≡ true → (table_of o es).members ≡ [] }
+    ensures admins { (o : Origin) (es : List Event) → (table_of o es).over ≡ true → (table_of o es).admins ≡ [] }
+    ensures live { (o : Origin) (es : List Event) (conn : ℕ) → (table_of o es).over ≡ true → is_live (table_of o es) conn ≡ false }
 {}
 
 /// An event that the table does not take changes nothing, and nobody is told of it.
@@ -48,9 +65,6 @@ pub fn refused_event_changes_nothing()
 
 /// What a journal alone decides: the worlds of a game.
 pub fn one_journal_one_world()
-    // Two games from one start with one journal have one world at each frame.
-    ensures one { (o : Origin) (es fs : List Event) (f : ℕ) → journal_of o es ≡ journal_of o fs → world_at o (journal_of o es) f ≡ world_at o (journal_of o fs) f }
-    ensures behind { (o : Origin) (es fs : List Event) → journal_of o es ≡ journal_of o fs → (table_of o es).frame ≡ (table_of o fs).frame → world_behind o es ≡ world_behind o fs }
     // Entries above a frame change no world up to it.
     ensures stable { (o : Origin) (f n : ℕ) (old more : List Entry) → AreAbove (game_of o) n more → f ≤ n → world_at o (old ++ more) f ≡ world_at o old f }
     // A world may be taken up where it was left, and then the entries above its frame are enough.
@@ -73,22 +87,39 @@ pub fn journal_rises()
         → f ≤ (table_of o es).top → world_at o (journal_of o (es ++ fs)) f ≡ world_at o (journal_of o es) f }
 {}
 
-/// A connection is not live before its opening, and nothing is sent to it.
+/// A connection is not live before its opening, and nothing is sent to it. Each opening counts, at either door, so the
+/// openings of the table are those of the events; and no connection has the number 0.
 pub fn unopened_hears_nothing()
+    ensures openings { (o : Origin) (es : List Event) → IsHistory o es → (table_of o es).openings ≡ opens es }
     ensures not_live { (o : Origin) (es : List Event) (conn : ℕ) → (table_of o es).openings < conn → is_live (table_of o es) conn ≡ false }
     ensures heard { (o : Origin) (es : List Event) (conn : ℕ) → (table_of o es).openings < conn → heard o es conn ≡ [] }
     ensures sent { (o : Origin) (es : List Event) (conn : ℕ) → (table_of o es).openings < conn → sent o es conn ≡ [] }
+    ensures nought_not_live { (o : Origin) (es : List Event) → is_live (table_of o es) 0 ≡ false }
+    ensures nought_heard { (o : Origin) (es : List Event) → heard o es 0 ≡ [] }
+    ensures nought_sent { (o : Origin) (es : List Event) → sent o es 0 ≡ [] }
 {}
 
-/// A packet that spells nothing ends the member that sent it, and nobody else; the game goes on as it was.
+/// A packet that spells nothing, a stream that breaks, and a refusal end their own member with their code, and nobody else but
+/// where the game is over by it.
 pub fn malformed_ends_its_own()
-    ensures frame { (o : Origin) (t : Table) (conn kind : ℕ) (body : List ℕ) → read_msg kind body ≡ None → (by_event o (Packet conn kind body) t).table.frame ≡ t.frame }
-    ensures top { (o : Origin) (t : Table) (conn kind : ℕ) (body : List ℕ) → read_msg kind body ≡ None → (by_event o (Packet conn kind body) t).table.top ≡ t.top }
-    ensures journal { (o : Origin) (t : Table) (conn kind : ℕ) (body : List ℕ) → read_msg kind body ≡ None → (by_event o (Packet conn kind body) t).table.journal ≡ t.journal }
-    ensures own { (o : Origin) (t : Table) (conn kind : ℕ) (body : List ℕ) → read_msg kind body ≡ None → (by_event o (Packet conn kind body) t).table.own ≡ t.own }
-    ensures ended { (o : Origin) (t : Table) (conn kind : ℕ) (body : List ℕ) → read_msg kind body ≡ None → is_live (by_event o (Packet conn kind body) t).table conn ≡ false }
-    ensures others_live { (o : Origin) (t : Table) (conn kind : ℕ) (body : List ℕ) (other : ℕ) → read_msg kind body ≡ None → (conn == other) ≡ false
-        → is_live (by_event o (Packet conn kind body) t).table other ≡ is_live t other }
+    // What spells nothing, and a stream that breaks, are judged with code 4.
+    ensures illegal { (o : Origin) (t : Table) (m : Member) → judged o t m None ≡ Ends illegal_packet }
+    // It is told its code, and nothing else, and is live no longer.
+    ensures own { (o : Origin) (es : List Event) (e : Event) (m : Member) (code : ℕ) → EndsWith o (table_of o es) e m code → told o es e m.conn ≡ game (ServerError code) ∷ [] }
+    ensures ended { (o : Origin) (es : List Event) (e : Event) (m : Member) (code : ℕ) → EndsWith o (table_of o es) e m code → is_live (table_of o (es ++ e ∷ [])) m.conn ≡ false }
+    // All others are told at most that it ended and what they have become in the queue; and that the game is over, where it is.
+    ensures told { (o : Origin) (es : List Event) (e : Event) (m : Member) (code other : ℕ) → EndsWith o (table_of o es) e m code → (m.conn == other) ≡ false
+        → AllByRecursion (IsEcho m code (table_of o (es ++ e ∷ [])).over) (told o es e other) }
+    // Where it is not, they live on, and stay as they were but for the queue.
+    ensures others_live { (o : Origin) (es : List Event) (e : Event) (m : Member) (code other : ℕ) → EndsWith o (table_of o es) e m code → (table_of o (es ++ e ∷ [])).over ≡ false
+        → (m.conn == other) ≡ false → is_live (table_of o (es ++ e ∷ [])) other ≡ is_live (table_of o es) other }
+    ensures others_stand { (o : Origin) (es : List Event) (e : Event) (m : Member) (code other : ℕ) (n : Member) → EndsWith o (table_of o es) e m code → (table_of o (es ++ e ∷ [])).over ≡ false
+        → (m.conn == other) ≡ false → member_of (table_of o es) other ≡ Some n
+        → (k : Member) × (member_of (table_of o (es ++ e ∷ [])) other ≡ Some k) × StaysButForQueue (table_of o es) n k }
+    ensures admins_stand { (o : Origin) (es : List Event) (e : Event) (m : Member) (code : ℕ) → EndsWith o (table_of o es) e m code → (table_of o (es ++ e ∷ [])).over ≡ false
+        → (table_of o (es ++ e ∷ [])).admins ≡ (table_of o es).admins }
+    // The game goes on as it was: its frame, the permitted frame, the journal, the server's own list, passwords and tokens.
+    ensures game { (o : Origin) (es : List Event) (e : Event) (m : Member) (code : ℕ) → EndsWith o (table_of o es) e m code → IsSameGame (table_of o es) (table_of o (es ++ e ∷ [])) }
 {}
 
 /// A connection that ended stays so, and is told no more.
@@ -112,12 +143,16 @@ pub fn queue_is_of_those_that_load()
 {}
 
 /// The members stand in the order of their connections, each on one of its own, and each connection was opened; their client
-/// numbers rise in the same order, from above the server's own, and each was given.
+/// The members stand in the order of their connections, each on one of its own, and each connection was opened; their client
+/// numbers rise in the same order, from above the server's own, and each was given. So do the admins, and nobody is both.
 pub fn members_in_order()
     ensures rising { (o : Origin) (es : List Event) → AreRising 0 (map (λ (m : Member). m.conn) (table_of o es).members) }
     ensures opened { (o : Origin) (es : List Event) → AllByRecursion (λ (c : ℕ). c ≤ (table_of o es).openings) (map (λ (m : Member). m.conn) (table_of o es).members) }
     ensures clients { (o : Origin) (es : List Event) → AreRising 1 (map (λ (m : Member). m.client) (table_of o es).members) }
     ensures given { (o : Origin) (es : List Event) → AllByRecursion (λ (k : ℕ). k ≤ (table_of o es).clients) (map (λ (m : Member). m.client) (table_of o es).members) }
+    ensures admins_rising { (o : Origin) (es : List Event) → AreRising 0 (map (λ (a : Admin). a.conn) (table_of o es).admins) }
+    ensures admins_opened { (o : Origin) (es : List Event) → AllByRecursion (λ (c : ℕ). c ≤ (table_of o es).openings) (map (λ (a : Admin). a.conn) (table_of o es).admins) }
+    ensures apart { (o : Origin) (es : List Event) (conn : ℕ) (m : Member) → member_of (table_of o es) conn ≡ Some m → admin_of (table_of o es) conn ≡ None }
 {}
 
 /// Only a tick runs the game, and it runs one frame; any other event leaves the frame, the permitted frame and the journal.
@@ -126,6 +161,11 @@ pub fn a_tick_is_a_frame()
     ensures frame { (o : Origin) (t : Table) (e : Event) → is_tick e ≡ false → (stepped o t e).frame ≡ t.frame }
     ensures top { (o : Origin) (t : Table) (e : Event) → is_tick e ≡ false → (stepped o t e).top ≡ t.top }
     ensures journal { (o : Origin) (t : Table) (e : Event) → is_tick e ≡ false → (stepped o t e).journal ≡ t.journal }
+    // So a history's frame is the number of its ticks, and its cost is that of its events.
+    ensures ticks { (o : Origin) (es : List Event) → IsHistory o es → (table_of o es).frame ≡ ticks_in es }
+    ensures cost { (o : Origin) (es : List Event) → IsHistory o es → (table_of o es).cost ≡ cost_of es }
+    // No game passes its last frame.
+    ensures last { (o : Origin) (es : List Event) → (table_of o es).frame ≤ last_frame }
 {}
 
 /// What a stream shows a client is what lockstep makes of the things that the stream tells.

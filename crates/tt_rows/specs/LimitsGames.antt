@@ -4,7 +4,7 @@ use Rattle.tt_edge.specs.declared.event.Event.{Event}
 use Rattle.tt_edge.specs.declared.event.Event.TheVariants.{Tick}
 use Rattle.tt_world.specs.Setup.{plain}
 use Rattle.tt_log.specs.Origin.{Origin}
-use Rattle.tt_rows.specs.Words.{made_from, opens, ann, bob, cid, dan, spectates, asks_for_map, has_loaded, acknowledges, chats_to}
+use Rattle.tt_rows.specs.Words.{made_from, opens, ann, bob, cid, dan, spectates, asks_for_map, has_loaded, acknowledges, gives_back, chats_to}
 
 -- A connection that says nothing may stay for 100 ticks.
 abbrev pub quiet_for_100_ticks : List Event
@@ -47,8 +47,8 @@ lags =
 -- A member that acknowledges stays.
 abbrev pub acknowledged_in_time : List Event
 acknowledged_in_time =
-    (opens ∷ spectates 1 ann ∷ asks_for_map 1 ∷ Tick ∷ has_loaded 1 ∷ acknowledges 1 1 ∷ []) ++ replicate 4 Tick
-    ++ (acknowledges 1 5 ∷ []) ++ replicate 4 Tick
+    (opens ∷ spectates 1 ann ∷ asks_for_map 1 ∷ Tick ∷ has_loaded 1 ∷ gives_back 1 1 255 ∷ []) ++ replicate 4 Tick
+    ++ (gives_back 1 5 192 ∷ []) ++ replicate 4 Tick
 
 -- An acknowledged frame that was not permitted, and one below the last.
 abbrev pub bad_ack : List Event

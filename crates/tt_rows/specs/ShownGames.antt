@@ -16,7 +16,7 @@ welcome = hex (codes "0e000c0200000000000000747400")
 
 -- FRAME 1, with 1 as the permitted frame
 abbrev pub frame_1 : List ℕ
-frame_1 = hex (codes "0b00150100000001000000")
+frame_1 = hex (codes "0c0015010000000100000000")
 
 -- ERROR with a byte too many
 abbrev pub no_message : List ℕ

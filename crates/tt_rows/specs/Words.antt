@@ -10,11 +10,13 @@ use Rattle.tt_world.specs.declared.company.Company.{Company}
 use Rattle.tt_world.specs.declared.sign.Sign.{Sign}
 use Rattle.tt_world.specs.declared.command.Code.{Code}
 use Rattle.tt_world.specs.declared.command.Entry.{Entry}
-use Rattle.tt_world.specs.World.{WorldState, start}
-use Rattle.tt_log.specs.Origin.{Origin}
+use Rattle.tt_world.specs.World.{WorldState}
+use Rattle.tt_log.specs.Origin.{Origin, origin_of}
 use Rattle.tt_log.specs.Member.{Member}
 use Rattle.tt_log.specs.Table.{Table, member_of}
-use Rattle.tt_log.specs.Deed.{What, end, Step}
+use Rattle.tt_log.specs.declared.deed.Step.{Step}
+use Rattle.tt_log.specs.declared.deed.What.{What}
+use Rattle.tt_log.specs.declared.deed.What.TheVariants.{End}
 
 -- ---- bytes
 
@@ -92,9 +94,13 @@ asks_for_map conn = Packet conn 13 []
 abbrev pub has_loaded : ℕ → Event
 has_loaded conn = Packet conn 19 []
 
--- ACK: the frame
+-- ACK: the frame, and the token that it gives back
+abbrev pub gives_back : ℕ → ℕ → ℕ → Event
+gives_back conn frame token = Packet conn 23 (to_le_bytes w32 frame ++ token ∷ [])
+
+-- ACK with no token
 abbrev pub acknowledges : ℕ → ℕ → Event
-acknowledges conn frame = Packet conn 23 (to_le_bytes w32 frame)
+acknowledges conn frame = gives_back conn frame 0
 
 -- ---- commands
 
@@ -157,7 +163,7 @@ quits conn = Packet conn 35 []
 
 -- a game with this setup, from its start
 abbrev pub made_from : Setup → Origin
-made_from setup = record { setup = setup; start = start setup }
+made_from setup = origin_of setup
 
 -- the plain game
 abbrev pub plain_game : Origin
@@ -192,7 +198,7 @@ pieces_on t conn = option_map (λ (m : Member). m.pieces) (member_of t conn)
 
 -- the connections that end by a step, and by steps
 abbrev pub ended_by : What → List ℕ → List ℕ
-ended_by end to = to
+ended_by End to = to
 ended_by _ to = []
 
 abbrev pub ends_in : List Step → List ℕ

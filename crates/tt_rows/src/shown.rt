@@ -25,9 +25,9 @@ pub fn shows_where_it_is_wrong()
     ensures malformed { (seen_in (welcome ++ no_message)).phase ≡ WrongAt 14 }
     ensures size { (seen_in (welcome ++ hex (codes "0200"))).phase ≡ WrongAt 14 }
     ensures second { (seen_in (welcome ++ frame_1 ++ no_message)).phase ≡ WrongAt 14 }
-    ensures part { (seen_in (welcome ++ hex (codes "0b0015"))).phase ≡ Joining }
-    // In the game: a permitted frame below the last one, behind the 133 bytes of a whole join.
-    ensures falls { (seen_in (sent plain_game whole_join 1 ++ frame_1)).phase ≡ WrongAt 133 }
+    ensures part { (seen_in (welcome ++ hex (codes "0c0015"))).phase ≡ Joining }
+    // In the game: a permitted frame below the last one, behind the 135 bytes of a whole join.
+    ensures falls { (seen_in (sent plain_game whole_join 1 ++ frame_1)).phase ≡ WrongAt 135 }
 {}
 
 /// A client that has its map plays; it is in no company until one is named with its number.

@@ -24,7 +24,7 @@ permits (ClientGamePassword digest) status = is_at AuthGame status
 permits (ClientCompanyPassword digest) status = is_at AuthCompany status
 permits ClientGetmap status = is_at Authorized status
 permits ClientMapOk status = is_at DoneMap status
-permits (ClientAck frame) status = is_playing status
+permits (ClientAck frame token) status = is_playing status
 permits (ClientCommand company code number to text) status = is_playing status
 permits (ClientChat scope to text) status = is_at Active status
 permits (ClientSetName name) status = is_at Active status
@@ -40,9 +40,10 @@ permits other status = false
 abbrev pub spectator : ℕ
 spectator = 255
 
--- an acknowledgement below the last one, or above the greatest permitted frame told
-abbrev pub ack_refusal : Standing → ℕ → Option ℕ
-ack_refusal s frame = nat_lt frame s.acked || nat_lt s.told frame ⇒ not_expected
+-- an acknowledgement below the last one, or above the greatest permitted frame told, and then a token that is neither 0
+-- nor the open one
+abbrev pub ack_refusal : Standing → ℕ → ℕ → Option ℕ
+ack_refusal s frame token = nat_lt frame s.acked || nat_lt s.told frame ⇒ not_expected or_else not ((token == 0) || (token == s.token)) ⇒ not_expected
 
 abbrev pub command_refusal : Standing → List Bool → ℕ → ℕ → Option ℕ
 command_refusal s live company code =
@@ -61,7 +62,7 @@ abbrev pub move_refusal : List Bool → ℕ → Option ℕ
 move_refusal live company = not ((company == spectator) || is_living live company) ⇒ company_mismatch
 
 abbrev pub refusal : Standing → List Bool → GameMsg → Option ℕ
-refusal s live (ClientAck frame) = ack_refusal s frame
+refusal s live (ClientAck frame token) = ack_refusal s frame token
 refusal s live (ClientCommand company code number to text) = command_refusal s live company code
 refusal s live (ClientSetPassword digest) = set_password_refusal s
 refusal s live (ClientMove company digest) = move_refusal live company

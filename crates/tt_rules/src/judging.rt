@@ -21,7 +21,8 @@ const LAST_COMPANY: u8 = 14;
 /// The company of those that have none.
 const SPECTATOR: u8 = 255;
 
-/// Ends a connection: a packet that its status doesn't permit, an unknown code, or an acknowledgement out of range.
+/// Ends a connection: a packet that its status doesn't permit, an unknown code, or an acknowledgement out of range
+/// or with a token that isn't open.
 const NOT_EXPECTED: u8 = 7;
 
 /// Ends a connection: a company that is not the member's, or none that lives.
@@ -75,7 +76,7 @@ fn refusal(standing: &Standing, live: &Live, msg: &GameMsg) -> Option<u8>
     ensures refusal { result ≡ refusal standing.now live.now msg.now }
 {
     match msg {
-        GameMsg::ClientAck { frame } => ack_refusal(standing, *frame),
+        GameMsg::ClientAck { frame, token } => ack_refusal(standing, *frame, *token),
         GameMsg::ClientCommand { company, code, .. } => {
             command_refusal(standing, live, *company, *code)
         }
@@ -85,11 +86,13 @@ fn refusal(standing: &Standing, live: &Live, msg: &GameMsg) -> Option<u8>
     }
 }
 
-/// An acknowledgement below the last one, or above what the member was told, is refused.
-fn ack_refusal(standing: &Standing, frame: u32) -> Option<u8>
-    ensures refusal { result ≡ ack_refusal standing.now frame }
+/// An acknowledgement below the last one, or above what the member was told, is refused, and then a token that isn't open.
+fn ack_refusal(standing: &Standing, frame: u32, token: u8) -> Option<u8>
+    ensures refusal { result ≡ ack_refusal standing.now frame token }
 {
     if frame < standing.acked || frame > standing.told {
+        Some(NOT_EXPECTED)
+    } else if token != 0 && token != standing.token {
         Some(NOT_EXPECTED)
     } else {
         None

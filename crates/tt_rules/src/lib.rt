@@ -16,6 +16,3 @@ pub use judging::verdict;
 pub use live::Live;
 pub use password::password_digest;
 pub use status::{Standing, Status, Verdict};
-
-#[cfg(test)]
-mod tests;

@@ -60,6 +60,8 @@ pub struct Standing {
     pub acked: u32,
     /// The greatest permitted frame that it was told.
     pub told: u32,
+    /// The token that it was told and has not given back: the open one, or 0 where none is open.
+    pub token: u8,
 }
 
 /// What a message is judged: allowed, or the code that its connection ends with.

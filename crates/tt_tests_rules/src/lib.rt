@@ -1,4 +1,4 @@
-//! What the libraries of worlds, maps, attempts, scripts and the hub answer to numbers and bytes from outside.
+//! What the libraries of worlds, maps, rules, attempts, scripts and the hub answer to numbers and bytes from outside.
 //!
 //! Only tests stand here, over public calls, so that a change of a library proves the library alone.
 #![tactic(auto)]
@@ -11,5 +11,7 @@ mod hub;
 mod log;
 #[cfg(test)]
 mod map;
+#[cfg(test)]
+mod rules;
 #[cfg(test)]
 mod world;

@@ -1,6 +1,5 @@
 use Rattle.tt_log.specs.History.{table_of}
-use Rattle.tt_log.proofs.Ordered.{is-ordered}
-use Rattle.tt_log.proofs.Clients.{is-given, clients-rise, clients-given}
+use Rattle.tt_log.proofs.Ordered.{is-ordered, no-admin}
 use Rattle.tt_log.proofs.laws.members_in_order.Goals as goal
 
 pub returns-clause-rising : goal.returns-clause-rising
@@ -10,9 +9,16 @@ pub returns-clause-opened : goal.returns-clause-opened
 returns-clause-opened c o es = (is-ordered o es).under
 
 pub returns-clause-clients : goal.returns-clause-clients
-returns-clause-clients c o es = clients-rise 0 (table_of o es).members (is-ordered o es).rise (is-given o es).each
+returns-clause-clients c o es = (is-ordered o es).clients
 
 pub returns-clause-given : goal.returns-clause-given
-returns-clause-given c o es =
-    let given = is-given o es in
-    clients-given (table_of o es).clients (table_of o es).openings (table_of o es).members given.last (is-ordered o es).under given.each
+returns-clause-given c o es = (is-ordered o es).given
+
+pub returns-clause-admins_rising : goal.returns-clause-admins_rising
+returns-clause-admins_rising c o es = (is-ordered o es).admins_rise
+
+pub returns-clause-admins_opened : goal.returns-clause-admins_opened
+returns-clause-admins_opened c o es = (is-ordered o es).admins_under
+
+pub returns-clause-apart : goal.returns-clause-apart
+returns-clause-apart c o es conn m is = no-admin (table_of o es) conn m (is-ordered o es) is

@@ -1,8 +1,10 @@
 //! The digest of a password, and a table of verdicts.
-use crate::*;
 use std::test::*;
 use tt_frame::{Line, Name, Short};
 use tt_game::GameMsg;
+use tt_rules::{
+    Live, Standing, Status, Verdict, code_of, command_of, number_of, password_digest, verdict,
+};
 use tt_world::Code;
 
 #[test]
@@ -29,6 +31,7 @@ fn standing(status: Status) -> Standing {
         waiting: 15,
         acked: 10,
         told: 20,
+        token: 255,
     }
 }
 
@@ -73,7 +76,7 @@ fn permissions() -> [(GameMsg, [bool; 10]); 6] {
         (GameMsg::ClientGameInfo, inactive),
         (GameMsg::ClientGetmap, authorized),
         (GameMsg::ClientMapOk, done),
-        (GameMsg::ClientAck { frame: 15 }, playing),
+        (ack(15, 0), playing),
         (GameMsg::ClientQuit, [true; 10]),
         (GameMsg::ServerShutdown, never),
     ]
@@ -82,14 +85,16 @@ fn permissions() -> [(GameMsg, [bool; 10]); 6] {
 #[test]
 fn a_status_permits_or_not(rt: HostRuntime) -> Result<(), Fail> {
     let live = live();
-    for (msg, permitted) in permissions() {
+    for (row, line) in permissions().into_iter().enumerate() {
+        let (msg, permitted) = line;
         for (place, status) in statuses().into_iter().enumerate() {
             let wanted = if permitted[place] {
                 Verdict::Allowed
             } else {
                 Verdict::Ends(7)
             };
-            assert_eq!(rt; verdict(&standing(status), &live, &msg), wanted);
+            let judged = verdict(&standing(status), &live, &msg);
+            assert_eq!(rt; (row, place, judged), (row, place, wanted));
         }
     }
     Ok(())
@@ -123,14 +128,6 @@ fn refusals_stand_in_their_order(rt: HostRuntime) -> Result<(), Fail> {
     assert_eq!(rt; verdict(&active, &live, &command(2, 0)), Verdict::Ends(11));
     assert_eq!(rt; verdict(&active, &live, &command(3, 0)), Verdict::Allowed);
     assert_eq!(rt;
-        verdict(&active, &live, &GameMsg::ClientAck { frame: 9 }),
-        Verdict::Ends(7)
-    );
-    assert_eq!(rt;
-        verdict(&active, &live, &GameMsg::ClientAck { frame: 21 }),
-        Verdict::Ends(7)
-    );
-    assert_eq!(rt;
         verdict(
             &active,
             &live,
@@ -144,6 +141,32 @@ fn refusals_stand_in_their_order(rt: HostRuntime) -> Result<(), Fail> {
     assert!(rt; command_of(9, 0, 0, &short()).is_none());
     assert!(rt; command_of(8, 0, 0, &short()).is_some());
     assert_eq!(rt; number_of(Code::NewCompany), 8);
+    Ok(())
+}
+
+/// An acknowledgement of a frame, with a token.
+fn ack(frame: u32, token: u8) -> GameMsg {
+    GameMsg::ClientAck { frame, token }
+}
+
+#[test]
+fn a_token_is_given_back_once_or_not_at_all(rt: HostRuntime) -> Result<(), Fail> {
+    let live = live();
+    let open = standing(Status::Active);
+    let mut closed = open;
+    closed.token = 0;
+    let rows = [
+        (open, ack(9, 255), Verdict::Ends(7)),
+        (open, ack(21, 255), Verdict::Ends(7)),
+        (open, ack(10, 255), Verdict::Allowed),
+        (open, ack(20, 0), Verdict::Allowed),
+        (open, ack(15, 254), Verdict::Ends(7)),
+        (closed, ack(15, 0), Verdict::Allowed),
+        (closed, ack(15, 255), Verdict::Ends(7)),
+    ];
+    for (row, (standing, msg, wanted)) in rows.iter().enumerate() {
+        assert_eq!(rt; (row, verdict(standing, &live, msg)), (row, *wanted));
+    }
     Ok(())
 }
 

@@ -1,0 +1,214 @@
+-- What rules are made of: how a member changes and what it is told with it, and what others are told.
+use Rattle.std.proofs.Common.{◌≡◌, ◌⊎◌, ℕ, ◌+◌, ◌≤◌, ◌<◌, Bool, true, false, List, [], ◌∷◌, ◌++◌, Option, Some, None, refl}
+use Rattle.std.specs.Prelude.{length, map, cond, ◌==◌}
+use Rattle.tt_game.specs.declared.message.GameMsg.{GameMsg}
+use Rattle.tt_game.specs.declared.message.GameMsg.TheVariants.{ClientJoin, ClientAck, ClientCommand, ClientSetName, ClientMove, ServerNeedGamePassword, ServerNeedCompanyPassword, ServerWelcome, ServerFrame, ServerCommand, ServerFull, ServerMapBegin, ServerMapSize, ServerMapData, ServerMapDone, ServerSync, ServerShutdown}
+use Rattle.tt_world.specs.declared.command.Command.{Command}
+use Rattle.tt_world.specs.declared.command.Entry.{Entry}
+use Rattle.tt_world.specs.Random.{next_random}
+use Rattle.tt_rules.specs.Commands.{command_of}
+use Rattle.tt_rules.specs.Statuses.{rank}
+use Rattle.tt_rules.specs.Verdict.{permits, refusal, verdict_of, first_reason}
+use Rattle.tt_rules.specs.declared.status.Verdict.TheVariants.{Allowed}
+use Rattle.tt_rules.specs.declared.status.Status.TheVariants.{AuthGame, AuthCompany, Authorized, MapWait, Map, DoneMap, PreActive, Active}
+use Rattle.tt_log.specs.declared.deed.Step.{Step}
+use Rattle.tt_log.specs.declared.deed.What.{What}
+use Rattle.tt_log.specs.declared.deed.What.TheVariants.{Msg, MapBegin, MapPieces, Sync, Stamp}
+use Rattle.tt_log.specs.Origin.{Origin}
+use Rattle.tt_log.specs.Member.{Member, standing_of}
+use Rattle.tt_log.specs.Table.{Table, living_in, now_in, with_member}
+use Rattle.tt_log.specs.Names.{given_name}
+use Rattle.tt_log.specs.Frames.{fresh_token, opened_token}
+use Rattle.tt_log.specs.Queue.{downloading}
+use Rattle.tt_log.specs.Judged.{refused, unless, judged}
+use Rattle.tt_log.specs.PacketRules.{first_company, acknowledged, closed_token}
+use Rattle.tt_log.specs.Tick.{pieces_of}
+
+abbrev pub step : List ℕ → What → Step
+step to w = record { to = to; what = w }
+
+-- ---- what a packet was allowed by
+
+-- the status permits the message, and nothing refuses it
+pub record Allows (o : Origin) (t : Table) (m : Member) (msg : GameMsg) : Type 0 where
+  pub permits : permits msg m.status ≡ true
+  pub standing : refusal (standing_of m) (living_in o t) msg ≡ None
+  pub table : refused o (living_in o t) t m msg ≡ None
+
+allows-by : (b : Bool) (x y : Option ℕ) → unless (verdict_of (first_reason b x)) y ≡ Allowed → (b ≡ true) × (x ≡ None) × (y ≡ None)
+allows-by true None None is = (refl, refl, refl)
+allows-by true None (Some code) is = absurd cc
+allows-by true (Some code) y is = absurd cc
+allows-by false x y is = absurd cc
+
+pub allows : (o : Origin) (t : Table) (m : Member) (msg : GameMsg) → judged o t m (Some msg) ≡ Allowed → Allows o t m msg
+allows o t m msg is =
+    let a = allows-by (permits msg m.status) (refusal (standing_of m) (living_in o t) msg) (refused o (living_in o t) t m msg) is in
+    record { permits = a.0; standing = a.1; table = a.2 }
+
+-- ---- how a member changes
+
+pub data Change : Type 0 where
+  -- on the way to the welcome, with the name and the asked company that it has from then on
+  wants_password : (game : Bool) → (name : List ℕ) → (asked : ℕ) → Change
+  is_let_in : (name : List ℕ) → (asked : ℕ) → Change
+  -- FRAME, with a fresh token or again
+  gets_token : Change
+  gets_frame : Change
+  -- ACK, and becoming ACTIVE
+  answers : (frame token : ℕ) → Change
+  plays : Change
+  -- COMMAND, SET_NAME, MOVE, and a founder's move
+  commands : (company code number to : ℕ) → (text : List ℕ) → Command → Change
+  has_name : (name : List ℕ) → Change
+  goes_to : (company : ℕ) → (digest : Option (List ℕ)) → Change
+  founds : (company : ℕ) → Change
+  -- the map's pieces, and its end
+  gets_pieces : (left : List ℕ) → Change
+  has_all : Change
+
+-- the changes that go with the queue
+pub data Move : Type 0 where
+  queues : Move
+  begins_map : Move
+  loads : Move
+
+-- how it asked for its name and company: by the JOIN that is answered now, or before
+abbrev pub Asks : Origin → Table → Member → List ℕ → ℕ → Type 0
+Asks o t m name asked =
+    ((name ≡ m.name) × (asked ≡ m.asked) × (2 ≤ rank m.status) × (rank m.status ≤ 3))
+    ⊎ ((rank m.status ≡ 0) × ((revision : List ℕ) × (grf : ℕ) × (wanted : List ℕ) × (name ≡ given_name t m.conn wanted) × Allows o t m (ClientJoin revision grf wanted asked)))
+
+-- when it may change so
+abbrev pub May : Origin → Table → Member → Change → Type 0
+May o t m (wants_password game name asked) = Asks o t m name asked
+May o t m (is_let_in name asked) = Asks o t m name asked
+May o t m gets_token = (8 ≤ rank m.status) × (m.token ≡ 0)
+May o t m gets_frame = 8 ≤ rank m.status
+May o t m (answers frame token) = Allows o t m (ClientAck frame token)
+May o t m plays = rank m.status ≡ 8
+May o t m (commands company code number to text command) = (command_of code number to text ≡ Some command) × Allows o t m (ClientCommand company code number to text)
+May o t m (has_name name) = Allows o t m (ClientSetName name)
+May o t m (goes_to company digest) = Allows o t m (ClientMove company digest)
+May o t m (founds company) = Unit
+May o t m (gets_pieces left) = rank m.status ≡ 6
+May o t m has_all = rank m.status ≡ 6
+
+abbrev pub password_status : Bool → Table → Member → Member
+password_status true t m = now_in AuthGame t m
+password_status false t m = now_in AuthCompany t m
+
+-- the member behind it
+abbrev pub turned : Change → Table → Member → Member
+turned (wants_password game name asked) t m = password_status game t (record m { name = name; asked = asked })
+turned (is_let_in name asked) t m = record (now_in Authorized t (record m { name = name; asked = asked })) { company = first_company asked }
+turned gets_token t m = opened_token (fresh_token t.tokens) t m
+turned gets_frame t m = record m { told = t.top }
+turned (answers frame token) t m = acknowledged frame token m
+turned plays t m = now_in Active t m
+turned (commands company code number to text command) t m = record m { waiting = m.waiting ++ (company, command) ∷ [] }
+turned (has_name name) t m = record m { name = given_name t m.conn name }
+turned (goes_to company digest) t m = record m { company = company }
+turned (founds company) t m = record m { company = company }
+turned (gets_pieces left) t m = record m { pieces = m.pieces + length (pieces_of 4 left) }
+turned has_all t m = record m { status = DoneMap }
+
+abbrev pub moved : Move → Table → Member → Member
+moved queues t m = now_in MapWait t m
+moved begins_map t m = downloading t m
+moved loads t m = record (now_in PreActive t m) { acked = m.map_frame; told = t.top }
+
+-- the words of the tokens behind it
+abbrev pub words_behind : Change → Table → ℕ × ℕ
+words_behind gets_token t = next_random t.tokens
+words_behind other t = t.tokens
+
+-- the table behind it
+abbrev pub turned_in : Change → Table → Member → Table
+turned_in c t m = with_member (turned c t m) (record t { tokens = words_behind c t })
+
+-- what it is told with it
+abbrev pub told_with : Change → Origin → Table → Member → List What
+told_with (wants_password true name asked) o t m = Msg (ServerNeedGamePassword o.setup.seed o.setup.id) ∷ []
+told_with (wants_password false name asked) o t m = Msg (ServerNeedCompanyPassword o.setup.seed o.setup.id) ∷ []
+told_with (is_let_in name asked) o t m = Msg (ServerWelcome m.client o.setup.seed o.setup.id) ∷ []
+told_with gets_token o t m = Msg (ServerFrame t.frame t.top (fresh_token t.tokens)) ∷ []
+told_with gets_frame o t m = Msg (ServerFrame t.frame t.top 0) ∷ []
+told_with (gets_pieces left) o t m = MapPieces ∷ []
+told_with other o t m = []
+
+abbrev pub steps_with : Change → Origin → Table → Member → List Step
+steps_with c o t m = map (λ w. step (m.conn ∷ []) w) (told_with c o t m)
+
+-- ---- what else is told
+
+-- a message of a dialogue that moves nothing: no command, no frame, nothing of the map
+abbrev pub IsTalk : GameMsg → Type 0
+IsTalk (ServerCommand company code number to text frame sender) = ⊥
+IsTalk (ServerFrame frame max token) = ⊥
+IsTalk (ServerWelcome client seed id) = ⊥
+IsTalk (ServerMapBegin frame) = ⊥
+IsTalk (ServerMapSize size) = ⊥
+IsTalk (ServerMapData rest) = ⊥
+IsTalk ServerMapDone = ⊥
+IsTalk (ServerSync frame word) = ⊥
+IsTalk ServerFull = ⊥
+IsTalk ServerShutdown = ⊥
+IsTalk other = Unit
+
+-- what those that play are told: talk, stamped entries, and the word of the world
+abbrev pub IsNews : What → Type 0
+IsNews (Msg m) = IsTalk m
+IsNews (Stamp e) = Unit
+IsNews Sync = Unit
+IsNews other = ⊥
+
+-- ---- each change keeps who the member is
+
+pub turned-conn : (c : Change) (t : Table) (m : Member) → (turned c t m).conn ≡ m.conn
+turned-conn (wants_password true name asked) t m = refl
+turned-conn (wants_password false name asked) t m = refl
+turned-conn (answers frame token) t m = by (token == 0)
+  where
+    by : (b : Bool) → (record (cond b m (closed_token m)) { acked = frame }).conn ≡ m.conn
+    by true = refl
+    by false = refl
+turned-conn (is_let_in name asked) t m = refl
+turned-conn gets_token t m = refl
+turned-conn gets_frame t m = refl
+turned-conn plays t m = refl
+turned-conn (commands company code number to text command) t m = refl
+turned-conn (has_name name) t m = refl
+turned-conn (goes_to company digest) t m = refl
+turned-conn (founds company) t m = refl
+turned-conn (gets_pieces left) t m = refl
+turned-conn has_all t m = refl
+
+pub turned-client : (c : Change) (t : Table) (m : Member) → (turned c t m).client ≡ m.client
+turned-client (wants_password true name asked) t m = refl
+turned-client (wants_password false name asked) t m = refl
+turned-client (answers frame token) t m = by (token == 0)
+  where
+    by : (b : Bool) → (record (cond b m (closed_token m)) { acked = frame }).client ≡ m.client
+    by true = refl
+    by false = refl
+turned-client (is_let_in name asked) t m = refl
+turned-client gets_token t m = refl
+turned-client gets_frame t m = refl
+turned-client plays t m = refl
+turned-client (commands company code number to text command) t m = refl
+turned-client (has_name name) t m = refl
+turned-client (goes_to company digest) t m = refl
+turned-client (founds company) t m = refl
+turned-client (gets_pieces left) t m = refl
+turned-client has_all t m = refl
+
+pub moved-conn : (v : Move) (t : Table) (m : Member) → (moved v t m).conn ≡ m.conn
+moved-conn queues t m = refl
+moved-conn begins_map t m = refl
+moved-conn loads t m = refl
+
+pub moved-client : (v : Move) (t : Table) (m : Member) → (moved v t m).client ≡ m.client
+moved-client queues t m = refl
+moved-client begins_map t m = refl
+moved-client loads t m = refl
