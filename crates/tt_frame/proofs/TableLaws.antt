@@ -3,10 +3,10 @@
 use Rattle.std.proofs.Common.{◌≡◌, ℕ, List, Result, Ok, Err, sym, ap, subst, refl, ◌∙◌, ◌⊎◌, inl, inr}
 use Rattle.std.specs.Prelude.{◌≢◌, IfOk}
 use Rattle.tt_frame.specs.Packet.{IsBytes}
-use Rattle.tt_frame.specs.Unread.{whole}
+use Rattle.tt_frame.specs.Unread.{Unread, whole}
 use Rattle.tt_frame.specs.declared.bad.Bad.{Bad}
 use Rattle.tt_frame.specs.declared.bad.Bad.TheVariants.{Memory, Malformed}
-use Rattle.tt_frame.specs.Tables.{Rule, rule_of, SpelledBy, read_by, MessageRead, MessageReadOrMemory, StopsBy}
+use Rattle.tt_frame.specs.Tables.{Rule, rule_of, SpelledBy, read_by, MessageRead, MessageReadOrMemory, Reads, ReadsOrMemory, StopsBy}
 use Rattle.tt_frame.proofs.FieldLaws.{ok_is}
 use Rattle.tt_frame.proofs.RowLaws.{row_takes, row_again}
 use Rattle.tt_frame.proofs.StopLaws.{row_stops}
@@ -53,3 +53,18 @@ stops_at {M} table kind body (Err Memory) at fits e made = absurd cc
 stops_at {M} table kind body (Err (Malformed here)) at fits e made =
     let same : here ≡ at = cc in
     row_stops M (rule_of table kind).fields (rule_of table kind).make (whole body) at fits (made ∙ ap (λ (n : ℕ). Err n) same)
+
+-- ---- what stays shut
+
+pub reads : {M : Type 0} (table : List (Rule M)) (kind : ℕ) (r : Result M Bad) (s : Unread) → Reads table kind r s → MessageRead r (read_by table kind s)
+unfolding Reads
+reads table kind r s read = read
+
+pub reads_or_memory : {M : Type 0} (table : List (Rule M)) (kind : ℕ) (r : Result M Bad) (s : Unread) → ReadsOrMemory table kind r s → MessageReadOrMemory r (read_by table kind s)
+unfolding ReadsOrMemory
+reads_or_memory table kind r s read = read
+
+-- a call that takes no memory is one that may
+pub Reads-may : {M : Type 0} (table : List (Rule M)) (kind : ℕ) (r : Result M Bad) (s : Unread) → Reads table kind r s → ReadsOrMemory table kind r s
+unfolding Reads ReadsOrMemory
+Reads-may table kind r s read = or_memory r (read_by table kind s) read

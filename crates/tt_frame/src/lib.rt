@@ -17,11 +17,11 @@ mod fields;
 mod framer;
 mod laws;
 mod memory;
+mod parts;
 mod put;
 mod ranges;
 mod sealing;
 mod texts;
-mod writing;
 
 pub use bad::Bad;
 pub use decoding::{
@@ -33,11 +33,8 @@ pub use fields::Fields;
 pub use framer::{Framer, Next, first_of};
 pub use laws::{every_run, one_field, one_reading, text_test};
 pub use memory::OutOfMemory;
+pub use parts::{Part, PartWriter, tell};
 pub use put::Put;
 pub use ranges::UpTo;
 pub use sealing::{finish, put_head};
 pub use texts::{Line, Name, Short, Text};
-pub use writing::{Part, append};
-
-#[cfg(test)]
-mod tests;
