@@ -31,9 +31,9 @@ messages =
     ∷ row 18 end ServerMapDone
     ∷ row 19 end ClientMapOk
     ∷ row 20 (u32 ▸ end) ServerJoin
-    ∷ row 21 (u32 ▸ u32 ▸ end) ServerFrame
+    ∷ row 21 (u32 ▸ u32 ▸ u8 ▸ end) ServerFrame
     ∷ row 22 (u32 ▸ u32 ▸ end) ServerSync
-    ∷ row 23 (u32 ▸ end) ClientAck
+    ∷ row 23 (u32 ▸ u8 ▸ end) ClientAck
     ∷ row 24 (u8 ▸ u16 ▸ u32 ▸ u8 ▸ text 31 ▸ end) ClientCommand
     ∷ row 25 (u8 ▸ u16 ▸ u32 ▸ u8 ▸ text 31 ▸ u32 ▸ u32 ▸ end) ServerCommand
     ∷ row 26 (up_to 2 ▸ u32 ▸ text 899 ▸ end) ClientChat

@@ -90,19 +90,22 @@ pub enum GameMsg {
     ServerJoin {
         client: u32,
     },
-    /// 21, from the server: it is at this frame, and clients may run up to the frame `max`.
+    /// 21, from the server: it is at this frame, and clients may run up to the frame `max`. A token other than 0 is to be
+    /// given back, so that the server learns that its stream is read.
     ServerFrame {
         frame: u32,
         max: u32,
+        token: u8,
     },
     /// 22, from the server: at this frame the world's random word is this.
     ServerSync {
         frame: u32,
         word: u32,
     },
-    /// 23, from a client: it has run up to this frame.
+    /// 23, from a client: it has run up to this frame, and gives this token back; 0 gives none.
     ClientAck {
         frame: u32,
+        token: u8,
     },
     /// 24, from a client: a command of its company, to be run by all. `code` says which, and number, `to` and text are
     /// what it wants.

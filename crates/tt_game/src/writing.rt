@@ -89,17 +89,21 @@ fn put(message: &GameMsg, out: &mut Vec<u8>) -> Result<(), OutOfMemory>
         GameMsg::ServerMapDone => append(out, 18, &[]),
         GameMsg::ClientMapOk => append(out, 19, &[]),
         GameMsg::ServerJoin { client } => append(out, 20, &[Part::U32(*client)]),
-        GameMsg::ServerFrame { frame, max } => append(
+        GameMsg::ServerFrame { frame, max, token } => append(
             out,
             21,
-            &[Part::U32(*frame), Part::U32(*max)],
+            &[Part::U32(*frame), Part::U32(*max), Part::U8(*token)],
         ),
         GameMsg::ServerSync { frame, word } => append(
             out,
             22,
             &[Part::U32(*frame), Part::U32(*word)],
         ),
-        GameMsg::ClientAck { frame } => append(out, 23, &[Part::U32(*frame)]),
+        GameMsg::ClientAck { frame, token } => append(
+            out,
+            23,
+            &[Part::U32(*frame), Part::U8(*token)],
+        ),
         GameMsg::ClientCommand {
             company,
             code,

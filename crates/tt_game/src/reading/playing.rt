@@ -21,6 +21,7 @@ pub(super) fn server_frame(f: &mut Fields) -> Result<GameMsg, Bad>
     let message = GameMsg::ServerFrame {
         frame: number32(f)?,
         max: number32(f)?,
+        token: number8(f)?,
     };
     ended(f, message)
 }
@@ -40,6 +41,7 @@ pub(super) fn client_ack(f: &mut Fields) -> Result<GameMsg, Bad>
 {
     let message = GameMsg::ClientAck {
         frame: number32(f)?,
+        token: number8(f)?,
     };
     ended(f, message)
 }
