@@ -1,7 +1,18 @@
 //! The messages between a client and the server of a game.
-use crate::files::Files;
+ghost use Rattle.std.specs.Prelude.{◌≡◌, ◌≢◌, ℕ, ◌≤◌, ◌+◌, ◌++◌, length, take, IfOk, OnOk, OnErr, Ok, Err};
+ghost use Rattle.tt_frame.specs.declared.bad.Bad.TheVariants.{Malformed, Memory};
+ghost use Rattle.tt_frame.specs.Packet.{packet};
+ghost use Rattle.tt_frame.specs.Unread.{whole};
+ghost use Rattle.tt_frame.specs.Tables.{MessageRead, StopsBy, name_by, read_by};
+ghost use Rattle.tt_frame.specs.Said.{each_said};
+ghost use Rattle.tt_frame.specs.Families.{family_said};
+ghost use Rattle.tt_game.specs.Messages.{messages, Spells};
+ghost use Rattle.tt_game.specs.Apart.{game_family, kind_of, body_bytes};
+
+use crate::kinds::{name_of, read, tell_parts};
 use crate::map_piece::MapPiece;
-use tt_frame::{Digest, Text, UpTo};
+use std::alloc::Global;
+use tt_frame::{Bad, Digest, OutOfMemory, PartWriter, Text, UpTo, finish};
 
 /// A message between a client and the server. Each field's type holds exactly the values that have a spelling.
 #[derive(Debug, PartialEq, Eq, Drop)]
@@ -33,10 +44,6 @@ pub enum GameMsg {
         companies: u8,
         max: u8,
         password: bool,
-    },
-    /// 6, from the server: the files that the client must have. It is never sent.
-    ServerCheckNewgrfs {
-        items: Files,
     },
     /// 7, from a client: it has all the files.
     ClientNewgrfsChecked,
@@ -181,4 +188,54 @@ pub enum GameMsg {
     ServerShutdown,
     /// 38, from the server: another game begins. It is never sent.
     ServerNewgame,
+}
+
+impl GameMsg {
+    /// The name of the message of that number, or no letters where no message has it.
+    pub fn name_of(kind: u8) -> &'static [u8]
+        ensures { result.now ≡ name_by messages kind }
+    {
+        name_of(kind)
+    }
+
+    /// The message that a packet of this number and body spells, or why it spells none.
+    pub fn decode(_alloc: Global, kind: u8, body: &[u8]) -> Result<GameMsg, Bad>
+        // What is read is spelled so.
+        ensures found { IfOk result (λ m. Spells m kind body.now) }
+        // What is spelled so is read, and memory never runs out, since none is taken.
+        ensures only { (m : GameMsg) → Spells m kind body.now → result ≡ Ok m }
+        ensures never { result ≢ Err Memory }
+
+        // It is malformed only where nothing is spelled, and the place is that of the first field that isn't there, or of
+        // the first byte behind the last field, or 0 where no message has the number.
+        ensures nothing { (at : ℕ) (m : GameMsg) → result ≡ Err (Malformed at) → Spells m kind body.now → ⊥ }
+        ensures place { (at : ℕ) → result ≡ Err (Malformed at) → StopsBy messages kind body.now at }
+
+        // All of this in one: the answer is what reading the body by the table gives.
+        ensures exact { MessageRead result (read_by messages kind (whole body.now)) }
+    {
+        read(kind, body)
+    }
+
+    /// Tells the message's head and its parts, in order: what a writer writes for them stands behind what stood there.
+    pub fn tell<W: PartWriter>(&self, to: &mut W) -> Result<(), OutOfMemory>
+        ensures ok { OnOk result (W.text to.new ≡ W.text to.old ++ each_said W.word (family_said game_family self.now)) }
+        ensures err { OnErr result (take (length (W.text to.old)) (W.text to.new) ≡ W.text to.old) }
+    {
+        tell_parts(self, to)
+    }
+
+    /// Appends the packet of the message, or nothing where memory is refused.
+    pub fn encode(&self, out: &mut Vec<u8>) -> Result<(), OutOfMemory>
+        // What is appended is one packet, whose number and body spell the message.
+        ensures ok { OnOk result (out.new.items ≡ out.old.items ++ packet (kind_of self.now) (body_bytes self.now)) }
+        ensures spelled { Spells self.now (kind_of self.now) (body_bytes self.now) }
+        ensures size { length (body_bytes self.now) + 3 ≤ 32767 }
+
+        ensures err { OnErr result (out.new.items ≡ out.old.items) }
+    {
+        let start = out.len();
+        let written = tell_parts(self, out);
+        finish(out, start, written)
+    }
 }
