@@ -59,7 +59,7 @@ unfolding if_done
 if_done_is (Ok done) x y is = is
 if_done_is (Err e) x y is = refl
 
-is_if_done : (r : Result (Unit {0}) OutOfMemory) (x y : List ℕ) → x ≡ if_done r y x → OnOk r (x ≡ y)
+pub is_if_done : (r : Result (Unit {0}) OutOfMemory) (x y : List ℕ) → x ≡ if_done r y x → OnOk r (x ≡ y)
 unfolding if_done
 is_if_done (Ok done) x y is = is
 is_if_done (Err e) x y is = tt

@@ -1,6 +1,6 @@
 -- Items read and written one behind the other in a loop.
-use Rattle.std.proofs.Common.{◌≡◌, ℕ, suc, ◌+◌, ◌-◌, ◌<◌, ◌≤◌, List, [], ◌∷◌, ◌++◌, length, get_or, take, Result, Ok, Err, refl, sym, ap, ◌∙◌, append_assoc, arith}
-use Rattle.std.proofs.lemmas.List.{append-nil, take_more, take_all}
+use Rattle.std.proofs.Common.{◌≡◌, ℕ, Bool, true, false, cond, subst, suc, ◌+◌, ◌-◌, ◌<◌, ◌≤◌, List, [], ◌∷◌, ◌++◌, length, get_or, take, Result, Ok, Err, refl, sym, ap, ◌∙◌, append_assoc, arith}
+use Rattle.std.proofs.lemmas.List.{length-append, append-nil, take_more, take_all}
 use Rattle.tt_frame.specs.Unread.{Unread}
 use Rattle.tt_frame.specs.Reading.{◌>>=◌, FieldRead, FieldReadOrMemory}
 use Rattle.tt_frame.specs.declared.bad.Bad.{Bad}
@@ -12,6 +12,10 @@ use Rattle.tt_frame.specs.ItemForms.{Item, item_spelled, ItemFits, item_at, item
 abbrev pub with_front : (fs : List Named) → List (Item fs) → Result (List (Item fs) × Unread) ℕ → Result (List (Item fs) × Unread) ℕ
 with_front fs front (Ok x) = Ok (front ++ x.0, x.1)
 with_front fs front (Err e) = Err e
+
+pub with_none : (fs : List Named) (front : List (Item fs)) (r : Result (List (Item fs) × Unread) ℕ) → front ≡ [] → with_front fs front r ≡ r
+with_none fs front (Ok x) is = ap (λ (xs : List (Item fs)). Ok (xs ++ x.0, x.1)) is
+with_none fs front (Err e) is = refl
 
 pub regroup : (fs : List Named) (front : List (Item fs)) (x : Item fs) (r : Result (List (Item fs) × Unread) ℕ) → with_front fs front (r >>= λ xs. Ok (x ∷ xs.0, xs.1)) ≡ with_front fs (front ++ x ∷ []) r
 regroup fs front x (Ok y) = ap (λ (xs : List (Item fs)). Ok (xs, y.1)) (sym (append_assoc front (x ∷ []) y.0))
@@ -83,3 +87,13 @@ in_turn old mid new part more one others = others ∙ ap (λ (r : List ℕ). r +
 pub ItemsFit-push : (fs : List Named) (xs : List (Item fs)) (x : Item fs) → ItemsFit fs xs → ItemFits fs x → ItemsFit fs (xs ++ x ∷ [])
 ItemsFit-push fs [] x fit one = (one, tt)
 ItemsFit-push fs (y ∷ xs) x fit one = (fit.0, ItemsFit-push fs xs x fit.1 one)
+
+-- with one item more, or with none
+pub one_more : (X : Type 0) (fs : List Named) (listed : List X → List (Item fs)) (values : X → Item fs) → ((xs : List X) (x : X) → listed (xs ++ x ∷ []) ≡ listed xs ++ values x ∷ [])
+    → (max : ℕ) (b : Bool) (old new : List X) (x : X) → new ≡ cond b (old ++ x ∷ []) old → length old < max → ItemsFit fs (listed old) → ItemFits fs (values x)
+    → (length new ≤ max) × ItemsFit fs (listed new)
+one_more X fs listed values more max true old new x is few fit one = (
+  omega (arith, ap (λ (xs : List X). length xs) is, length-append old (x ∷ [])),
+  subst (λ (ys : List (Item fs)). ItemsFit fs ys) (sym (ap listed is ∙ more old x)) (ItemsFit-push fs (listed old) (values x) fit one),
+)
+one_more X fs listed values more max false old new x is few fit one = (omega (arith, ap (λ (xs : List X). length xs) is), subst (λ (ys : List X). ItemsFit fs (listed ys)) (sym is) fit)

@@ -51,9 +51,13 @@ items_said fs [] = []
 items_said fs (x ∷ xs) = item_said fs x ++ items_said fs xs
 
 -- of items behind marks
+abbrev pub marks_said : (fs : List Named) → List (Item fs) → List Said
+marks_said fs [] = []
+marks_said fs (x ∷ xs) = (mark 1 ∷ item_said fs x) ++ marks_said fs xs
+
+-- and of the mark behind the last
 abbrev pub marked_said : (fs : List Named) → List (Item fs) → List Said
-marked_said fs [] = mark 0 ∷ []
-marked_said fs (x ∷ xs) = (mark 1 ∷ item_said fs x) ++ marked_said fs xs
+marked_said fs xs = marks_said fs xs ++ mark 0 ∷ []
 
 -- the parts of a row
 abbrev pub row_said : (r : Row) → Values r → List Said

@@ -82,7 +82,7 @@ impl PartWriter for Vec<u8> {
 }
 
 /// The parts, one behind the other.
-fn put_parts<W: PartWriter>(to: &mut W, parts: &[Part]) -> Result<(), OutOfMemory>
+pub(crate) fn put_parts<W: PartWriter>(to: &mut W, parts: &[Part]) -> Result<(), OutOfMemory>
     requires { PartsFit parts.now }
     ensures ok { OnOk result (W.text to.new ≡ W.text to.old ++ each_said W.word (all_said_by parts.now)) }
     ensures err { OnErr result (take (length (W.text to.old)) (W.text to.new) ≡ W.text to.old) }
