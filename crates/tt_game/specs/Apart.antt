@@ -3,7 +3,7 @@ use Rattle.std.specs.Prelude.{ℕ, List}
 use Rattle.tt_frame.specs.Apart.{Parted, part}
 use Rattle.tt_frame.specs.Families.{Family, family_kind, family_body}
 use Rattle.tt_game.specs.declared.message.GameMsg.{GameMsg}
-use Rattle.tt_game.specs.declared.message.GameMsg.TheVariants.{ServerFull, ServerBanned, ClientJoin, ServerError, ClientGameInfo, ServerGameInfo, ClientNewgrfsChecked, ServerNeedGamePassword, ClientGamePassword, ServerNeedCompanyPassword, ClientCompanyPassword, ServerWelcome, ClientGetmap, ServerWait, ServerMapBegin, ServerMapSize, ServerMapData, ServerMapDone, ClientMapOk, ServerJoin, ServerFrame, ServerSync, ClientAck, ClientCommand, ServerCommand, ClientChat, ServerChat, ClientSetName, ServerClientInfo, ClientSetPassword, ClientMove, ServerMove, ClientError, ServerErrorQuit, ClientQuit, ServerQuit, ServerShutdown, ServerNewgame}
+use Rattle.tt_game.specs.declared.message.GameMsg.TheVariants.{ServerFull, ServerBanned, ClientJoin, ServerError, ClientGameInfo, ServerGameInfo, ServerCheckNewgrfs, ClientNewgrfsChecked, ServerNeedGamePassword, ClientGamePassword, ServerNeedCompanyPassword, ClientCompanyPassword, ServerWelcome, ClientGetmap, ServerWait, ServerMapBegin, ServerMapSize, ServerMapData, ServerMapDone, ClientMapOk, ServerJoin, ServerFrame, ServerSync, ClientAck, ClientCommand, ServerCommand, ClientChat, ServerChat, ClientSetName, ServerClientInfo, ClientSetPassword, ClientMove, ServerMove, ClientError, ServerErrorQuit, ClientQuit, ServerQuit, ServerShutdown, ServerNewgame}
 use Rattle.tt_game.specs.Messages.{messages}
 
 -- its number, and the values of its fields in order
@@ -14,6 +14,7 @@ apart (ClientJoin revision grf name company) = part messages 2 (revision, (grf, 
 apart (ServerError code) = part messages 3 (code, tt)
 apart ClientGameInfo = part messages 4 tt
 apart (ServerGameInfo name frame clients companies max password) = part messages 5 (name, (frame, (clients, (companies, (max, (password, tt))))))
+apart (ServerCheckNewgrfs items) = part messages 6 (items, tt)
 apart ClientNewgrfsChecked = part messages 7 tt
 apart (ServerNeedGamePassword seed id) = part messages 8 (seed, (id, tt))
 apart (ClientGamePassword digest) = part messages 9 (digest, tt)

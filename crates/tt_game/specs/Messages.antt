@@ -1,10 +1,11 @@
 -- What each message of a game is spelled as.
-use Rattle.std.specs.Prelude.{ℕ, List, [], ◌∷◌}
-use Rattle.tt_frame.specs.FieldForms.{◌⦂◌, u8, u16, u32, up_to, truth, text, digest, optional_digest}
-use Rattle.tt_frame.specs.Rows.{end, rest, ◌▸◌}
+use Rattle.std.specs.Prelude.{◌≡◌, ◌⊎◌, ℕ, List, [], ◌∷◌}
+use Rattle.tt_frame.specs.FieldForms.{◌⦂◌, byte, u8, u16, u32, up_to, truth, text, digest, optional_digest}
+use Rattle.tt_frame.specs.Rows.{end, rest, ◌▸◌, counted}
 use Rattle.tt_frame.specs.Tables.{Rule, row, SpelledBy}
+use Rattle.tt_game.specs.Items.{file}
 use Rattle.tt_game.specs.declared.message.GameMsg.{GameMsg}
-use Rattle.tt_game.specs.declared.message.GameMsg.TheVariants.{ServerFull, ServerBanned, ClientJoin, ServerError, ClientGameInfo, ServerGameInfo, ClientNewgrfsChecked, ServerNeedGamePassword, ClientGamePassword, ServerNeedCompanyPassword, ClientCompanyPassword, ServerWelcome, ClientGetmap, ServerWait, ServerMapBegin, ServerMapSize, ServerMapData, ServerMapDone, ClientMapOk, ServerJoin, ServerFrame, ServerSync, ClientAck, ClientCommand, ServerCommand, ClientChat, ServerChat, ClientSetName, ServerClientInfo, ClientSetPassword, ClientMove, ServerMove, ClientError, ServerErrorQuit, ClientQuit, ServerQuit, ServerShutdown, ServerNewgame}
+use Rattle.tt_game.specs.declared.message.GameMsg.TheVariants.{ServerFull, ServerBanned, ClientJoin, ServerError, ClientGameInfo, ServerGameInfo, ServerCheckNewgrfs, ClientNewgrfsChecked, ServerNeedGamePassword, ClientGamePassword, ServerNeedCompanyPassword, ClientCompanyPassword, ServerWelcome, ClientGetmap, ServerWait, ServerMapBegin, ServerMapSize, ServerMapData, ServerMapDone, ClientMapOk, ServerJoin, ServerFrame, ServerSync, ClientAck, ClientCommand, ServerCommand, ClientChat, ServerChat, ClientSetName, ServerClientInfo, ClientSetPassword, ClientMove, ServerMove, ClientError, ServerErrorQuit, ClientQuit, ServerQuit, ServerShutdown, ServerNewgame}
 
 -- One line for each message: its number, its name, its fields in order with their names, and the variant that takes their
 -- values in that order.
@@ -16,6 +17,7 @@ messages =
     ∷ row 3 "SERVER_ERROR" ("code" ⦂ up_to 20 ▸ end) ServerError
     ∷ row 4 "CLIENT_GAME_INFO" end ClientGameInfo
     ∷ row 5 "SERVER_GAME_INFO" ("name" ⦂ text 31 ▸ "frame" ⦂ u32 ▸ "clients" ⦂ u8 ▸ "companies" ⦂ u8 ▸ "max" ⦂ u8 ▸ "password" ⦂ truth ▸ end) ServerGameInfo
+    ∷ row 6 "SERVER_CHECK_NEWGRFS" (counted byte 62 file end) ServerCheckNewgrfs
     ∷ row 7 "CLIENT_NEWGRFS_CHECKED" end ClientNewgrfsChecked
     ∷ row 8 "SERVER_NEED_GAME_PASSWORD" ("seed" ⦂ u32 ▸ "id" ⦂ text 31 ▸ end) ServerNeedGamePassword
     ∷ row 9 "CLIENT_GAME_PASSWORD" ("digest" ⦂ digest ▸ end) ClientGamePassword
@@ -53,3 +55,7 @@ messages =
 -- The body of a packet of that number spells the message: the fields of its line, each in its range, and nothing behind.
 abbrev pub Spells : GameMsg → ℕ → List ℕ → Type 0
 Spells m kind body = SpelledBy messages m kind body
+
+-- The numbers of the messages that take memory when they are read: the files, a piece of the map, and a line of chat both ways.
+abbrev pub TakesMemory : ℕ → Type 0
+TakesMemory kind = (kind ≡ 6) ⊎ (kind ≡ 17) ⊎ (kind ≡ 26) ⊎ (kind ≡ 27)

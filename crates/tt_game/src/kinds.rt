@@ -1,9 +1,10 @@
 //! Each message by its number: read by it, and told with it.
-ghost use Rattle.std.specs.Prelude.{◌≡◌};
+ghost use Rattle.std.specs.Prelude.{◌≡◌, Err};
+ghost use Rattle.tt_frame.specs.declared.bad.Bad.TheVariants.{Memory};
 ghost use Rattle.tt_frame.specs.Unread.{whole};
-ghost use Rattle.tt_frame.specs.Tables.{Reads, name_by};
+ghost use Rattle.tt_frame.specs.Tables.{Reads, ReadsOrMemory, name_by};
 ghost use Rattle.tt_frame.specs.Families.{Tells};
-ghost use Rattle.tt_game.specs.Messages.{messages};
+ghost use Rattle.tt_game.specs.Messages.{messages, TakesMemory};
 ghost use Rattle.tt_game.specs.Apart.{game_family};
 
 mod joining;
@@ -11,6 +12,7 @@ mod map_coming;
 mod playing;
 
 use crate::message::GameMsg;
+use std::alloc::Global;
 use tt_frame::{Bad, Fields, OutOfMemory, PartWriter};
 
 // The numbers of the messages, named here and nowhere else.
@@ -92,9 +94,10 @@ pub(crate) const SERVER_SHUTDOWN: u8 = 37;
 
 pub(crate) const SERVER_NEWGAME: u8 = 38;
 
-/// The message of that number.
+/// The message of that number, of those that take no memory.
 fn by_kind(kind: u8, f: &mut Fields) -> Result<GameMsg, Bad>
-    requires { f.old.at ≡ 0 }
+    requires place { f.old.at ≡ 0 }
+    requires memory { TakesMemory kind → ⊥ }
     ensures { Reads messages kind result f.old }
 {
     match kind {
@@ -114,7 +117,6 @@ fn by_kind(kind: u8, f: &mut Fields) -> Result<GameMsg, Bad>
         SERVER_WAIT => map_coming::read_server_wait(f),
         SERVER_MAP_BEGIN => map_coming::read_server_map_begin(f),
         SERVER_MAP_SIZE => map_coming::read_server_map_size(f),
-        SERVER_MAP_DATA => map_coming::read_server_map_data(f),
         SERVER_MAP_DONE => map_coming::read_server_map_done(f),
         CLIENT_MAP_OK => map_coming::read_client_map_ok(f),
         SERVER_JOIN => playing::read_server_join(f),
@@ -123,8 +125,6 @@ fn by_kind(kind: u8, f: &mut Fields) -> Result<GameMsg, Bad>
         CLIENT_ACK => playing::read_client_ack(f),
         CLIENT_COMMAND => playing::read_client_command(f),
         SERVER_COMMAND => playing::read_server_command(f),
-        CLIENT_CHAT => playing::read_client_chat(f),
-        SERVER_CHAT => playing::read_server_chat(f),
         CLIENT_SET_NAME => playing::read_client_set_name(f),
         SERVER_CLIENT_INFO => playing::read_server_client_info(f),
         CLIENT_SET_PASSWORD => playing::read_client_set_password(f),
@@ -140,11 +140,19 @@ fn by_kind(kind: u8, f: &mut Fields) -> Result<GameMsg, Bad>
     }
 }
 
-/// The message that a body of that number spells.
-pub(crate) fn read(kind: u8, body: &[u8]) -> Result<GameMsg, Bad>
-    ensures { Reads messages kind result (whole body.now) }
+/// The message that a body of that number spells. Four kinds take memory, and no other does.
+pub(crate) fn read(alloc: Global, kind: u8, body: &[u8]) -> Result<GameMsg, Bad>
+    ensures reads { ReadsOrMemory messages kind result (whole body.now) }
+    ensures memory { result ≡ Err Memory → TakesMemory kind }
 {
-    by_kind(kind, &mut Fields::new(body))
+    let f = &mut Fields::new(body);
+    match kind {
+        SERVER_CHECK_NEWGRFS => joining::read_server_check_newgrfs(alloc, f),
+        SERVER_MAP_DATA => map_coming::read_server_map_data(alloc, f),
+        CLIENT_CHAT => playing::read_client_chat(alloc, f),
+        SERVER_CHAT => playing::read_server_chat(alloc, f),
+        _ => by_kind(kind, f),
+    }
 }
 
 /// The name of the message of that number.
@@ -158,6 +166,7 @@ pub(crate) fn name_of(kind: u8) -> &'static [u8]
         SERVER_ERROR => b"SERVER_ERROR",
         CLIENT_GAME_INFO => b"CLIENT_GAME_INFO",
         SERVER_GAME_INFO => b"SERVER_GAME_INFO",
+        SERVER_CHECK_NEWGRFS => b"SERVER_CHECK_NEWGRFS",
         CLIENT_NEWGRFS_CHECKED => b"CLIENT_NEWGRFS_CHECKED",
         SERVER_NEED_GAME_PASSWORD => b"SERVER_NEED_GAME_PASSWORD",
         CLIENT_GAME_PASSWORD => b"CLIENT_GAME_PASSWORD",
@@ -222,6 +231,7 @@ pub(crate) fn tell_parts<W: PartWriter>(
         } => joining::tell_server_game_info(
             writer, name, *frame, *clients, *companies, *max, *password,
         ),
+        GameMsg::ServerCheckNewgrfs { items } => joining::tell_server_check_newgrfs(writer, items),
         GameMsg::ClientNewgrfsChecked => joining::tell_client_newgrfs_checked(writer),
         GameMsg::ServerNeedGamePassword { seed, id } => joining::tell_server_need_game_password(
             writer, *seed, id,

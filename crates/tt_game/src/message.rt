@@ -1,18 +1,19 @@
 //! The messages between a client and the server of a game.
-ghost use Rattle.std.specs.Prelude.{◌≡◌, ◌≢◌, ℕ, ◌≤◌, ◌+◌, ◌++◌, length, take, IfOk, OnOk, OnErr, Ok, Err};
+ghost use Rattle.std.specs.Prelude.{◌≡◌, ◌⊎◌, ℕ, ◌≤◌, ◌+◌, ◌++◌, length, take, IfOk, OnOk, OnErr, Ok, Err};
 ghost use Rattle.tt_frame.specs.declared.bad.Bad.TheVariants.{Malformed, Memory};
 ghost use Rattle.tt_frame.specs.Packet.{packet};
 ghost use Rattle.tt_frame.specs.Unread.{whole};
-ghost use Rattle.tt_frame.specs.Tables.{MessageRead, StopsBy, name_by, read_by};
+ghost use Rattle.tt_frame.specs.Tables.{MessageReadOrMemory, StopsBy, name_by, read_by};
 ghost use Rattle.tt_frame.specs.Said.{each_said};
 ghost use Rattle.tt_frame.specs.Families.{family_said};
-ghost use Rattle.tt_game.specs.Messages.{messages, Spells};
+ghost use Rattle.tt_game.specs.Messages.{messages, Spells, TakesMemory};
 ghost use Rattle.tt_game.specs.Apart.{game_family, kind_of, body_bytes};
 
+use crate::files::Files;
 use crate::kinds::{name_of, read, tell_parts};
 use crate::map_piece::MapPiece;
 use std::alloc::Global;
-use tt_frame::{Bad, Digest, OutOfMemory, PartWriter, Text, UpTo, finish};
+use tt_frame::{Bad, Digest, LongText, OutOfMemory, PartWriter, Text, UpTo, finish};
 
 /// A message between a client and the server. Each field's type holds exactly the values that have a spelling.
 #[derive(Debug, PartialEq, Eq, Drop)]
@@ -44,6 +45,10 @@ pub enum GameMsg {
         companies: u8,
         max: u8,
         password: bool,
+    },
+    /// 6, from the server: the files that the client must have. It is never sent.
+    ServerCheckNewgrfs {
+        items: Files,
     },
     /// 7, from a client: it has all the files.
     ClientNewgrfsChecked,
@@ -137,13 +142,13 @@ pub enum GameMsg {
     ClientChat {
         scope: UpTo<2>,
         to: u32,
-        text: Text<899>,
+        text: LongText<899>,
     },
     /// 27, from the server: a line that this client said, in that scope.
     ServerChat {
         client: u32,
         scope: UpTo<2>,
-        text: Text<899>,
+        text: LongText<899>,
     },
     /// 28, from a client: its new name.
     ClientSetName {
@@ -199,12 +204,13 @@ impl GameMsg {
     }
 
     /// The message that a packet of this number and body spells, or why it spells none.
-    pub fn decode(_alloc: Global, kind: u8, body: &[u8]) -> Result<GameMsg, Bad>
+    pub fn decode(alloc: Global, kind: u8, body: &[u8]) -> Result<GameMsg, Bad>
         // What is read is spelled so.
         ensures found { IfOk result (λ m. Spells m kind body.now) }
-        // What is spelled so is read, and memory never runs out, since none is taken.
-        ensures only { (m : GameMsg) → Spells m kind body.now → result ≡ Ok m }
-        ensures never { result ≢ Err Memory }
+        // What is spelled so is read, unless memory runs out, and that only for the four kinds that take some: the files, a
+        // piece of the map, and a line of chat both ways.
+        ensures only { (m : GameMsg) → Spells m kind body.now → (result ≡ Ok m) ⊎ (result ≡ Err Memory) }
+        ensures memory { result ≡ Err Memory → TakesMemory kind }
 
         // It is malformed only where nothing is spelled, and the place is that of the first field that isn't there, or of
         // the first byte behind the last field, or 0 where no message has the number.
@@ -212,9 +218,9 @@ impl GameMsg {
         ensures place { (at : ℕ) → result ≡ Err (Malformed at) → StopsBy messages kind body.now at }
 
         // All of this in one: the answer is what reading the body by the table gives.
-        ensures exact { MessageRead result (read_by messages kind (whole body.now)) }
+        ensures exact { MessageReadOrMemory result (read_by messages kind (whole body.now)) }
     {
-        read(kind, body)
+        read(alloc, kind, body)
     }
 
     /// Tells the message's head and its parts, in order: what a writer writes for them stands behind what stood there.

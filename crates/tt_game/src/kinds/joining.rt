@@ -1,21 +1,23 @@
 //! The messages with which a client joins, each read and told by its line of the table.
-#![tactic(auto, unfolding(tt_frame::specs::Tables::Reads, tt_frame::specs::Families::Tells))]
+#![tactic(auto, unfolding(tt_frame::specs::Tables::Reads, tt_frame::specs::Tables::ReadsOrMemory, tt_frame::specs::Families::Tells))]
 
-ghost use Rattle.tt_frame.specs.Tables.{Reads};
+ghost use Rattle.tt_frame.specs.Tables.{Reads, ReadsOrMemory};
 ghost use Rattle.tt_frame.specs.Families.{Tells};
 ghost use Rattle.tt_game.specs.Messages.{messages};
 ghost use Rattle.tt_game.specs.Apart.{game_family};
-ghost use Rattle.tt_game.specs.declared.message.GameMsg.TheVariants.{ServerFull, ServerBanned, ClientJoin, ServerError, ClientGameInfo, ServerGameInfo, ClientNewgrfsChecked, ServerNeedGamePassword, ClientGamePassword, ServerNeedCompanyPassword, ClientCompanyPassword, ServerWelcome};
+ghost use Rattle.tt_game.specs.declared.message.GameMsg.TheVariants.{ServerFull, ServerBanned, ClientJoin, ServerError, ClientGameInfo, ServerGameInfo, ServerCheckNewgrfs, ClientNewgrfsChecked, ServerNeedGamePassword, ClientGamePassword, ServerNeedCompanyPassword, ClientCompanyPassword, ServerWelcome};
 
 use super::{
     CLIENT_COMPANY_PASSWORD, CLIENT_GAME_INFO, CLIENT_GAME_PASSWORD, CLIENT_JOIN,
-    CLIENT_NEWGRFS_CHECKED, SERVER_BANNED, SERVER_ERROR, SERVER_FULL, SERVER_GAME_INFO,
-    SERVER_NEED_COMPANY_PASSWORD, SERVER_NEED_GAME_PASSWORD, SERVER_WELCOME,
+    CLIENT_NEWGRFS_CHECKED, SERVER_BANNED, SERVER_CHECK_NEWGRFS, SERVER_ERROR, SERVER_FULL,
+    SERVER_GAME_INFO, SERVER_NEED_COMPANY_PASSWORD, SERVER_NEED_GAME_PASSWORD, SERVER_WELCOME,
 };
+use crate::files::Files;
 use crate::message::GameMsg;
+use std::alloc::Global;
 use tt_frame::{
-    Bad, Digest, Fields, OutOfMemory, Part, PartWriter, Text, UpTo, digest, ended, number8,
-    number32, tell, text, truth, up_to,
+    Bad, Digest, Fields, OutOfMemory, Part, PartWriter, Text, UpTo, counted, digest, ended,
+    number8, number32, tell, tell_counted, text, truth, up_to,
 };
 
 pub(super) fn read_server_full(f: &mut Fields) -> Result<GameMsg, Bad>
@@ -139,6 +141,30 @@ pub(super) fn tell_server_game_info<W: PartWriter>(
             Part::U8(max),
             Part::Truth(password),
         ],
+    )
+}
+
+pub(super) fn read_server_check_newgrfs(alloc: Global, f: &mut Fields) -> Result<GameMsg, Bad>
+    ensures { ReadsOrMemory messages SERVER_CHECK_NEWGRFS result f.old }
+{
+    let count: UpTo<62> = up_to(f)?;
+    let message = GameMsg::ServerCheckNewgrfs {
+        items: counted(alloc, u16::from(count.get()), f)?,
+    };
+    ended(f, message)
+}
+
+pub(super) fn tell_server_check_newgrfs<W: PartWriter>(
+    writer: &mut W,
+    items: &Files,
+) -> Result<(), OutOfMemory>
+    ensures { Tells game_family W.word (ServerCheckNewgrfs items.now) result (W.text writer.old) (W.text writer.new) }
+{
+    let count = items.len() as u8;
+    tell_counted(
+        writer,
+        &[Part::Head(SERVER_CHECK_NEWGRFS), Part::Count8(count)],
+        items,
     )
 }
 

@@ -1,7 +1,7 @@
 //! The messages that bring the map, each read and told by its line of the table.
-#![tactic(auto, unfolding(tt_frame::specs::Tables::Reads, tt_frame::specs::Families::Tells))]
+#![tactic(auto, unfolding(tt_frame::specs::Tables::Reads, tt_frame::specs::Tables::ReadsOrMemory, tt_frame::specs::Families::Tells))]
 
-ghost use Rattle.tt_frame.specs.Tables.{Reads};
+ghost use Rattle.tt_frame.specs.Tables.{Reads, ReadsOrMemory};
 ghost use Rattle.tt_frame.specs.Families.{Tells};
 ghost use Rattle.tt_game.specs.Messages.{messages};
 ghost use Rattle.tt_game.specs.Apart.{game_family};
@@ -13,6 +13,7 @@ use super::{
 };
 use crate::map_piece::MapPiece;
 use crate::message::GameMsg;
+use std::alloc::Global;
 use tt_frame::{Bad, Fields, OutOfMemory, Part, PartWriter, ended, number8, number32, tell};
 
 pub(super) fn read_client_getmap(f: &mut Fields) -> Result<GameMsg, Bad>
@@ -76,13 +77,14 @@ pub(super) fn tell_server_map_size<W: PartWriter>(
     tell(writer, &[Part::Head(SERVER_MAP_SIZE), Part::U32(size)])
 }
 
-pub(super) fn read_server_map_data(f: &mut Fields) -> Result<GameMsg, Bad>
-    ensures { Reads messages SERVER_MAP_DATA result f.old }
+pub(super) fn read_server_map_data(alloc: Global, f: &mut Fields) -> Result<GameMsg, Bad>
+    ensures { ReadsOrMemory messages SERVER_MAP_DATA result f.old }
 {
     let at = f.at();
-    match MapPiece::new(f.rest()) {
-        Some(rest) => Ok(GameMsg::ServerMapData { rest }),
-        None => Err(Bad::Malformed { at }),
+    match MapPiece::new(alloc, f.rest()) {
+        Ok(Some(rest)) => Ok(GameMsg::ServerMapData { rest }),
+        Ok(None) => Err(Bad::Malformed { at }),
+        Err(OutOfMemory) => Err(Bad::Memory),
     }
 }
 

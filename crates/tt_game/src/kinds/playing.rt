@@ -1,7 +1,7 @@
 //! The messages of those that play, each read and told by its line of the table.
-#![tactic(auto, unfolding(tt_frame::specs::Tables::Reads, tt_frame::specs::Families::Tells))]
+#![tactic(auto, unfolding(tt_frame::specs::Tables::Reads, tt_frame::specs::Tables::ReadsOrMemory, tt_frame::specs::Families::Tells))]
 
-ghost use Rattle.tt_frame.specs.Tables.{Reads};
+ghost use Rattle.tt_frame.specs.Tables.{Reads, ReadsOrMemory};
 ghost use Rattle.tt_frame.specs.Families.{Tells};
 ghost use Rattle.tt_game.specs.Messages.{messages};
 ghost use Rattle.tt_game.specs.Apart.{game_family};
@@ -14,9 +14,11 @@ use super::{
     SERVER_SHUTDOWN, SERVER_SYNC,
 };
 use crate::message::GameMsg;
+use std::alloc::Global;
 use tt_frame::{
-    Bad, Digest, Fields, OutOfMemory, Part, PartWriter, Text, UpTo, digest, digits_or_none, ended,
-    number8, number16, number32, optional_digest, tell, text, up_to,
+    Bad, Digest, Fields, LongText, OutOfMemory, Part, PartWriter, Text, UpTo, digest,
+    digits_or_none, ended, long_text, number8, number16, number32, optional_digest, tell, text,
+    up_to,
 };
 
 pub(super) fn read_server_join(f: &mut Fields) -> Result<GameMsg, Bad>
@@ -191,13 +193,13 @@ pub(super) fn tell_server_command<W: PartWriter>(
     )
 }
 
-pub(super) fn read_client_chat(f: &mut Fields) -> Result<GameMsg, Bad>
-    ensures { Reads messages CLIENT_CHAT result f.old }
+pub(super) fn read_client_chat(alloc: Global, f: &mut Fields) -> Result<GameMsg, Bad>
+    ensures { ReadsOrMemory messages CLIENT_CHAT result f.old }
 {
     let message = GameMsg::ClientChat {
         scope: up_to(f)?,
         to: number32(f)?,
-        text: text(f)?,
+        text: long_text(alloc, f)?,
     };
     ended(f, message)
 }
@@ -206,7 +208,7 @@ pub(super) fn tell_client_chat<W: PartWriter>(
     writer: &mut W,
     scope: UpTo<2>,
     to: u32,
-    text: &Text<899>,
+    text: &LongText<899>,
 ) -> Result<(), OutOfMemory>
     ensures { Tells game_family W.word (ClientChat scope to text.now) result (W.text writer.old) (W.text writer.new) }
 {
@@ -221,13 +223,13 @@ pub(super) fn tell_client_chat<W: PartWriter>(
     )
 }
 
-pub(super) fn read_server_chat(f: &mut Fields) -> Result<GameMsg, Bad>
-    ensures { Reads messages SERVER_CHAT result f.old }
+pub(super) fn read_server_chat(alloc: Global, f: &mut Fields) -> Result<GameMsg, Bad>
+    ensures { ReadsOrMemory messages SERVER_CHAT result f.old }
 {
     let message = GameMsg::ServerChat {
         client: number32(f)?,
         scope: up_to(f)?,
-        text: text(f)?,
+        text: long_text(alloc, f)?,
     };
     ended(f, message)
 }
@@ -236,7 +238,7 @@ pub(super) fn tell_server_chat<W: PartWriter>(
     writer: &mut W,
     client: u32,
     scope: UpTo<2>,
-    text: &Text<899>,
+    text: &LongText<899>,
 ) -> Result<(), OutOfMemory>
     ensures { Tells game_family W.word (ServerChat client scope text.now) result (W.text writer.old) (W.text writer.new) }
 {
