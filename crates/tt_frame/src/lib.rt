@@ -17,6 +17,7 @@ mod fields;
 mod framer;
 mod items;
 mod laws;
+mod long_texts;
 mod memory;
 mod parts;
 mod put;
@@ -32,8 +33,9 @@ pub use decoding::{
 pub use digests::{Digest, are_hex_digits, digits_or_none};
 pub use fields::Fields;
 pub use framer::{Framer, Next, first_of};
-pub use items::{Items, ListItem};
+pub use items::{Items, ListItem, array_bytes, counted, marked, tell_counted, tell_marked};
 pub use laws::{every_run, one_field, one_reading, text_test};
+pub use long_texts::{LongText, long_text};
 pub use memory::OutOfMemory;
 pub use parts::{Part, PartWriter, tell};
 pub use put::Put;
