@@ -56,9 +56,9 @@ pub fn game_row(kind: u8) -> Option<Row>
         18 => Some(row(b"SERVER_MAP_DONE", &[])),
         19 => Some(row(b"CLIENT_MAP_OK", &[])),
         20 => Some(row(b"SERVER_JOIN", &[One(U32)])),
-        21 => Some(row(b"SERVER_FRAME", &[One(U32), One(U32)])),
+        21 => Some(row(b"SERVER_FRAME", &[One(U32), One(U32), One(U8)])),
         22 => Some(row(b"SERVER_SYNC", &[One(U32), One(U32)])),
-        23 => Some(row(b"CLIENT_ACK", &[One(U32)])),
+        23 => Some(row(b"CLIENT_ACK", &[One(U32), One(U8)])),
         24 => Some(row(
             b"CLIENT_COMMAND",
             &[One(U8), One(U16), One(U32), One(U8), One(Text(31))],

@@ -56,9 +56,9 @@ const ROWS: [(&[u8], &[u8]); 39] = [
     (b"game 030012", b"SERVER_MAP_DONE\n"),
     (b"game 030013", b"CLIENT_MAP_OK\n"),
     (b"game 07001403000000", b"SERVER_JOIN 3\n"),
-    (b"game 0b00150500000006000000", b"SERVER_FRAME 5 6\n"),
+    (b"game 0c0015050000000600000007", b"SERVER_FRAME 5 6 7\n"),
     (b"game 0b0016050000000a000000", b"SERVER_SYNC 5 10\n"),
-    (b"game 0700174a000000", b"CLIENT_ACK 74\n"),
+    (b"game 08001701000000ff", b"CLIENT_ACK 1 255\n"),
     (
         b"game 0e00180005010a00000002486900",
         b"CLIENT_COMMAND 0 261 10 2 4869\n",
