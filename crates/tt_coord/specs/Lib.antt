@@ -1,3 +1,4 @@
+pub mod Items
 pub mod Coord
 pub mod Stun
 pub mod Turn

@@ -1,16 +1,18 @@
 //! The messages between the coordinator and a server or a client.
-ghost use Rattle.std.specs.Prelude.{◌≡◌, ◌≢◌, ℕ, ◌≤◌, ◌+◌, ◌++◌, length, take, IfOk, OnOk, OnErr, Ok, Err};
+ghost use Rattle.std.specs.Prelude.{◌≡◌, ◌≢◌, ◌⊎◌, ℕ, ◌≤◌, ◌+◌, ◌++◌, length, take, IfOk, OnOk, OnErr, Ok, Err};
 ghost use Rattle.tt_frame.specs.declared.bad.Bad.TheVariants.{Malformed, Memory};
 ghost use Rattle.tt_frame.specs.Packet.{packet};
 ghost use Rattle.tt_frame.specs.Unread.{whole};
-ghost use Rattle.tt_frame.specs.Tables.{MessageRead, Reads, StopsBy, name_by, read_by};
+ghost use Rattle.tt_frame.specs.Tables.{MessageReadOrMemory, Reads, ReadsOrMemory, StopsBy, name_by, read_by};
 ghost use Rattle.tt_frame.specs.Said.{each_said};
 ghost use Rattle.tt_frame.specs.Families.{Tells, family_said};
 ghost use Rattle.tt_coord.specs.Coord.{coord_messages, coord_family, CoordSpells, coord_kind_of, coord_body_bytes};
 
 mod messages;
 
+use crate::file_list::LookupFiles;
 use crate::info::Info;
+use crate::server_list::Servers;
 use std::alloc::Global;
 use tt_frame::{Bad, Fields, OutOfMemory, PartWriter, Text, UpTo, finish};
 
@@ -44,6 +46,10 @@ pub enum CoordMsg {
     /// 4, from a client: it asks for the public servers of this revision.
     ClientListing {
         revision: Text<31>,
+    },
+    /// 5, from the coordinator: some of the servers that were asked for, or none behind the last one.
+    GcListing {
+        items: Servers,
     },
     /// 6, from a client: it wants to connect to the server with this code.
     ClientConnect {
@@ -92,6 +98,10 @@ pub enum CoordMsg {
         host: Text<31>,
         port: u16,
     },
+    /// 15, from the coordinator: names of files. It is never sent.
+    GcNewgrfLookup {
+        items: LookupFiles,
+    },
     /// 16, from the coordinator: the peer is to connect to this TURN server, with this ticket.
     GcTurnConnect {
         token: Text<31>,
@@ -112,6 +122,8 @@ pub(crate) const SERVER_UPDATE: u8 = 3;
 
 pub(crate) const CLIENT_LISTING: u8 = 4;
 
+pub(crate) const GC_LISTING: u8 = 5;
+
 pub(crate) const CLIENT_CONNECT: u8 = 6;
 
 pub(crate) const GC_CONNECTING: u8 = 7;
@@ -130,11 +142,15 @@ pub(crate) const SERCLI_STUN_RESULT: u8 = 13;
 
 pub(crate) const GC_STUN_CONNECT: u8 = 14;
 
+pub(crate) const GC_NEWGRF_LOOKUP: u8 = 15;
+
 pub(crate) const GC_TURN_CONNECT: u8 = 16;
 
-/// The message of that number.
+/// The message of that number, of those that take no memory.
 fn by_kind(kind: u8, f: &mut Fields) -> Result<CoordMsg, Bad>
-    requires { f.old.at ≡ 0 }
+    requires start { f.old.at ≡ 0 }
+    requires no_listing { kind ≢ 5 }
+    requires no_lookup { kind ≢ 15 }
     ensures { Reads coord_messages kind result f.old }
 {
     match kind {
@@ -157,10 +173,17 @@ fn by_kind(kind: u8, f: &mut Fields) -> Result<CoordMsg, Bad>
     }
 }
 
-fn read(kind: u8, body: &[u8]) -> Result<CoordMsg, Bad>
-    ensures { Reads coord_messages kind result (whole body.now) }
+/// The message of that number.
+fn read(alloc: Global, kind: u8, f: &mut Fields) -> Result<CoordMsg, Bad>
+    requires start { f.old.at ≡ 0 }
+    ensures read { ReadsOrMemory coord_messages kind result f.old }
+    ensures memory { result ≡ Err Memory → (kind ≡ 5) ⊎ (kind ≡ 15) }
 {
-    by_kind(kind, &mut Fields::new(body))
+    match kind {
+        GC_LISTING => messages::read_gc_listing(alloc, f),
+        GC_NEWGRF_LOOKUP => messages::read_gc_newgrf_lookup(alloc, f),
+        _ => by_kind(kind, f),
+    }
 }
 
 /// Tells the message's parts.
@@ -189,6 +212,7 @@ fn tell_parts<W: PartWriter>(message: &CoordMsg, to: &mut W) -> Result<(), OutOf
             info.frame,
         ),
         CoordMsg::ClientListing { revision } => messages::tell_client_listing(to, revision),
+        CoordMsg::GcListing { items } => messages::tell_gc_listing(to, items),
         CoordMsg::ClientConnect { code } => messages::tell_client_connect(to, code),
         CoordMsg::GcConnecting { token, code } => messages::tell_gc_connecting(to, token, code),
         CoordMsg::SercliConnectFailed { token, tracking } => messages::tell_sercli_connect_failed(
@@ -213,6 +237,7 @@ fn tell_parts<W: PartWriter>(message: &CoordMsg, to: &mut W) -> Result<(), OutOf
             host,
             port,
         } => messages::tell_gc_stun_connect(to, token, *tracking, *side, host, *port),
+        CoordMsg::GcNewgrfLookup { items } => messages::tell_gc_newgrf_lookup(to, items),
         CoordMsg::GcTurnConnect {
             token,
             tracking,
@@ -233,6 +258,7 @@ impl CoordMsg {
             GC_REGISTER_ACK => b"GC_REGISTER_ACK",
             SERVER_UPDATE => b"SERVER_UPDATE",
             CLIENT_LISTING => b"CLIENT_LISTING",
+            GC_LISTING => b"GC_LISTING",
             CLIENT_CONNECT => b"CLIENT_CONNECT",
             GC_CONNECTING => b"GC_CONNECTING",
             SERCLI_CONNECT_FAILED => b"SERCLI_CONNECT_FAILED",
@@ -242,18 +268,19 @@ impl CoordMsg {
             GC_STUN_REQUEST => b"GC_STUN_REQUEST",
             SERCLI_STUN_RESULT => b"SERCLI_STUN_RESULT",
             GC_STUN_CONNECT => b"GC_STUN_CONNECT",
+            GC_NEWGRF_LOOKUP => b"GC_NEWGRF_LOOKUP",
             GC_TURN_CONNECT => b"GC_TURN_CONNECT",
             _ => &[],
         }
     }
 
     /// The message that a packet of this number and body spells, or why it spells none.
-    pub fn decode(_alloc: Global, kind: u8, body: &[u8]) -> Result<CoordMsg, Bad>
+    pub fn decode(alloc: Global, kind: u8, body: &[u8]) -> Result<CoordMsg, Bad>
         // What is read is spelled so.
         ensures found { IfOk result (λ m. CoordSpells m kind body.now) }
-        // What is spelled so is read, and memory never runs out, since none is taken.
-        ensures only { (m : CoordMsg) → CoordSpells m kind body.now → result ≡ Ok m }
-        ensures never { result ≢ Err Memory }
+        // What is spelled so is read, unless memory runs out, which it can only for the two lists.
+        ensures only { (m : CoordMsg) → CoordSpells m kind body.now → (result ≡ Ok m) ⊎ (result ≡ Err Memory) }
+        ensures memory { result ≡ Err Memory → (kind ≡ 5) ⊎ (kind ≡ 15) }
 
         // It is malformed only where nothing is spelled, and the place is that of the first field that isn't there, or of
         // the first byte behind the last field, or 0 where no message has the number.
@@ -261,9 +288,9 @@ impl CoordMsg {
         ensures place { (at : ℕ) → result ≡ Err (Malformed at) → StopsBy coord_messages kind body.now at }
 
         // All of this in one: the answer is what reading the body by the table gives.
-        ensures exact { MessageRead result (read_by coord_messages kind (whole body.now)) }
+        ensures exact { MessageReadOrMemory result (read_by coord_messages kind (whole body.now)) }
     {
-        read(kind, body)
+        read(alloc, kind, &mut Fields::new(body))
     }
 
     /// Tells the message's head and its parts, in order: what a writer writes for them stands behind what stood there.

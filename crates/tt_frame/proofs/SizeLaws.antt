@@ -1,6 +1,7 @@
 -- How long a body can be: a number for each row, which is computed from the table.
-use Rattle.std.proofs.Common.{◌≡◌, ℕ, ◌+◌, ◌*◌, ◌≤◌, Bool, true, false, cond, eqb, List, [], ◌∷◌, ◌++◌, length, Some, None, ap, arith}
-use Rattle.std.specs.Prelude.{nat_le}
+use Rattle.std.proofs.Common.{◌≡◌, refl, sym, ◌∙◌, ℕ, ◌+◌, ◌*◌, ◌≤◌, Bool, true, false, cond, eqb, List, [], ◌∷◌, ◌++◌, length, Some, None, ap, arith}
+use Rattle.std.specs.Prelude.{nat_le, ◌==◌, ◌||◌}
+use Rattle.std.proofs.lemmas.Bool.{eqb-true}
 use Rattle.std.specs.List.{list_all}
 use Rattle.std.specs.Int.{byte_len}
 use Rattle.std.proofs.lemmas.List.{length-append}
@@ -92,3 +93,30 @@ body_size M most [] m kind body short h = absurd h
 body_size M most (l ∷ ls) m kind body short h =
     let both = and_both (nat_le (longest l.fields) most) (is_short most ls) short in
     by_test M most l (rule_of ls kind) m body (le_of_test (longest l.fields) most both.0) (eqb kind l.kind) (body_size M most ls m kind body both.1) h
+
+-- ---- tables of which some messages are longer
+
+abbrev pub is_one_of : List ℕ → ℕ → Bool
+is_one_of [] kind = false
+is_one_of (k ∷ ks) kind = (kind == k) || is_one_of ks kind
+
+-- a table whose bodies have at most that many bytes, but for those of these numbers
+abbrev pub is_short_but : {M : Type 0} → List ℕ → ℕ → List (Rule M) → Bool
+is_short_but ks most table = list_all (λ l. is_one_of ks l.kind || nat_le (longest l.fields) most) table
+
+short_of : (b : Bool) (n most : ℕ) → b ≡ false → (b || nat_le n most) ≡ true → n ≤ most
+short_of true n most off e = absurd cc
+short_of false n most off e = le_of_test n most e
+
+by_test_but : (M : Type 0) (ks : List ℕ) (most : ℕ) (l k : Rule M) (m : M) (kind : ℕ) (body : List ℕ) → (is_one_of ks l.kind || nat_le (longest l.fields) most) ≡ true → is_one_of ks kind ≡ false → (b : Bool) → eqb kind l.kind ≡ b
+    → (RowSpells k.fields k.make m body → length body ≤ most) → (let j = cond b l k in RowSpells j.fields j.make m body) → length body ≤ most
+by_test_but M ks most l k m kind body short other true same others h =
+    let here : is_one_of ks l.kind ≡ false = ap (λ (n : ℕ). is_one_of ks n) (sym (eqb-true kind l.kind same)) ∙ other in
+    omega (arith, row_size M l.fields l.make m body h, short_of (is_one_of ks l.kind) (longest l.fields) most here short)
+by_test_but M ks most l k m kind body short other false same others h = others h
+
+pub body_size_but : (M : Type 0) (ks : List ℕ) (most : ℕ) (table : List (Rule M)) (m : M) (kind : ℕ) (body : List ℕ) → is_short_but ks most table ≡ true → is_one_of ks kind ≡ false → SpelledBy table m kind body → length body ≤ most
+body_size_but M ks most [] m kind body short other h = absurd h
+body_size_but M ks most (l ∷ ls) m kind body short other h =
+    let both = and_both (is_one_of ks l.kind || nat_le (longest l.fields) most) (is_short_but ks most ls) short in
+    by_test_but M ks most l (rule_of ls kind) m kind body both.0 other (eqb kind l.kind) refl (body_size_but M ks most ls m kind body both.1 other) h

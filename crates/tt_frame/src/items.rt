@@ -122,6 +122,14 @@ impl<T: ListItem, const MAX: usize> Items<T, MAX> {
     }
 }
 
+/// The bytes of an array. The contract says besides how many they are, which `fits` of an item may need.
+pub fn array_bytes<const N: usize>(bytes: &[u8; N]) -> &[u8]
+    ensures same { result.now ≡ bytes.now }
+    ensures length { length bytes.now ≡ N }
+{
+    bytes
+}
+
 /// The next `count` items.
 pub fn counted<T: ListItem, const MAX: usize>(
     alloc: Global,

@@ -1,21 +1,25 @@
 //! Each message of the coordinator, read and told by its line of the table.
-#![tactic(auto, unfolding(tt_frame::specs::Tables::Reads, tt_frame::specs::Families::Tells))]
+#![tactic(auto, unfolding(tt_frame::specs::Tables::Reads, tt_frame::specs::Tables::ReadsOrMemory, tt_frame::specs::Families::Tells))]
 
-ghost use Rattle.tt_frame.specs.Tables.{Reads};
+ghost use Rattle.tt_frame.specs.Tables.{Reads, ReadsOrMemory};
 ghost use Rattle.tt_frame.specs.Families.{Tells};
 ghost use Rattle.tt_coord.specs.Coord.{coord_messages, coord_family, server_update};
-ghost use Rattle.tt_coord.specs.declared.coord.CoordMsg.TheVariants.{GcError, ServerRegister, GcRegisterAck, ServerUpdate, ClientListing, ClientConnect, GcConnecting, SercliConnectFailed, GcConnectFailed, ClientConnected, GcDirectConnect, GcStunRequest, SercliStunResult, GcStunConnect, GcTurnConnect};
+ghost use Rattle.tt_coord.specs.declared.coord.CoordMsg.TheVariants.{GcError, ServerRegister, GcRegisterAck, ServerUpdate, ClientListing, GcListing, ClientConnect, GcConnecting, SercliConnectFailed, GcConnectFailed, ClientConnected, GcDirectConnect, GcStunRequest, SercliStunResult, GcStunConnect, GcNewgrfLookup, GcTurnConnect};
 
 use super::{
     CLIENT_CONNECT, CLIENT_CONNECTED, CLIENT_LISTING, CoordMsg, GC_CONNECT_FAILED, GC_CONNECTING,
-    GC_DIRECT_CONNECT, GC_ERROR, GC_REGISTER_ACK, GC_STUN_CONNECT, GC_STUN_REQUEST,
-    GC_TURN_CONNECT, SERCLI_CONNECT_FAILED, SERCLI_STUN_RESULT, SERVER_REGISTER, SERVER_UPDATE,
+    GC_DIRECT_CONNECT, GC_ERROR, GC_LISTING, GC_NEWGRF_LOOKUP, GC_REGISTER_ACK, GC_STUN_CONNECT,
+    GC_STUN_REQUEST, GC_TURN_CONNECT, SERCLI_CONNECT_FAILED, SERCLI_STUN_RESULT, SERVER_REGISTER,
+    SERVER_UPDATE,
 };
+use crate::file_list::LookupFiles;
 use crate::info::Info;
 use crate::parts::{VERSION, version};
+use crate::server_list::Servers;
+use std::alloc::Global;
 use tt_frame::{
-    Bad, Fields, OutOfMemory, Part, PartWriter, Text, UpTo, ended, number8, number16, number32,
-    tell, text, truth, up_to,
+    Bad, Fields, OutOfMemory, Part, PartWriter, Text, UpTo, counted, ended, number8, number16,
+    number16_up_to, number32, tell, tell_counted, text, truth, up_to,
 };
 
 pub(super) fn read_gc_error(f: &mut Fields) -> Result<CoordMsg, Bad>
@@ -177,6 +181,26 @@ pub(super) fn tell_client_listing<W: PartWriter>(
             Part::Always(VERSION),
             Part::Words(revision.bytes()),
         ],
+    )
+}
+
+pub(super) fn read_gc_listing(alloc: Global, f: &mut Fields) -> Result<CoordMsg, Bad>
+    ensures { ReadsOrMemory coord_messages GC_LISTING result f.old }
+{
+    let count = number16_up_to(f, 255)?;
+    let message = CoordMsg::GcListing {
+        items: counted(alloc, count, f)?,
+    };
+    ended(f, message)
+}
+
+pub(super) fn tell_gc_listing<W: PartWriter>(to: &mut W, items: &Servers) -> Result<(), OutOfMemory>
+    ensures { Tells coord_family W.word (GcListing items.now) result (W.text to.old) (W.text to.new) }
+{
+    tell_counted(
+        to,
+        &[Part::Head(GC_LISTING), Part::Count16(items.len() as u16)],
+        items,
     )
 }
 
@@ -420,6 +444,32 @@ pub(super) fn tell_gc_stun_connect<'a, W: PartWriter>(
             Part::Words(host.bytes()),
             Part::U16(port),
         ],
+    )
+}
+
+pub(super) fn read_gc_newgrf_lookup(alloc: Global, f: &mut Fields) -> Result<CoordMsg, Bad>
+    ensures { ReadsOrMemory coord_messages GC_NEWGRF_LOOKUP result f.old }
+{
+    let count: UpTo<62> = up_to(f)?;
+    let message = CoordMsg::GcNewgrfLookup {
+        items: counted(alloc, count.get().into(), f)?,
+    };
+    ended(f, message)
+}
+
+pub(super) fn tell_gc_newgrf_lookup<W: PartWriter>(
+    to: &mut W,
+    items: &LookupFiles,
+) -> Result<(), OutOfMemory>
+    ensures { Tells coord_family W.word (GcNewgrfLookup items.now) result (W.text to.old) (W.text to.new) }
+{
+    tell_counted(
+        to,
+        &[
+            Part::Head(GC_NEWGRF_LOOKUP),
+            Part::Count8(items.len() as u8),
+        ],
+        items,
     )
 }
 
