@@ -1,7 +1,4 @@
 pub mod Items
 pub mod Coord
-pub mod CoordApart
 pub mod Stun
-pub mod StunApart
 pub mod Turn
-pub mod TurnApart

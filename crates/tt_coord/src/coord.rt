@@ -1,11 +1,20 @@
 //! The messages between the coordinator and a server or a client.
-mod reading;
-mod writing;
+ghost use Rattle.std.specs.Prelude.{◌≡◌, ◌≢◌, ◌⊎◌, ℕ, ◌≤◌, ◌+◌, ◌++◌, length, take, IfOk, OnOk, OnErr, Ok, Err};
+ghost use Rattle.tt_frame.specs.declared.bad.Bad.TheVariants.{Malformed, Memory};
+ghost use Rattle.tt_frame.specs.Packet.{packet};
+ghost use Rattle.tt_frame.specs.Unread.{whole};
+ghost use Rattle.tt_frame.specs.Tables.{MessageReadOrMemory, Reads, ReadsOrMemory, StopsBy, name_by, read_by};
+ghost use Rattle.tt_frame.specs.Said.{each_said};
+ghost use Rattle.tt_frame.specs.Families.{Tells, family_said};
+ghost use Rattle.tt_coord.specs.Coord.{coord_messages, coord_family, CoordSpells, coord_kind_of, coord_body_bytes};
+
+mod messages;
 
 use crate::file_list::LookupFiles;
 use crate::info::Info;
 use crate::server_list::Servers;
-use tt_frame::{Text, UpTo};
+use std::alloc::Global;
+use tt_frame::{Bad, Fields, OutOfMemory, PartWriter, Text, UpTo, finish};
 
 /// A message between the coordinator and a server or a client. Each field's type holds exactly the values that have a
 /// spelling.
@@ -100,4 +109,209 @@ pub enum CoordMsg {
         ticket: Text<31>,
         host: Text<31>,
     },
+}
+
+// The numbers of the messages, named here and nowhere else.
+pub(crate) const GC_ERROR: u8 = 0;
+
+pub(crate) const SERVER_REGISTER: u8 = 1;
+
+pub(crate) const GC_REGISTER_ACK: u8 = 2;
+
+pub(crate) const SERVER_UPDATE: u8 = 3;
+
+pub(crate) const CLIENT_LISTING: u8 = 4;
+
+pub(crate) const GC_LISTING: u8 = 5;
+
+pub(crate) const CLIENT_CONNECT: u8 = 6;
+
+pub(crate) const GC_CONNECTING: u8 = 7;
+
+pub(crate) const SERCLI_CONNECT_FAILED: u8 = 8;
+
+pub(crate) const GC_CONNECT_FAILED: u8 = 9;
+
+pub(crate) const CLIENT_CONNECTED: u8 = 10;
+
+pub(crate) const GC_DIRECT_CONNECT: u8 = 11;
+
+pub(crate) const GC_STUN_REQUEST: u8 = 12;
+
+pub(crate) const SERCLI_STUN_RESULT: u8 = 13;
+
+pub(crate) const GC_STUN_CONNECT: u8 = 14;
+
+pub(crate) const GC_NEWGRF_LOOKUP: u8 = 15;
+
+pub(crate) const GC_TURN_CONNECT: u8 = 16;
+
+/// The message of that number, of those that take no memory.
+fn by_kind(kind: u8, f: &mut Fields) -> Result<CoordMsg, Bad>
+    requires start { f.old.at ≡ 0 }
+    requires no_listing { kind ≢ 5 }
+    requires no_lookup { kind ≢ 15 }
+    ensures { Reads coord_messages kind result f.old }
+{
+    match kind {
+        GC_ERROR => messages::read_gc_error(f),
+        SERVER_REGISTER => messages::read_server_register(f),
+        GC_REGISTER_ACK => messages::read_gc_register_ack(f),
+        SERVER_UPDATE => messages::read_server_update(f),
+        CLIENT_LISTING => messages::read_client_listing(f),
+        CLIENT_CONNECT => messages::read_client_connect(f),
+        GC_CONNECTING => messages::read_gc_connecting(f),
+        SERCLI_CONNECT_FAILED => messages::read_sercli_connect_failed(f),
+        GC_CONNECT_FAILED => messages::read_gc_connect_failed(f),
+        CLIENT_CONNECTED => messages::read_client_connected(f),
+        GC_DIRECT_CONNECT => messages::read_gc_direct_connect(f),
+        GC_STUN_REQUEST => messages::read_gc_stun_request(f),
+        SERCLI_STUN_RESULT => messages::read_sercli_stun_result(f),
+        GC_STUN_CONNECT => messages::read_gc_stun_connect(f),
+        GC_TURN_CONNECT => messages::read_gc_turn_connect(f),
+        _ => Err(Bad::Malformed { at: 0 }),
+    }
+}
+
+/// The message of that number.
+fn read(alloc: Global, kind: u8, f: &mut Fields) -> Result<CoordMsg, Bad>
+    requires start { f.old.at ≡ 0 }
+    ensures read { ReadsOrMemory coord_messages kind result f.old }
+    ensures memory { result ≡ Err Memory → (kind ≡ 5) ⊎ (kind ≡ 15) }
+{
+    match kind {
+        GC_LISTING => messages::read_gc_listing(alloc, f),
+        GC_NEWGRF_LOOKUP => messages::read_gc_newgrf_lookup(alloc, f),
+        _ => by_kind(kind, f),
+    }
+}
+
+/// Tells the message's parts.
+fn tell_parts<W: PartWriter>(message: &CoordMsg, to: &mut W) -> Result<(), OutOfMemory>
+    ensures { Tells coord_family W.word message.now result (W.text to.old) (W.text to.new) }
+{
+    match message {
+        CoordMsg::GcError { code, detail } => messages::tell_gc_error(to, *code, detail),
+        CoordMsg::ServerRegister {
+            kind,
+            port,
+            code,
+            secret,
+        } => messages::tell_server_register(to, *kind, *port, code, secret),
+        CoordMsg::GcRegisterAck { code, secret, way } => messages::tell_gc_register_ack(
+            to, code, secret, *way,
+        ),
+        CoordMsg::ServerUpdate { info } => messages::tell_server_update(
+            to,
+            &info.name,
+            &info.revision,
+            info.clients,
+            info.max,
+            info.companies,
+            info.password,
+            info.frame,
+        ),
+        CoordMsg::ClientListing { revision } => messages::tell_client_listing(to, revision),
+        CoordMsg::GcListing { items } => messages::tell_gc_listing(to, items),
+        CoordMsg::ClientConnect { code } => messages::tell_client_connect(to, code),
+        CoordMsg::GcConnecting { token, code } => messages::tell_gc_connecting(to, token, code),
+        CoordMsg::SercliConnectFailed { token, tracking } => messages::tell_sercli_connect_failed(
+            to, token, *tracking,
+        ),
+        CoordMsg::GcConnectFailed { token } => messages::tell_gc_connect_failed(to, token),
+        CoordMsg::ClientConnected { token } => messages::tell_client_connected(to, token),
+        CoordMsg::GcDirectConnect {
+            token,
+            tracking,
+            host,
+            port,
+        } => messages::tell_gc_direct_connect(to, token, *tracking, host, *port),
+        CoordMsg::GcStunRequest { token } => messages::tell_gc_stun_request(to, token),
+        CoordMsg::SercliStunResult { token, side, ok } => messages::tell_sercli_stun_result(
+            to, token, *side, *ok,
+        ),
+        CoordMsg::GcStunConnect {
+            token,
+            tracking,
+            side,
+            host,
+            port,
+        } => messages::tell_gc_stun_connect(to, token, *tracking, *side, host, *port),
+        CoordMsg::GcNewgrfLookup { items } => messages::tell_gc_newgrf_lookup(to, items),
+        CoordMsg::GcTurnConnect {
+            token,
+            tracking,
+            ticket,
+            host,
+        } => messages::tell_gc_turn_connect(to, token, *tracking, ticket, host),
+    }
+}
+
+impl CoordMsg {
+    /// The name of the message of that number, or no letters where no message has it.
+    pub fn name_of(kind: u8) -> &'static [u8]
+        ensures { result.now ≡ name_by coord_messages kind }
+    {
+        match kind {
+            GC_ERROR => b"GC_ERROR",
+            SERVER_REGISTER => b"SERVER_REGISTER",
+            GC_REGISTER_ACK => b"GC_REGISTER_ACK",
+            SERVER_UPDATE => b"SERVER_UPDATE",
+            CLIENT_LISTING => b"CLIENT_LISTING",
+            GC_LISTING => b"GC_LISTING",
+            CLIENT_CONNECT => b"CLIENT_CONNECT",
+            GC_CONNECTING => b"GC_CONNECTING",
+            SERCLI_CONNECT_FAILED => b"SERCLI_CONNECT_FAILED",
+            GC_CONNECT_FAILED => b"GC_CONNECT_FAILED",
+            CLIENT_CONNECTED => b"CLIENT_CONNECTED",
+            GC_DIRECT_CONNECT => b"GC_DIRECT_CONNECT",
+            GC_STUN_REQUEST => b"GC_STUN_REQUEST",
+            SERCLI_STUN_RESULT => b"SERCLI_STUN_RESULT",
+            GC_STUN_CONNECT => b"GC_STUN_CONNECT",
+            GC_NEWGRF_LOOKUP => b"GC_NEWGRF_LOOKUP",
+            GC_TURN_CONNECT => b"GC_TURN_CONNECT",
+            _ => &[],
+        }
+    }
+
+    /// The message that a packet of this number and body spells, or why it spells none.
+    pub fn decode(alloc: Global, kind: u8, body: &[u8]) -> Result<CoordMsg, Bad>
+        // What is read is spelled so.
+        ensures found { IfOk result (λ m. CoordSpells m kind body.now) }
+        // What is spelled so is read, unless memory runs out, which it can only for the two lists.
+        ensures only { (m : CoordMsg) → CoordSpells m kind body.now → (result ≡ Ok m) ⊎ (result ≡ Err Memory) }
+        ensures memory { result ≡ Err Memory → (kind ≡ 5) ⊎ (kind ≡ 15) }
+
+        // It is malformed only where nothing is spelled, and the place is that of the first field that isn't there, or of
+        // the first byte behind the last field, or 0 where no message has the number.
+        ensures nothing { (at : ℕ) (m : CoordMsg) → result ≡ Err (Malformed at) → CoordSpells m kind body.now → ⊥ }
+        ensures place { (at : ℕ) → result ≡ Err (Malformed at) → StopsBy coord_messages kind body.now at }
+
+        // All of this in one: the answer is what reading the body by the table gives.
+        ensures exact { MessageReadOrMemory result (read_by coord_messages kind (whole body.now)) }
+    {
+        read(alloc, kind, &mut Fields::new(body))
+    }
+
+    /// Tells the message's head and its parts, in order: what a writer writes for them stands behind what stood there.
+    pub fn tell<W: PartWriter>(&self, to: &mut W) -> Result<(), OutOfMemory>
+        ensures ok { OnOk result (W.text to.new ≡ W.text to.old ++ each_said W.word (family_said coord_family self.now)) }
+        ensures err { OnErr result (take (length (W.text to.old)) (W.text to.new) ≡ W.text to.old) }
+    {
+        tell_parts(self, to)
+    }
+
+    /// Appends the packet of the message, or nothing where memory is refused.
+    pub fn encode(&self, out: &mut Vec<u8>) -> Result<(), OutOfMemory>
+        // What is appended is one packet, whose number and body spell the message.
+        ensures ok { OnOk result (out.new.items ≡ out.old.items ++ packet (coord_kind_of self.now) (coord_body_bytes self.now)) }
+        ensures spelled { CoordSpells self.now (coord_kind_of self.now) (coord_body_bytes self.now) }
+        ensures size { length (coord_body_bytes self.now) + 3 ≤ 32767 }
+
+        ensures err { OnErr result (out.new.items ≡ out.old.items) }
+    {
+        let start = out.len();
+        let written = tell_parts(self, out);
+        finish(out, start, written)
+    }
 }

@@ -1,6 +1,4 @@
 //! A server's game, as the coordinator tells it to clients.
-ghost use Rattle.std.specs.Prelude.{◌≡◌};
-
 use tt_frame::Text;
 
 /// What a server says of its game.
@@ -20,19 +18,4 @@ pub struct Info {
     pub password: bool,
     /// Its frame.
     pub frame: u32,
-}
-
-impl Info {
-    /// Its numbers, in order.
-    pub(crate) fn numbers(&self) -> (u8, u8, u8, bool, u32)
-        ensures { result ≡ (self.now.clients, self.now.max, self.now.companies, self.now.password, self.now.frame) }
-    {
-        (
-            self.clients,
-            self.max,
-            self.companies,
-            self.password,
-            self.frame,
-        )
-    }
 }

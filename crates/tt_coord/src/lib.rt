@@ -23,6 +23,3 @@ pub use server_list::{Listed, Servers};
 pub use stun::StunMsg;
 pub use tt_frame::Bad;
 pub use turn::TurnMsg;
-
-#[cfg(test)]
-mod tests;

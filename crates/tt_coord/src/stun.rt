@@ -1,16 +1,17 @@
 //! The message to the STUN desk, by which a peer shows the address that it has to the outside.
-ghost use Rattle.std.specs.Prelude.{◌≡◌, ◌≢◌, ℕ, ◌≤◌, ◌+◌, ◌++◌, length, IfOk, OnOk, OnErr, Ok, Err};
+ghost use Rattle.std.specs.Prelude.{◌≡◌, ◌≢◌, ℕ, ◌≤◌, ◌+◌, ◌++◌, length, take, IfOk, OnOk, OnErr, Ok, Err};
 ghost use Rattle.tt_frame.specs.declared.bad.Bad.TheVariants.{Malformed, Memory};
 ghost use Rattle.tt_frame.specs.Packet.{packet};
 ghost use Rattle.tt_frame.specs.Unread.{whole};
-ghost use Rattle.tt_frame.specs.Tables.{MessageRead, StopsBy, read_by};
-ghost use Rattle.tt_frame.specs.Apart.{PartedFits};
-ghost use Rattle.tt_coord.specs.Stun.{stun_messages, StunSpells};
-ghost use Rattle.tt_coord.specs.StunApart.{stun_token, stun_side, stun_apart, stun_kind_of, stun_body_bytes};
+ghost use Rattle.tt_frame.specs.Tables.{MessageRead, Reads, StopsBy, name_by, read_by};
+ghost use Rattle.tt_frame.specs.Said.{each_said};
+ghost use Rattle.tt_frame.specs.Families.{Tells, family_said};
+ghost use Rattle.tt_coord.specs.Stun.{stun_messages, stun_family, StunSpells, stun_kind_of, stun_body_bytes};
 
-use crate::parts::{VERSION, version};
+mod messages;
+
 use std::alloc::Global;
-use tt_frame::{Bad, Fields, OutOfMemory, Part, Text, UpTo, append, ended, text, up_to};
+use tt_frame::{Bad, Fields, OutOfMemory, PartWriter, Text, UpTo, finish};
 
 /// A message to the STUN desk. Each field's type holds exactly the values that have a spelling.
 #[derive(Debug, PartialEq, Eq, Drop)]
@@ -19,69 +20,46 @@ pub enum StunMsg {
     SercliStun { token: Text<31>, side: UpTo<1> },
 }
 
-fn sercli_stun(f: &mut Fields) -> Result<StunMsg, Bad>
-    ensures { MessageRead result (read_by stun_messages 0 f.old) }
-{
-    version(f)?;
-    let message = StunMsg::SercliStun {
-        token: text(f)?,
-        side: up_to(f)?,
-    };
-    ended(f, message)
-}
+// The number of the message, named here and nowhere else.
+pub(crate) const SERCLI_STUN: u8 = 0;
 
 /// The message of that number.
 fn by_kind(kind: u8, f: &mut Fields) -> Result<StunMsg, Bad>
     requires { f.old.at ≡ 0 }
-    ensures { MessageRead result (read_by stun_messages kind f.old) }
+    ensures { Reads stun_messages kind result f.old }
 {
     match kind {
-        0 => sercli_stun(f),
+        SERCLI_STUN => messages::read_sercli_stun(f),
         _ => Err(Bad::Malformed { at: 0 }),
     }
 }
 
 fn read(kind: u8, body: &[u8]) -> Result<StunMsg, Bad>
-    ensures { MessageRead result (read_by stun_messages kind (whole body.now)) }
+    ensures { Reads stun_messages kind result (whole body.now) }
 {
     by_kind(kind, &mut Fields::new(body))
 }
 
-fn token_of(message: &StunMsg) -> &Text<31>
-    ensures { result.now ≡ stun_token message.now }
+/// Tells the message's parts.
+fn tell_parts<W: PartWriter>(message: &StunMsg, to: &mut W) -> Result<(), OutOfMemory>
+    ensures { Tells stun_family W.word message.now result (W.text to.old) (W.text to.new) }
 {
     match message {
-        StunMsg::SercliStun { token, .. } => token,
+        StunMsg::SercliStun { token, side } => messages::tell_sercli_stun(to, token, *side),
     }
-}
-
-fn side_of(message: &StunMsg) -> &UpTo<1>
-    ensures { result.now ≡ stun_side message.now }
-{
-    match message {
-        StunMsg::SercliStun { side, .. } => side,
-    }
-}
-
-fn put(message: &StunMsg, out: &mut Vec<u8>) -> Result<(), OutOfMemory>
-    ensures fits { PartedFits stun_messages (stun_apart message.now) }
-    ensures ok { OnOk result (out.new.items ≡ out.old.items ++ packet (stun_kind_of message.now) (stun_body_bytes message.now)) }
-    ensures err { OnErr result (out.new.items ≡ out.old.items) }
-{
-    let token = token_of(message);
-    let side = side_of(message);
-    append(
-        out,
-        0,
-        &[
-            Part::U8(VERSION),
-            Part::Words(token.bytes()),
-            Part::U8(side.get()),
-        ],
-    )
 }
 
 impl StunMsg {
+    /// The name of the message of that number, or no letters where no message has it.
+    pub fn name_of(kind: u8) -> &'static [u8]
+        ensures { result.now ≡ name_by stun_messages kind }
+    {
+        match kind {
+            SERCLI_STUN => b"SERCLI_STUN",
+            _ => &[],
+        }
+    }
+
     /// The message that a packet of this number and body spells, or why it spells none.
     pub fn decode(_alloc: Global, kind: u8, body: &[u8]) -> Result<StunMsg, Bad>
         // What is read is spelled so.
@@ -101,6 +79,14 @@ impl StunMsg {
         read(kind, body)
     }
 
+    /// Tells the message's head and its parts, in order: what a writer writes for them stands behind what stood there.
+    pub fn tell<W: PartWriter>(&self, to: &mut W) -> Result<(), OutOfMemory>
+        ensures ok { OnOk result (W.text to.new ≡ W.text to.old ++ each_said W.word (family_said stun_family self.now)) }
+        ensures err { OnErr result (take (length (W.text to.old)) (W.text to.new) ≡ W.text to.old) }
+    {
+        tell_parts(self, to)
+    }
+
     /// Appends the packet of the message, or nothing where memory is refused.
     pub fn encode(&self, out: &mut Vec<u8>) -> Result<(), OutOfMemory>
         // What is appended is one packet, whose number and body spell the message.
@@ -110,6 +96,8 @@ impl StunMsg {
 
         ensures err { OnErr result (out.new.items ≡ out.old.items) }
     {
-        put(self, out)
+        let start = out.len();
+        let written = tell_parts(self, out);
+        finish(out, start, written)
     }
 }

@@ -1,16 +1,17 @@
 //! The messages between the TURN server and the peers that it connects.
-ghost use Rattle.std.specs.Prelude.{◌≡◌, ◌≢◌, ℕ, ◌≤◌, ◌+◌, ◌++◌, length, IfOk, OnOk, OnErr, Ok, Err};
+ghost use Rattle.std.specs.Prelude.{◌≡◌, ◌≢◌, ℕ, ◌≤◌, ◌+◌, ◌++◌, length, take, IfOk, OnOk, OnErr, Ok, Err};
 ghost use Rattle.tt_frame.specs.declared.bad.Bad.TheVariants.{Malformed, Memory};
 ghost use Rattle.tt_frame.specs.Packet.{packet};
 ghost use Rattle.tt_frame.specs.Unread.{whole};
-ghost use Rattle.tt_frame.specs.Tables.{MessageRead, StopsBy, read_by};
-ghost use Rattle.tt_frame.specs.Apart.{PartedFits};
-ghost use Rattle.tt_coord.specs.Turn.{turn_messages, TurnSpells};
-ghost use Rattle.tt_coord.specs.TurnApart.{turn_apart, turn_kind_of, turn_body_bytes};
+ghost use Rattle.tt_frame.specs.Tables.{MessageRead, Reads, StopsBy, name_by, read_by};
+ghost use Rattle.tt_frame.specs.Said.{each_said};
+ghost use Rattle.tt_frame.specs.Families.{Tells, family_said};
+ghost use Rattle.tt_coord.specs.Turn.{turn_messages, turn_family, TurnSpells, turn_kind_of, turn_body_bytes};
 
-use crate::parts::{VERSION, version};
+mod messages;
+
 use std::alloc::Global;
-use tt_frame::{Bad, Fields, OutOfMemory, Part, Text, append, ended, text};
+use tt_frame::{Bad, Fields, OutOfMemory, PartWriter, Text, finish};
 
 /// A message between the TURN server and a peer. Each field's type holds exactly the values that have a spelling.
 #[derive(Debug, PartialEq, Eq, Drop)]
@@ -23,57 +24,56 @@ pub enum TurnMsg {
     TurnConnected { host: Text<31> },
 }
 
-fn sercli_connect(f: &mut Fields) -> Result<TurnMsg, Bad>
-    ensures { MessageRead result (read_by turn_messages 1 f.old) }
-{
-    version(f)?;
-    let message = TurnMsg::SercliConnect { ticket: text(f)? };
-    ended(f, message)
-}
+// The numbers of the messages, named here and nowhere else.
+pub(crate) const TURN_ERROR: u8 = 0;
 
-fn turn_connected(f: &mut Fields) -> Result<TurnMsg, Bad>
-    ensures { MessageRead result (read_by turn_messages 2 f.old) }
-{
-    let message = TurnMsg::TurnConnected { host: text(f)? };
-    ended(f, message)
-}
+pub(crate) const SERCLI_CONNECT: u8 = 1;
+
+pub(crate) const TURN_CONNECTED: u8 = 2;
 
 /// The message of that number.
 fn by_kind(kind: u8, f: &mut Fields) -> Result<TurnMsg, Bad>
     requires { f.old.at ≡ 0 }
-    ensures { MessageRead result (read_by turn_messages kind f.old) }
+    ensures { Reads turn_messages kind result f.old }
 {
     match kind {
-        0 => ended(f, TurnMsg::TurnError),
-        1 => sercli_connect(f),
-        2 => turn_connected(f),
+        TURN_ERROR => messages::read_turn_error(f),
+        SERCLI_CONNECT => messages::read_sercli_connect(f),
+        TURN_CONNECTED => messages::read_turn_connected(f),
         _ => Err(Bad::Malformed { at: 0 }),
     }
 }
 
 fn read(kind: u8, body: &[u8]) -> Result<TurnMsg, Bad>
-    ensures { MessageRead result (read_by turn_messages kind (whole body.now)) }
+    ensures { Reads turn_messages kind result (whole body.now) }
 {
     by_kind(kind, &mut Fields::new(body))
 }
 
-fn put(message: &TurnMsg, out: &mut Vec<u8>) -> Result<(), OutOfMemory>
-    ensures fits { PartedFits turn_messages (turn_apart message.now) }
-    ensures ok { OnOk result (out.new.items ≡ out.old.items ++ packet (turn_kind_of message.now) (turn_body_bytes message.now)) }
-    ensures err { OnErr result (out.new.items ≡ out.old.items) }
+/// Tells the message's parts.
+fn tell_parts<W: PartWriter>(message: &TurnMsg, to: &mut W) -> Result<(), OutOfMemory>
+    ensures { Tells turn_family W.word message.now result (W.text to.old) (W.text to.new) }
 {
     match message {
-        TurnMsg::TurnError => append(out, 0, &[]),
-        TurnMsg::SercliConnect { ticket } => append(
-            out,
-            1,
-            &[Part::U8(VERSION), Part::Words(ticket.bytes())],
-        ),
-        TurnMsg::TurnConnected { host } => append(out, 2, &[Part::Words(host.bytes())]),
+        TurnMsg::TurnError => messages::tell_turn_error(to),
+        TurnMsg::SercliConnect { ticket } => messages::tell_sercli_connect(to, ticket),
+        TurnMsg::TurnConnected { host } => messages::tell_turn_connected(to, host),
     }
 }
 
 impl TurnMsg {
+    /// The name of the message of that number, or no letters where no message has it.
+    pub fn name_of(kind: u8) -> &'static [u8]
+        ensures { result.now ≡ name_by turn_messages kind }
+    {
+        match kind {
+            TURN_ERROR => b"TURN_ERROR",
+            SERCLI_CONNECT => b"SERCLI_CONNECT",
+            TURN_CONNECTED => b"TURN_CONNECTED",
+            _ => &[],
+        }
+    }
+
     /// The message that a packet of this number and body spells, or why it spells none.
     pub fn decode(_alloc: Global, kind: u8, body: &[u8]) -> Result<TurnMsg, Bad>
         // What is read is spelled so.
@@ -93,6 +93,14 @@ impl TurnMsg {
         read(kind, body)
     }
 
+    /// Tells the message's head and its parts, in order: what a writer writes for them stands behind what stood there.
+    pub fn tell<W: PartWriter>(&self, to: &mut W) -> Result<(), OutOfMemory>
+        ensures ok { OnOk result (W.text to.new ≡ W.text to.old ++ each_said W.word (family_said turn_family self.now)) }
+        ensures err { OnErr result (take (length (W.text to.old)) (W.text to.new) ≡ W.text to.old) }
+    {
+        tell_parts(self, to)
+    }
+
     /// Appends the packet of the message, or nothing where memory is refused.
     pub fn encode(&self, out: &mut Vec<u8>) -> Result<(), OutOfMemory>
         // What is appended is one packet, whose number and body spell the message.
@@ -102,6 +110,8 @@ impl TurnMsg {
 
         ensures err { OnErr result (out.new.items ≡ out.old.items) }
     {
-        put(self, out)
+        let start = out.len();
+        let written = tell_parts(self, out);
+        finish(out, start, written)
     }
 }

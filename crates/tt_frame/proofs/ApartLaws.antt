@@ -24,7 +24,7 @@ spelled_values M end make m body h = (tt, (h.0, h.1))
 spelled_values M (rest low high) make m body h = (body, (h.0, refl))
 spelled_values M (f ▸ r) make m body (x, (after, (fits, parts, more))) =
     let v = spelled_values M r (make x) m after more in
-    ((x, v.0), (v.1.0, parts ∙ ap (λ (b : List ℕ). spelled f x ++ b) v.1.1))
+    ((x, v.0), (v.1.0, parts ∙ ap (λ (b : List ℕ). spelled f.field x ++ b) v.1.1))
 spelled_values M (fixed b r) make m body (after, (parts, more)) =
     let v = spelled_values M r make m after more in
     (v.0, (v.1.0, parts ∙ ap (λ (rest : List ℕ). b ∷ rest) v.1.1))

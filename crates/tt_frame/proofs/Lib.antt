@@ -12,7 +12,9 @@ pub mod StopLaws
 pub mod TableLaws
 pub mod ApartLaws
 pub mod SizeLaws
+pub mod SaidLaws
 pub mod PartLaws
+pub mod FamilyLaws
 pub mod SealLaws
 pub mod ItemLoops
 pub mod MarkLoops

@@ -7,36 +7,36 @@ use Rattle.std.proofs.lemmas.List.{nil_from_length, length-append}
 use Rattle.tt_frame.specs.Packet.{IsBytes}
 use Rattle.tt_frame.specs.Unread.{Unread}
 use Rattle.tt_frame.specs.Reading.{◌>>=◌, within_at, fixed_at}
-use Rattle.tt_frame.specs.FieldForms.{count_width, count_limit, Field, within, up_to, Value, spelled, field_at}
+use Rattle.tt_frame.specs.FieldForms.{Named, count_width, count_limit, within, up_to, Value, spelled, field_at}
 use Rattle.tt_frame.specs.ItemForms.{Item, item_spelled, ItemFits, item_at, items_spelled, ItemsFit, items_at, marked_spelled, marked_at}
 use Rattle.tt_frame.specs.Rows.{Row, unknown, end, rest, ◌▸◌, fixed, counted, marked, Maker, RowSpells, row_at}
 use Rattle.tt_frame.proofs.FieldLaws.{bind_ok, guard_ok, passed_ok, ok_is, unread, Takes, Takes-then, field_takes, field_again, fixed_takes, fixed_again}
 
 -- ---- items
 
-pub item_takes : (fs : List Field) (s : Unread) (x : Item fs) (t : Unread) → IsBytes s.rest → item_at fs s ≡ Ok (x, t) → Takes s (item_spelled fs x) t × ItemFits fs x
+pub item_takes : (fs : List Named) (s : Unread) (x : Item fs) (t : Unread) → IsBytes s.rest → item_at fs s ≡ Ok (x, t) → Takes s (item_spelled fs x) t × ItemFits fs x
 item_takes [] s x t fits e =
     subst (λ (p : Unit {0} × Unread). Takes s [] p.1 × Unit {0}) (ok_is (tt, s) (x, t) e) (record { parts = refl; place = omega arith; rest_fits = fits }, tt)
 item_takes (f ∷ fs) s x t fits e =
-    let a = bind_ok (field_at f s) (λ v. item_at fs v.1 >>= λ y. Ok ((v.0, y.0), y.1)) (x, t) e in
+    let a = bind_ok (field_at f.field s) (λ v. item_at fs v.1 >>= λ y. Ok ((v.0, y.0), y.1)) (x, t) e in
     let b = bind_ok (item_at fs a.0.1) (λ y. Ok ((a.0.0, y.0), y.1)) (x, t) a.2 in
-    let first = field_takes f s a.0.0 a.0.1 fits a.1 in
+    let first = field_takes f.field s a.0.0 a.0.1 fits a.1 in
     let second = item_takes fs a.0.1 b.0.0 b.0.1 first.0.rest_fits b.1 in
     let made : Item (f ∷ fs) × Unread = ((a.0.0, b.0.0), b.0.1) in
     subst (λ (p : Item (f ∷ fs) × Unread). Takes s (item_spelled (f ∷ fs) p.0) p.1 × ItemFits (f ∷ fs) p.0) (ok_is made (x, t) b.2)
-    (Takes-then s (spelled f a.0.0) a.0.1 (item_spelled fs b.0.0) b.0.1 first.0 second.0, (first.1, second.1))
+    (Takes-then s (spelled f.field a.0.0) a.0.1 (item_spelled fs b.0.0) b.0.1 first.0 second.0, (first.1, second.1))
 
-item_again : (fs : List Field) (x : Item fs) (at : ℕ) (after : List ℕ) → ItemFits fs x → item_at fs (unread at (item_spelled fs x ++ after)) ≡ Ok (x, unread (at + length (item_spelled fs x)) after)
+item_again : (fs : List Named) (x : Item fs) (at : ℕ) (after : List ℕ) → ItemFits fs x → item_at fs (unread at (item_spelled fs x ++ after)) ≡ Ok (x, unread (at + length (item_spelled fs x)) after)
 item_again [] x at after fits = ap (λ (n : ℕ). Ok (tt, unread n after)) (omega arith)
 item_again (f ∷ fs) x at after fits =
-    let regrouped = append_assoc (spelled f x.0) (item_spelled fs x.1) after in
-    let n : (at + length (spelled f x.0)) + length (item_spelled fs x.1) ≡ at + length (spelled f x.0 ++ item_spelled fs x.1) = omega (arith, length-append (spelled f x.0) (item_spelled fs x.1)) in
+    let regrouped = append_assoc (spelled f.field x.0) (item_spelled fs x.1) after in
+    let n : (at + length (spelled f.field x.0)) + length (item_spelled fs x.1) ≡ at + length (spelled f.field x.0 ++ item_spelled fs x.1) = omega (arith, length-append (spelled f.field x.0) (item_spelled fs x.1)) in
     ap (λ (bs : List ℕ). item_at (f ∷ fs) (unread at bs)) regrouped
-    ∙ ap (λ (r : Result (Value f × Unread) ℕ). r >>= λ v. item_at fs v.1 >>= λ y. Ok ((v.0, y.0), y.1)) (field_again f x.0 at (item_spelled fs x.1 ++ after) fits.0)
-    ∙ ap (λ (r : Result (Item fs × Unread) ℕ). r >>= λ y. Ok ((x.0, y.0), y.1)) (item_again fs x.1 (at + length (spelled f x.0)) after fits.1)
+    ∙ ap (λ (r : Result (Value f.field × Unread) ℕ). r >>= λ v. item_at fs v.1 >>= λ y. Ok ((v.0, y.0), y.1)) (field_again f.field x.0 at (item_spelled fs x.1 ++ after) fits.0)
+    ∙ ap (λ (r : Result (Item fs × Unread) ℕ). r >>= λ y. Ok ((x.0, y.0), y.1)) (item_again fs x.1 (at + length (spelled f.field x.0)) after fits.1)
     ∙ ap (λ (k : ℕ). Ok (x, unread k after)) n
 
-pub items_take : (fs : List Field) (n : ℕ) (s : Unread) (xs : List (Item fs)) (t : Unread) → IsBytes s.rest → items_at fs n s ≡ Ok (xs, t) → Takes s (items_spelled fs xs) t × ItemsFit fs xs × (length xs ≡ n)
+pub items_take : (fs : List Named) (n : ℕ) (s : Unread) (xs : List (Item fs)) (t : Unread) → IsBytes s.rest → items_at fs n s ≡ Ok (xs, t) → Takes s (items_spelled fs xs) t × ItemsFit fs xs × (length xs ≡ n)
 unfolding items_at
 items_take fs zero s xs t fits e =
     subst (λ (p : List (Item fs) × Unread). Takes s (items_spelled fs p.0) p.1 × ItemsFit fs p.0 × (length p.0 ≡ 0)) (ok_is ([], s) (xs, t) e) (record { parts = refl; place = omega arith; rest_fits = fits }, tt, refl)
@@ -49,7 +49,7 @@ items_take fs (suc n) s xs t fits e =
     subst (λ (p : List (Item fs) × Unread). Takes s (items_spelled fs p.0) p.1 × ItemsFit fs p.0 × (length p.0 ≡ suc n)) (ok_is made (xs, t) b.2)
     (Takes-then s (item_spelled fs a.0.0) a.0.1 (items_spelled fs b.0.0) b.0.1 first.0 second.0, (first.1, second.1), ap suc second.2)
 
-items_again : (fs : List Field) (xs : List (Item fs)) (at : ℕ) (after : List ℕ) → ItemsFit fs xs → items_at fs (length xs) (unread at (items_spelled fs xs ++ after)) ≡ Ok (xs, unread (at + length (items_spelled fs xs)) after)
+items_again : (fs : List Named) (xs : List (Item fs)) (at : ℕ) (after : List ℕ) → ItemsFit fs xs → items_at fs (length xs) (unread at (items_spelled fs xs ++ after)) ≡ Ok (xs, unread (at + length (items_spelled fs xs)) after)
 unfolding items_at
 items_again fs [] at after fits = ap (λ (n : ℕ). Ok ([], unread n after)) (omega arith)
 items_again fs (x ∷ xs) at after fits =
@@ -72,7 +72,7 @@ is_one zero le e = absurd cc
 is_one (suc zero) le e = refl
 is_one (suc (suc n)) le e = absurd (omega arith)
 
-pub marked_take : (fs : List Field) (n : ℕ) (s : Unread) (xs : List (Item fs)) (t : Unread) → IsBytes s.rest → marked_at fs n s ≡ Ok (xs, t) → Takes s (marked_spelled fs xs) t × ItemsFit fs xs × (length xs ≤ n)
+pub marked_take : (fs : List Named) (n : ℕ) (s : Unread) (xs : List (Item fs)) (t : Unread) → IsBytes s.rest → marked_at fs n s ≡ Ok (xs, t) → Takes s (marked_spelled fs xs) t × ItemsFit fs xs × (length xs ≤ n)
 unfolding marked_at
 marked_take fs zero s xs t fits e =
     let a = bind_ok (within_at w8 0 s) (λ m. Ok ([], m.1)) (xs, t) e in
@@ -99,7 +99,7 @@ marked_take fs (suc n) s xs t fits e =
           (Takes-then s (1 ∷ item_spelled fs b.0.0) b.0.1 (marked_spelled fs c.0.0) c.0.1 two third.0, (second.1, third.1), omega (arith, third.2))
     ]
 
-marked_again : (fs : List Field) (n : ℕ) (xs : List (Item fs)) (at : ℕ) (after : List ℕ) → length xs ≤ n → ItemsFit fs xs → marked_at fs n (unread at (marked_spelled fs xs ++ after)) ≡ Ok (xs, unread (at + length (marked_spelled fs xs)) after)
+marked_again : (fs : List Named) (n : ℕ) (xs : List (Item fs)) (at : ℕ) (after : List ℕ) → length xs ≤ n → ItemsFit fs xs → marked_at fs n (unread at (marked_spelled fs xs ++ after)) ≡ Ok (xs, unread (at + length (marked_spelled fs xs)) after)
 unfolding marked_at
 marked_again fs zero [] at after le fits =
     ap (λ (o : Result (ℕ × Unread) ℕ). o >>= λ m. Ok ([], m.1)) (field_again (up_to 0) 0 at after (omega arith, omega arith))
@@ -132,8 +132,8 @@ row_takes {M} (rest low high) make s m fits e =
     neither true b e = absurd cc
     neither false b e = (refl, e)
 row_takes {M} (f ▸ r) make s m fits e =
-    let a = bind_ok (field_at f s) (λ x. row_at r (make x.0) x.1) m e in
-    let first = field_takes f s a.0.0 a.0.1 fits a.1 in
+    let a = bind_ok (field_at f.field s) (λ x. row_at r (make x.0) x.1) m e in
+    let first = field_takes f.field s a.0.0 a.0.1 fits a.1 in
     (a.0.0, (a.0.1.rest, (first.1, first.0.parts, row_takes r (make a.0.0) a.0.1 m first.0.rest_fits a.2)))
 row_takes {M} (fixed b r) make s m fits e =
     let a = bind_ok (fixed_at b s) (λ t. row_at r make t) m e in
@@ -161,8 +161,8 @@ row_again {M} (rest low high) make m at body h =
     rw (a, b) (ap Ok (sym h.0))
 row_again {M} (f ▸ r) make m at body (x, (after, (fits, parts, more))) =
     ap (λ (bs : List ℕ). row_at (f ▸ r) make (unread at bs)) parts
-    ∙ ap (λ (o : Result (Value f × Unread) ℕ). o >>= λ v. row_at r (make v.0) v.1) (field_again f x at after fits)
-    ∙ row_again r (make x) m (at + length (spelled f x)) after more
+    ∙ ap (λ (o : Result (Value f.field × Unread) ℕ). o >>= λ v. row_at r (make v.0) v.1) (field_again f.field x at after fits)
+    ∙ row_again r (make x) m (at + length (spelled f.field x)) after more
 row_again {M} (fixed b r) make m at body (after, (parts, more)) =
     ap (λ (bs : List ℕ). row_at (fixed b r) make (unread at bs)) parts
     ∙ ap (λ (o : Result Unread ℕ). o >>= λ t. row_at r make t) (fixed_again b at after)

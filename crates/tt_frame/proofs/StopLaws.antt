@@ -7,7 +7,7 @@ use Rattle.tt_frame.specs.Packet.{IsBytes}
 use Rattle.tt_frame.specs.Unread.{Unread, skip, GoesOver}
 use Rattle.tt_frame.specs.Text.{is_text, is_digest}
 use Rattle.tt_frame.specs.Reading.{◌>>=◌, number_at, within_at, truth_at, fixed_at, before_zero, kept, kept_or_none, text_at, digest_at, optional_digest_at, raw_at}
-use Rattle.tt_frame.specs.FieldForms.{count_width, Field, u8, u16, u32, u64, within, up_to, truth, text, digest, optional_digest, raw, Value, spelled, Fits, field_at}
+use Rattle.tt_frame.specs.FieldForms.{Named, count_width, Field, u8, u16, u32, u64, within, up_to, truth, text, digest, optional_digest, raw, Value, spelled, Fits, field_at}
 use Rattle.tt_frame.specs.ItemForms.{item_spelled, item_at, items_spelled, items_at, marked_spelled, marked_at}
 use Rattle.tt_frame.specs.Rows.{Row, unknown, end, rest, ◌▸◌, fixed, counted, marked, Maker, row_at}
 use Rattle.tt_frame.specs.Stops.{FieldStops, FixedStops, ItemStops, ItemsStop, MarkedStops, RowStops}
@@ -126,20 +126,20 @@ field_absent f s at fits = (λ e. field_stops f s at e, λ stops. absent_is f s 
 
 -- ---- where items and rows stop
 
-item_stops : (fs : List Field) (s : Unread) (at : ℕ) → IsBytes s.rest → item_at fs s ≡ Err at → ItemStops fs s at
+item_stops : (fs : List Named) (s : Unread) (at : ℕ) → IsBytes s.rest → item_at fs s ≡ Err at → ItemStops fs s at
 item_stops [] s at fits e = absurd cc
 item_stops (f ∷ fs) s at fits e =
-    elim (bind_err (field_at f s) (λ v. item_at fs v.1 >>= λ y. Ok ((v.0, y.0), y.1)) at e) [
-      | inl h ↦ inl (field_stops f s at h)
+    elim (bind_err (field_at f.field s) (λ v. item_at fs v.1 >>= λ y. Ok ((v.0, y.0), y.1)) at e) [
+      | inl h ↦ inl (field_stops f.field s at h)
       | inr p ↦
-          let taken = field_takes f s p.0.0 p.0.1 fits p.1.0 in
+          let taken = field_takes f.field s p.0.0 p.0.1 fits p.1.0 in
           elim (bind_err (item_at fs p.0.1) (λ y. Ok ((p.0.0, y.0), y.1)) at p.1.1) [
-            | inl h ↦ inr (p.0.0, (p.0.1, (taken.1, goes s (spelled f p.0.0) p.0.1 taken.0, item_stops fs p.0.1 at taken.0.rest_fits h)))
+            | inl h ↦ inr (p.0.0, (p.0.1, (taken.1, goes s (spelled f.field p.0.0) p.0.1 taken.0, item_stops fs p.0.1 at taken.0.rest_fits h)))
             | inr q ↦ absurd (let h = q.1.1 in cc)
           ]
     ]
 
-items_stop : (fs : List Field) (n : ℕ) (s : Unread) (at : ℕ) → IsBytes s.rest → items_at fs n s ≡ Err at → ItemsStop fs n s at
+items_stop : (fs : List Named) (n : ℕ) (s : Unread) (at : ℕ) → IsBytes s.rest → items_at fs n s ≡ Err at → ItemsStop fs n s at
 unfolding items_at
 items_stop fs zero s at fits e = absurd cc
 items_stop fs (suc n) s at fits e =
@@ -153,7 +153,7 @@ items_stop fs (suc n) s at fits e =
           ]
     ]
 
-marked_stops : (fs : List Field) (n : ℕ) (s : Unread) (at : ℕ) → IsBytes s.rest → marked_at fs n s ≡ Err at → MarkedStops fs n s at
+marked_stops : (fs : List Named) (n : ℕ) (s : Unread) (at : ℕ) → IsBytes s.rest → marked_at fs n s ≡ Err at → MarkedStops fs n s at
 unfolding marked_at
 marked_stops fs zero s at fits e =
     elim (bind_err (within_at w8 0 s) (λ m. Ok ([], m.1)) at e) [
@@ -200,11 +200,11 @@ row_stops M (rest low high) make s at fits e =
     let g = guard_err (ltb (length s.rest) low || ltb high (length s.rest)) s.at at (make s.rest) e in
     (g.1, elim (either_over (ltb (length s.rest) low) (ltb high (length s.rest)) g.0) [ inl h ↦ inl (ltb-true _ _ h) | inr h ↦ inr (ltb-true _ _ h) ])
 row_stops M (f ▸ r) make s at fits e =
-    elim (bind_err (field_at f s) (λ x. row_at r (make x.0) x.1) at e) [
-      | inl h ↦ inl (field_stops f s at h)
+    elim (bind_err (field_at f.field s) (λ x. row_at r (make x.0) x.1) at e) [
+      | inl h ↦ inl (field_stops f.field s at h)
       | inr p ↦
-          let taken = field_takes f s p.0.0 p.0.1 fits p.1.0 in
-          inr (p.0.0, (p.0.1, (taken.1, goes s (spelled f p.0.0) p.0.1 taken.0, row_stops M r (make p.0.0) p.0.1 at taken.0.rest_fits p.1.1)))
+          let taken = field_takes f.field s p.0.0 p.0.1 fits p.1.0 in
+          inr (p.0.0, (p.0.1, (taken.1, goes s (spelled f.field p.0.0) p.0.1 taken.0, row_stops M r (make p.0.0) p.0.1 at taken.0.rest_fits p.1.1)))
     ]
 row_stops M (fixed b r) make s at fits e =
     elim (bind_err (fixed_at b s) (λ t. row_at r make t) at e) [

@@ -3,10 +3,10 @@
 use Rattle.std.proofs.Common.{◌≡◌, ℕ, List, Result, Ok, Err, sym, ap, subst, refl, ◌∙◌, ◌⊎◌, inl, inr}
 use Rattle.std.specs.Prelude.{◌≢◌, IfOk}
 use Rattle.tt_frame.specs.Packet.{IsBytes}
-use Rattle.tt_frame.specs.Unread.{whole}
+use Rattle.tt_frame.specs.Unread.{Unread, whole}
 use Rattle.tt_frame.specs.declared.bad.Bad.{Bad}
 use Rattle.tt_frame.specs.declared.bad.Bad.TheVariants.{Memory, Malformed}
-use Rattle.tt_frame.specs.Tables.{Rule, rule_of, SpelledBy, read_by, MessageRead, MessageReadOrMemory, StopsBy}
+use Rattle.tt_frame.specs.Tables.{Rule, rule_of, SpelledBy, read_by, MessageRead, MessageReadOrMemory, Reads, ReadsOrMemory, StopsBy}
 use Rattle.tt_frame.proofs.FieldLaws.{ok_is}
 use Rattle.tt_frame.proofs.RowLaws.{row_takes, row_again}
 use Rattle.tt_frame.proofs.StopLaws.{row_stops}
@@ -53,3 +53,35 @@ stops_at {M} table kind body (Err Memory) at fits e made = absurd cc
 stops_at {M} table kind body (Err (Malformed here)) at fits e made =
     let same : here ≡ at = cc in
     row_stops M (rule_of table kind).fields (rule_of table kind).make (whole body) at fits (made ∙ ap (λ (n : ℕ). Err n) same)
+
+-- ---- what stays shut
+
+pub reads : {M : Type 0} (table : List (Rule M)) (kind : ℕ) (r : Result M Bad) (s : Unread) → Reads table kind r s → MessageRead r (read_by table kind s)
+unfolding Reads
+reads table kind r s read = read
+
+pub reads_or_memory : {M : Type 0} (table : List (Rule M)) (kind : ℕ) (r : Result M Bad) (s : Unread) → ReadsOrMemory table kind r s → MessageReadOrMemory r (read_by table kind s)
+unfolding ReadsOrMemory
+reads_or_memory table kind r s read = read
+
+-- a call that takes no memory is one that may
+pub Reads-may : {M : Type 0} (table : List (Rule M)) (kind : ℕ) (r : Result M Bad) (s : Unread) → Reads table kind r s → ReadsOrMemory table kind r s
+unfolding Reads ReadsOrMemory
+Reads-may table kind r s read = or_memory r (read_by table kind s) read
+
+-- ---- the clauses of a decoder that reads the whole of a body, s being what its reader stands at
+
+pub exact_by : {M : Type 0} (table : List (Rule M)) (kind : ℕ) (body : List ℕ) (s : Unread) (r : Result M Bad) → s ≡ whole body → ReadsOrMemory table kind r s → MessageReadOrMemory r (read_by table kind (whole body))
+exact_by {M} table kind body s r here read = subst (λ (u : Unread). MessageReadOrMemory r (read_by table kind u)) here (reads_or_memory table kind r s read)
+
+pub found_by : {M : Type 0} (table : List (Rule M)) (kind : ℕ) (body : List ℕ) (s : Unread) (r : Result M Bad) → IsBytes body → s ≡ whole body → ReadsOrMemory table kind r s → IfOk r (λ m. SpelledBy table m kind body)
+found_by table kind body s r fits here read = is_found table kind body r fits (exact_by table kind body s r here read)
+
+pub only_by : {M : Type 0} (table : List (Rule M)) (kind : ℕ) (body : List ℕ) (s : Unread) (r : Result M Bad) (m : M) → SpelledBy table m kind body → s ≡ whole body → ReadsOrMemory table kind r s → (r ≡ Ok m) ⊎ (r ≡ Err Memory)
+only_by table kind body s r m spelled here read = is_read_or_memory table kind body r m spelled (exact_by table kind body s r here read)
+
+pub nothing_by : {M : Type 0} (table : List (Rule M)) (kind : ℕ) (body : List ℕ) (s : Unread) (r : Result M Bad) (at : ℕ) (m : M) → r ≡ Err (Malformed at) → SpelledBy table m kind body → s ≡ whole body → ReadsOrMemory table kind r s → ⊥
+nothing_by table kind body s r at m e spelled here read = is_nothing table kind body r at m e (exact_by table kind body s r here read) spelled
+
+pub stops_by : {M : Type 0} (table : List (Rule M)) (kind : ℕ) (body : List ℕ) (s : Unread) (r : Result M Bad) (at : ℕ) → IsBytes body → r ≡ Err (Malformed at) → s ≡ whole body → ReadsOrMemory table kind r s → StopsBy table kind body at
+stops_by table kind body s r at fits e here read = stops_at table kind body r at fits e (exact_by table kind body s r here read)

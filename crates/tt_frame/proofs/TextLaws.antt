@@ -3,6 +3,7 @@ use Rattle.std.proofs.Common.{◌≡◌, ℕ, ◌≤◌, ◌<◌, ◌↔◌, Lis
 use Rattle.std.specs.Prelude.{◌&&◌, ◌==◌, nat_le}
 use Rattle.std.specs.List.{list_all}
 use Rattle.std.specs.Str.{IsUtf8, is_utf8}
+use Rattle.std.proofs.lemmas.Bool.{lt-leb}
 use Rattle.std.proofs.lemmas.Str.{IsUtf8-from_is_utf8, IsUtf8-from_ascii, is_utf8-from_IsUtf8}
 use Rattle.std.proofs.lemmas.Str.Ascii.{IsAscii-from_all}
 use Rattle.std.proofs.lemmas.List.Elements.{All-weaker}
@@ -80,3 +81,13 @@ digits_of bytes e = (and_both (length bytes == 32) (list_all is_hex_digit bytes)
 -- a digest is a text
 pub IsText-from_is_digest : (bytes : List ℕ) → is_digest bytes ≡ true → IsText bytes
 IsText-from_is_digest bytes e = IsText-from_is_plain bytes (list_all-from_AllPass (λ b. nat_le 32 b && nat_le b 126) bytes (All-weaker (λ b. is_hex_digit b ≡ true) (λ b. nat_le 32 b && nat_le b 126 ≡ true) plain_digit bytes (AllPass-from_list_all is_hex_digit bytes (digits_of bytes e))))
+
+-- of bytes that are few enough only the test of a text of any length is left
+pub is_text-short : (max : ℕ) (bytes : List ℕ) → length bytes ≤ max → is_text max bytes ≡ (list_all is_shown bytes && is_utf8 bytes)
+unfolding is_text
+is_text-short max bytes le = rw (test_of_le (length bytes) max le) refl
+
+-- bytes that are too many are no text
+pub is_text-long : (max : ℕ) (bytes : List ℕ) → max < length bytes → is_text max bytes ≡ false
+unfolding is_text
+is_text-long max bytes lt = let no : nat_le (length bytes) max ≡ false = lt-leb (length bytes) max lt in rw no refl

@@ -10,7 +10,7 @@ abbrev pub Values : Row → Type 0
 Values unknown = ⊥
 Values end = Unit {0}
 Values (rest low high) = List ℕ
-Values (f ▸ r) = Value f × Values r
+Values (f ▸ r) = Value f.field × Values r
 Values (fixed byte r) = Values r
 Values (counted w max fs r) = List (Item fs) × Values r
 Values (marked max fs r) = List (Item fs) × Values r
@@ -20,7 +20,7 @@ abbrev pub body_of : (r : Row) → Values r → List ℕ
 body_of unknown v = absurd v
 body_of end v = []
 body_of (rest low high) v = v
-body_of (f ▸ r) v = spelled f v.0 ++ body_of r v.1
+body_of (f ▸ r) v = spelled f.field v.0 ++ body_of r v.1
 body_of (fixed byte r) v = byte ∷ body_of r v
 body_of (counted w max fs r) v = (spelled (within w max) (length v.0) ++ items_spelled fs v.0) ++ body_of r v.1
 body_of (marked max fs r) v = marked_spelled fs v.0 ++ body_of r v.1
@@ -30,7 +30,7 @@ abbrev pub ValuesFit : (r : Row) → Values r → Type 0
 ValuesFit unknown v = ⊥
 ValuesFit end v = Unit {0}
 ValuesFit (rest low high) v = (low ≤ length v) × (length v ≤ high)
-ValuesFit (f ▸ r) v = Fits f v.0 × ValuesFit r v.1
+ValuesFit (f ▸ r) v = Fits f.field v.0 × ValuesFit r v.1
 ValuesFit (fixed byte r) v = ValuesFit r v
 ValuesFit (counted w max fs r) v = Fits (within w max) (length v.0) × ItemsFit fs v.0 × ValuesFit r v.1
 ValuesFit (marked max fs r) v = (length v.0 ≤ max) × ItemsFit fs v.0 × ValuesFit r v.1

@@ -1,5 +1,6 @@
 -- The forms of a field of a message: what its value is, what it is spelled as, which values it has, and how it is read.
 use Rattle.std.specs.Prelude.{◌≡◌, ℕ, ◌^◌, ◌<◌, ◌≤◌, Bool, true, false, List, [], length, Option, Some, None, Result}
+use Prim.Native.String.{String}
 use Rattle.std.specs.Int.{Width, w8, w16, w32, w64, to_le_bytes}
 use Rattle.tt_frame.specs.Text.{is_text, is_digest, text_bytes}
 use Rattle.tt_frame.specs.Unread.{Unread}
@@ -35,6 +36,16 @@ pub data Field : Type 0 where
   optional_digest : Field
   -- n bytes as they are
   raw : (n : ℕ) → Field
+
+-- a field as it stands in a row or in an item: its name, and its form
+pub record Named : Type 0 where
+  pub name : String
+  pub field : Field
+
+-- how it is written in a table: "token" ⦂ text 31
+infix 70 ◌⦂◌
+abbrev pub ◌⦂◌ : String → Field → Named
+name ⦂ field = record { name = name; field = field }
 
 -- a byte from 0 to max
 abbrev pub up_to : ℕ → Field

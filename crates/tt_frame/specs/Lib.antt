@@ -13,4 +13,6 @@ pub mod Rows
 pub mod Stops
 pub mod Tables
 pub mod Apart
+pub mod Said
 pub mod Parts
+pub mod Families

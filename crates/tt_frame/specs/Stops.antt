@@ -2,7 +2,7 @@
 -- This has no reader in it: it speaks of fields that stand there, and of one that does not.
 use Rattle.std.specs.Prelude.{◌≡◌, ℕ, zero, suc, ◌<◌, ◌⊎◌, List, [], ◌∷◌, ◌++◌, length}
 use Rattle.tt_frame.specs.Unread.{Unread, GoesOver}
-use Rattle.tt_frame.specs.FieldForms.{Field, within, up_to, Value, spelled, Fits}
+use Rattle.tt_frame.specs.FieldForms.{Named, Field, within, up_to, Value, spelled, Fits}
 use Rattle.tt_frame.specs.ItemForms.{Item, item_spelled, ItemFits, items_spelled, ItemsFit, marked_spelled}
 use Rattle.tt_frame.specs.Rows.{Row, unknown, end, rest, ◌▸◌, fixed, counted, marked}
 
@@ -19,21 +19,21 @@ abbrev pub FixedStops : ℕ → Unread → ℕ → Type 0
 FixedStops byte s at = (at ≡ s.at) × ((after : List ℕ) → s.rest ≡ byte ∷ after → ⊥)
 
 -- an item stops at the first of its fields that isn't there
-abbrev pub ItemStops : List Field → Unread → ℕ → Type 0
+abbrev pub ItemStops : List Named → Unread → ℕ → Type 0
 ItemStops [] s at = ⊥
 ItemStops (f ∷ fs) s at =
-    FieldStops f s at
-    ⊎ ((x : Value f) × ((t : Unread) × (Fits f x × GoesOver s (spelled f x) t × ItemStops fs t at)))
+    FieldStops f.field s at
+    ⊎ ((x : Value f.field) × ((t : Unread) × (Fits f.field x × GoesOver s (spelled f.field x) t × ItemStops fs t at)))
 
 -- n items stop where the first of them does that isn't there
-abbrev pub ItemsStop : List Field → ℕ → Unread → ℕ → Type 0
+abbrev pub ItemsStop : List Named → ℕ → Unread → ℕ → Type 0
 ItemsStop fs zero s at = ⊥
 ItemsStop fs (suc n) s at =
     ItemStops fs s at
     ⊎ ((x : Item fs) × ((t : Unread) × (ItemFits fs x × GoesOver s (item_spelled fs x) t × ItemsStop fs n t at)))
 
 -- at most n items, each behind a 1, stop at a mark that isn't there, or in an item
-abbrev pub MarkedStops : List Field → ℕ → Unread → ℕ → Type 0
+abbrev pub MarkedStops : List Named → ℕ → Unread → ℕ → Type 0
 MarkedStops fs zero s at = FieldStops (up_to 0) s at
 MarkedStops fs (suc n) s at =
     FieldStops (up_to 1) s at
@@ -48,8 +48,8 @@ RowStops unknown s at = at ≡ s.at
 RowStops end s at = (at ≡ s.at) × (0 < length s.rest)
 RowStops (rest low high) s at = (at ≡ s.at) × ((length s.rest < low) ⊎ (high < length s.rest))
 RowStops (f ▸ r) s at =
-    FieldStops f s at
-    ⊎ ((x : Value f) × ((t : Unread) × (Fits f x × GoesOver s (spelled f x) t × RowStops r t at)))
+    FieldStops f.field s at
+    ⊎ ((x : Value f.field) × ((t : Unread) × (Fits f.field x × GoesOver s (spelled f.field x) t × RowStops r t at)))
 RowStops (fixed byte r) s at =
     FixedStops byte s at
     ⊎ ((t : Unread) × (GoesOver s (byte ∷ []) t × RowStops r t at))

@@ -1,5 +1,7 @@
--- A table of messages: one line for each, with its number, its row, and the constructor that its values are handed to.
-use Rattle.std.specs.Prelude.{◌≡◌, ℕ, List, [], ◌∷◌, Result, Ok, Err, ◌==◌, if◌then◌else◌}
+-- A table of messages: one line for each, with its number, its name, its row, and the constructor that its values are
+-- handed to.
+use Prim.Native.String.{String}
+use Rattle.std.specs.Prelude.{◌≡◌, ℕ, List, [], ◌∷◌, codes, Result, Ok, Err, ◌==◌, if◌then◌else◌}
 use Rattle.tt_frame.specs.Unread.{Unread, whole}
 use Rattle.tt_frame.specs.Rows.{Row, unknown, Maker, RowSpells, row_at}
 use Rattle.tt_frame.specs.Stops.{RowStops}
@@ -9,21 +11,27 @@ use Rattle.tt_frame.specs.declared.bad.Bad.TheVariants.{Memory, Malformed}
 -- a line of a table of messages of the type M
 pub record Rule (M : Type 0) : Type 0 where
   pub kind : ℕ
+  pub name : String
   pub fields : Row
   pub make : Maker fields M
 
 -- how a line is written in a table
-abbrev pub row : {M : Type 0} → ℕ → (r : Row) → Maker r M → Rule M
-row kind r make = record { kind = kind; fields = r; make = make }
+abbrev pub row : {M : Type 0} → ℕ → String → (r : Row) → Maker r M → Rule M
+row kind name r make = record { kind = kind; name = name; fields = r; make = make }
 
 -- the line of a number that no message has
 abbrev pub no_rule : {M : Type 0} → Rule M
-no_rule = record { kind = 0; fields = unknown; make = tt }
+no_rule = record { kind = 0; name = ""; fields = unknown; make = tt }
 
 -- the line of that number, or one that spells nothing
 abbrev pub rule_of : {M : Type 0} → List (Rule M) → ℕ → Rule M
 rule_of [] kind = no_rule
 rule_of (l ∷ ls) kind = if kind == l.kind then l else rule_of ls kind
+
+-- the name that stands beside a number, and no letters where no message has it
+abbrev pub name_by : {M : Type 0} → List (Rule M) → ℕ → List ℕ
+name_by [] kind = []
+name_by (l ∷ ls) kind = if kind == l.kind then codes l.name else name_by ls kind
 
 -- a body of that number spells the message
 abbrev pub SpelledBy : {M : Type 0} → List (Rule M) → M → ℕ → List ℕ → Type 0
@@ -48,3 +56,11 @@ abbrev pub MessageReadOrMemory : {M : Type 0} → Result M Bad → Result M ℕ 
 MessageReadOrMemory (Ok m) reading = reading ≡ Ok m
 MessageReadOrMemory (Err Memory) reading = Unit {0}
 MessageReadOrMemory (Err (Malformed at)) reading = reading ≡ Err at
+
+-- These say the same of one number, and stay shut: so what a message's own function says of its number, the dispatch says of
+-- the number that it was given.
+unfoldable pub Reads : {M : Type 0} → List (Rule M) → ℕ → Result M Bad → Unread → Type 0
+Reads table kind result s = MessageRead result (read_by table kind s)
+
+unfoldable pub ReadsOrMemory : {M : Type 0} → List (Rule M) → ℕ → Result M Bad → Unread → Type 0
+ReadsOrMemory table kind result s = MessageReadOrMemory result (read_by table kind s)

@@ -104,15 +104,19 @@ pub fn fixed(f: &mut Fields, byte: u8) -> Result<(), Bad>
 }
 
 /// A text of at most `N` bytes.
+#[tactic(auto, unfolding(crate::specs::Reading::text_at))]
 pub fn text<const N: usize>(f: &mut Fields) -> Result<Text<N>, Bad>
     ensures { FieldRead (λ t. t) result f.new (text_at N f.old) }
 {
-    let Some(bytes) = f.text(N) else {
+    let Some(bytes) = f.ahead(N) else {
         return Err(Bad::Malformed { at: f.at() });
     };
     match Text::new(bytes) {
-        Some(text) => Ok(text),
-        None => unreachable!(),
+        Some(text) => {
+            f.pass(bytes.len() + 1);
+            Ok(text)
+        }
+        None => Err(Bad::Malformed { at: f.at() }),
     }
 }
 

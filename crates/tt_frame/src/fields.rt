@@ -230,7 +230,7 @@ impl<'a> Fields<'a> {
     }
 
     /// The bytes before a zero, where it is among the next `max + 1` bytes; nothing is taken.
-    fn ahead(&self, max: usize) -> Option<&'a [u8]>
+    pub(crate) fn ahead(&self, max: usize) -> Option<&'a [u8]>
         ensures { MatchOption result (before_zero max self.now.rest ≡ None) (λ s. (before_zero max self.now.rest ≡ Some s.now) × (length s.now < length self.now.rest)) }
     {
         match zero_place(self.rest, max) {
@@ -240,7 +240,7 @@ impl<'a> Fields<'a> {
     }
 
     /// Goes over the next `n` bytes.
-    fn pass(&mut self, n: usize)
+    pub(crate) fn pass(&mut self, n: usize)
         requires { n ≤ length self.old.rest }
         ensures { self.new ≡ skip n self.old }
     {

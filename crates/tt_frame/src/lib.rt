@@ -15,13 +15,15 @@ mod decoding;
 mod digests;
 mod fields;
 mod framer;
+mod items;
 mod laws;
+mod long_texts;
 mod memory;
+mod parts;
 mod put;
 mod ranges;
 mod sealing;
 mod texts;
-mod writing;
 
 pub use bad::Bad;
 pub use decoding::{
@@ -31,13 +33,12 @@ pub use decoding::{
 pub use digests::{Digest, are_hex_digits, digits_or_none};
 pub use fields::Fields;
 pub use framer::{Framer, Next, first_of};
+pub use items::{Items, ListItem, array_bytes, counted, marked, tell_counted, tell_marked};
 pub use laws::{every_run, one_field, one_reading, text_test};
+pub use long_texts::{LongText, long_text};
 pub use memory::OutOfMemory;
+pub use parts::{Part, PartWriter, tell};
 pub use put::Put;
 pub use ranges::UpTo;
 pub use sealing::{finish, put_head};
 pub use texts::{Line, Name, Short, Text};
-pub use writing::{Part, append};
-
-#[cfg(test)]
-mod tests;

@@ -3,7 +3,7 @@
 //! A text is made by one tested constructor and is never tested again: `Text::new(bytes)`, `Name::new(bytes)`. It takes
 //! no memory, and neither does `copy`, which stands in for `Clone`. Of a literal in printable ASCII the check knows that
 //! it is a text: `match Name::new(b"tt") { Some(name) => name, None => unreachable!() }` needs no proof.
-ghost use Rattle.std.specs.Prelude.{◌≡◌, ℕ, ◌≤◌, ◌↔◌, List, length, true, false, IsSome, IfSome, MatchOption};
+ghost use Rattle.std.specs.Prelude.{◌≡◌, ℕ, ◌&&◌, ◌≤◌, ◌↔◌, List, length, true, false, IsSome, IfSome, MatchOption};
 ghost use Rattle.std.specs.List.{list_all};
 ghost use Rattle.std.specs.Str.{is_utf8};
 ghost use Rattle.tt_frame.specs.Text.{IsText, is_text, is_shown, is_plain};
@@ -52,6 +52,13 @@ fn is_utf8_bytes(bytes: &[u8]) -> bool
     }
 }
 
+/// Whether the bytes are a text of any length.
+fn are_text_bytes(bytes: &[u8]) -> bool
+    ensures { result ≡ list_all is_shown bytes.now && is_utf8 bytes.now }
+{
+    are_shown(bytes) && is_utf8_bytes(bytes)
+}
+
 /// Whether the bytes are a text of at most `max` bytes.
 #[tactic(auto, unfolding(crate::specs::Text::is_text))]
 pub(crate) fn is_text_bytes(bytes: &[u8], max: usize) -> bool
@@ -76,14 +83,13 @@ impl<const N: usize> Text<N> {
         // A literal of printable ASCII is a text, and a check sees it by itself.
         ensures plain { is_plain bytes.now ≡ true → length bytes.now ≤ N → IsSome result }
     {
-        if !is_text_bytes(bytes, N) {
+        let Ok(content) = ArrayVec::try_from(bytes) else {
+            return None;
+        };
+        if !are_text_bytes(bytes) {
             return None;
         }
-        let mut content = ArrayVec::new();
-        match content.try_extend_from_slice(bytes) {
-            Ok(()) => Some(Text { content }),
-            Err(_) => unreachable!(),
-        }
+        Some(Text { content })
     }
 
     /// Its bytes.

@@ -1,6 +1,7 @@
 -- Each message taken apart: the number and the body of its packet.
 use Rattle.std.specs.Prelude.{ℕ, List}
-use Rattle.tt_frame.specs.Apart.{Parted, part, parted_body}
+use Rattle.tt_frame.specs.Apart.{Parted, part}
+use Rattle.tt_frame.specs.Families.{Family, family_kind, family_body}
 use Rattle.tt_game.specs.declared.message.GameMsg.{GameMsg}
 use Rattle.tt_game.specs.declared.message.GameMsg.TheVariants.{ServerFull, ServerBanned, ClientJoin, ServerError, ClientGameInfo, ServerGameInfo, ServerCheckNewgrfs, ClientNewgrfsChecked, ServerNeedGamePassword, ClientGamePassword, ServerNeedCompanyPassword, ClientCompanyPassword, ServerWelcome, ClientGetmap, ServerWait, ServerMapBegin, ServerMapSize, ServerMapData, ServerMapDone, ClientMapOk, ServerJoin, ServerFrame, ServerSync, ClientAck, ClientCommand, ServerCommand, ClientChat, ServerChat, ClientSetName, ServerClientInfo, ClientSetPassword, ClientMove, ServerMove, ClientError, ServerErrorQuit, ClientQuit, ServerQuit, ServerShutdown, ServerNewgame}
 use Rattle.tt_game.specs.Messages.{messages}
@@ -47,10 +48,14 @@ apart (ServerQuit client) = part messages 36 (client, tt)
 apart ServerShutdown = part messages 37 tt
 apart ServerNewgame = part messages 38 tt
 
+-- the messages of a game
+abbrev pub game_family : Family GameMsg
+game_family = record { table = messages; apart = apart }
+
 -- its number
 abbrev pub kind_of : GameMsg → ℕ
-kind_of m = (apart m).kind
+kind_of m = family_kind game_family m
 
 -- the bytes of its body
 abbrev pub body_bytes : GameMsg → List ℕ
-body_bytes m = parted_body messages (apart m)
+body_bytes m = family_body game_family m

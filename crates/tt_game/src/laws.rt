@@ -13,9 +13,9 @@ pub fn one_spelling()
         → Spells m kind body → Spells m other bytes → (kind ≡ other) × (body ≡ bytes) }
 {}
 
-/// A message's packet has at most 32,767 bytes.
+/// A message's packet has at most 1,460 bytes: as many as a program of this project sends in one packet.
 pub fn small_packets()
-    ensures { (m : GameMsg) (kind : ℕ) (body : List ℕ) → Spells m kind body → length body + 3 ≤ 32767 }
+    ensures { (m : GameMsg) (kind : ℕ) (body : List ℕ) → Spells m kind body → length body + 3 ≤ 1460 }
 {}
 
 /// What is spelled is read.

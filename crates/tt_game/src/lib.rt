@@ -5,17 +5,13 @@
 #![tactic(auto)]
 
 mod files;
+mod kinds;
 mod laws;
 mod map_piece;
 mod message;
-mod reading;
-mod writing;
 
 pub use files::{File, Files};
 pub use laws::{one_spelling, round_trip, small_packets};
 pub use map_piece::MapPiece;
 pub use message::GameMsg;
 pub use tt_frame::Bad;
-
-#[cfg(test)]
-mod tests;

@@ -1,7 +1,19 @@
 //! The messages between a client and the server of a game.
+ghost use Rattle.std.specs.Prelude.{◌≡◌, ◌⊎◌, ℕ, ◌≤◌, ◌+◌, ◌++◌, length, take, IfOk, OnOk, OnErr, Ok, Err};
+ghost use Rattle.tt_frame.specs.declared.bad.Bad.TheVariants.{Malformed, Memory};
+ghost use Rattle.tt_frame.specs.Packet.{packet};
+ghost use Rattle.tt_frame.specs.Unread.{whole};
+ghost use Rattle.tt_frame.specs.Tables.{MessageReadOrMemory, StopsBy, name_by, read_by};
+ghost use Rattle.tt_frame.specs.Said.{each_said};
+ghost use Rattle.tt_frame.specs.Families.{family_said};
+ghost use Rattle.tt_game.specs.Messages.{messages, Spells, TakesMemory};
+ghost use Rattle.tt_game.specs.Apart.{game_family, kind_of, body_bytes};
+
 use crate::files::Files;
+use crate::kinds::{name_of, read, tell_parts};
 use crate::map_piece::MapPiece;
-use tt_frame::{Digest, Text, UpTo};
+use std::alloc::Global;
+use tt_frame::{Bad, Digest, LongText, OutOfMemory, PartWriter, Text, UpTo, finish};
 
 /// A message between a client and the server. Each field's type holds exactly the values that have a spelling.
 #[derive(Debug, PartialEq, Eq, Drop)]
@@ -130,13 +142,13 @@ pub enum GameMsg {
     ClientChat {
         scope: UpTo<2>,
         to: u32,
-        text: Text<899>,
+        text: LongText<899>,
     },
     /// 27, from the server: a line that this client said, in that scope.
     ServerChat {
         client: u32,
         scope: UpTo<2>,
-        text: Text<899>,
+        text: LongText<899>,
     },
     /// 28, from a client: its new name.
     ClientSetName {
@@ -181,4 +193,55 @@ pub enum GameMsg {
     ServerShutdown,
     /// 38, from the server: another game begins. It is never sent.
     ServerNewgame,
+}
+
+impl GameMsg {
+    /// The name of the message of that number, or no letters where no message has it.
+    pub fn name_of(kind: u8) -> &'static [u8]
+        ensures { result.now ≡ name_by messages kind }
+    {
+        name_of(kind)
+    }
+
+    /// The message that a packet of this number and body spells, or why it spells none.
+    pub fn decode(alloc: Global, kind: u8, body: &[u8]) -> Result<GameMsg, Bad>
+        // What is read is spelled so.
+        ensures found { IfOk result (λ m. Spells m kind body.now) }
+        // What is spelled so is read, unless memory runs out, and that only for the four kinds that take some: the files, a
+        // piece of the map, and a line of chat both ways.
+        ensures only { (m : GameMsg) → Spells m kind body.now → (result ≡ Ok m) ⊎ (result ≡ Err Memory) }
+        ensures memory { result ≡ Err Memory → TakesMemory kind }
+
+        // It is malformed only where nothing is spelled, and the place is that of the first field that isn't there, or of
+        // the first byte behind the last field, or 0 where no message has the number.
+        ensures nothing { (at : ℕ) (m : GameMsg) → result ≡ Err (Malformed at) → Spells m kind body.now → ⊥ }
+        ensures place { (at : ℕ) → result ≡ Err (Malformed at) → StopsBy messages kind body.now at }
+
+        // All of this in one: the answer is what reading the body by the table gives.
+        ensures exact { MessageReadOrMemory result (read_by messages kind (whole body.now)) }
+    {
+        read(alloc, kind, body)
+    }
+
+    /// Tells the message's head and its parts, in order: what a writer writes for them stands behind what stood there.
+    pub fn tell<W: PartWriter>(&self, to: &mut W) -> Result<(), OutOfMemory>
+        ensures ok { OnOk result (W.text to.new ≡ W.text to.old ++ each_said W.word (family_said game_family self.now)) }
+        ensures err { OnErr result (take (length (W.text to.old)) (W.text to.new) ≡ W.text to.old) }
+    {
+        tell_parts(self, to)
+    }
+
+    /// Appends the packet of the message, or nothing where memory is refused.
+    pub fn encode(&self, out: &mut Vec<u8>) -> Result<(), OutOfMemory>
+        // What is appended is one packet, whose number and body spell the message.
+        ensures ok { OnOk result (out.new.items ≡ out.old.items ++ packet (kind_of self.now) (body_bytes self.now)) }
+        ensures spelled { Spells self.now (kind_of self.now) (body_bytes self.now) }
+        ensures size { length (body_bytes self.now) + 3 ≤ 32767 }
+
+        ensures err { OnErr result (out.new.items ≡ out.old.items) }
+    {
+        let start = out.len();
+        let written = tell_parts(self, out);
+        finish(out, start, written)
+    }
 }

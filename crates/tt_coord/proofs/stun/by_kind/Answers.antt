@@ -1,5 +1,8 @@
--- One line for each number: the function of that message reads what the table's line says.
+-- No message has another number.
+use Rattle.std.proofs.Common.{rules}
+use Rattle.tt_frame.specs.Tables.{Reads}
 use Rattle.tt_coord.proofs.stun.by_kind.Goals as goal
 
-pub returns-in-0 : goal.returns-in-0
-returns-in-0 c = rw c.in-0.is c.sercli_stun.ensures
+pub returns-in_default : goal.returns-in_default
+unfolding Reads
+returns-in_default c = search rules

@@ -1,11 +1,8 @@
--- One line for each number: the function of that message reads what the table's line says.
+-- No message has another number.
+use Rattle.std.proofs.Common.{rules}
+use Rattle.tt_frame.specs.Tables.{Reads}
 use Rattle.tt_coord.proofs.turn.by_kind.Goals as goal
 
-pub returns-in-0 : goal.returns-in-0
-returns-in-0 c = rw c.in-0.is c.ended.ensures
-
-pub returns-in-1 : goal.returns-in-1
-returns-in-1 c = rw c.in-1.is c.sercli_connect.ensures
-
-pub returns-in-2 : goal.returns-in-2
-returns-in-2 c = rw c.in-2.is c.turn_connected.ensures
+pub returns-in_default : goal.returns-in_default
+unfolding Reads
+returns-in_default c = search rules

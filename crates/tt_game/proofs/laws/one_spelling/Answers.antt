@@ -1,11 +1,8 @@
-use Rattle.std.proofs.Common.{◌≡◌, ℕ, List, sym, ap, ◌∙◌}
-use Rattle.tt_frame.proofs.ApartLaws.{one_spelling}
-use Rattle.tt_game.specs.Messages.{messages}
+use Rattle.tt_frame.proofs.FamilyLaws.{same_spelling}
+use Rattle.tt_game.specs.Apart.{game_family}
 use Rattle.tt_game.specs.declared.message.GameMsg.{GameMsg}
-use Rattle.tt_game.proofs.MessageLaws.{spelling, all_apart}
+use Rattle.tt_game.proofs.MessageLaws.{game_lawful}
 use Rattle.tt_game.proofs.laws.one_spelling.Goals as goal
 
 pub returns : goal.returns
-returns c m kind other body bytes x y =
-    let same : (kind, body) ≡ (other, bytes) = sym (one_spelling GameMsg spelling messages m kind body all_apart x) ∙ one_spelling GameMsg spelling messages m other bytes all_apart y in
-    (ap (λ (p : ℕ × List ℕ). p.0) same, ap (λ (p : ℕ × List ℕ). p.1) same)
+returns c m kind other body bytes = same_spelling GameMsg game_family game_lawful m kind other body bytes

@@ -1,7 +1,0 @@
-use Rattle.std.proofs.Common.{◌≡◌, ◌++◌, take}
-use Rattle.tt_frame.specs.ItemForms.{items_spelled}
-use Rattle.tt_coord.specs.Items.{listed}
-use Rattle.tt_coord.proofs.server_list.put_each.Given as goal
-
-abbrev pub invariant-loop-x : goal.invariant-loop-x
-invariant-loop-x l = l.out.items ≡ l.fn.out.items ++ items_spelled listed (take l.x-index l.list)
