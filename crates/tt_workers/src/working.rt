@@ -25,7 +25,7 @@ pub enum Role<L, A, T> {
     /// It serves the links of a listener at the side door.
     Admin(A),
     /// It hands over what a ticker tells.
-    Clock(T),
+    Ticker(T),
 }
 
 /// One thread's part of a server.
@@ -70,7 +70,7 @@ fn run<R: Wait + Clock, C: Servable, L: Listener, A: Listener, T: Ticker, G: Gat
         Role::Admin(listener) => {
             worker.end = attend(rt, alloc, room, &mut worker.pass, gate, &mut worker.framer, Door::Side, listener);
         }
-        Role::Clock(ticker) => {
+        Role::Ticker(ticker) => {
             worker.end = tick_end(tick_loop(rt, room, &mut worker.pass, ticker));
         }
     }
