@@ -17,6 +17,17 @@ use tt_edge::{Door, Listener, Servable, Ticker};
 use tt_frame::Framer;
 use tt_room::{Pass, Room};
 
+/// What a server listens on: handles on the sockets of its two doors, and its clock.
+#[derive(Drop)]
+pub struct Doors<L, A, T> {
+    /// The handles of the main door.
+    pub game: Vec<L>,
+    /// The handles of the side door.
+    pub admin: Vec<A>,
+    /// The clock, where it is there.
+    pub ticker: Option<T>,
+}
+
 /// What a worker does.
 #[derive(Drop)]
 pub enum Role<L, A, T> {
