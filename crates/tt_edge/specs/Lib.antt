@@ -8,6 +8,16 @@ pub mod MemSink
 pub mod Standard
 pub mod Record
 pub mod Unrolled
+pub mod Told
+pub mod Link
+pub mod Listener
+pub mod Agenda
+pub mod MemLink
+pub mod MemListener
+pub mod MemTicker
+pub mod Tcp
+pub mod Clock
+pub mod File
 pub mod Core
 pub mod Echo
 pub mod Line

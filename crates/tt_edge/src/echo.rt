@@ -14,6 +14,7 @@ use self::lines::{answer, apply, ends_all, find, takes};
 use crate::event::Event;
 use crate::machine::{Core, CoreErr, Took};
 use crate::record::Record;
+use crate::servable::Servable;
 use std::alloc::Global;
 
 /// How many events it takes. Beyond them it answers want of memory.
@@ -121,4 +122,10 @@ impl Core for EchoCore {
     ghost unopened = { unopened };
 
     ghost over_is_last = { over_is_last };
+}
+
+impl Servable for EchoCore {
+    ghost use Rattle.tt_edge.specs.EchoLaws.{takes_live};
+
+    ghost takes_live = { takes_live };
 }

@@ -13,8 +13,8 @@ impl<C: Core> Room<C> {
     /// Waits for the turn, and puts one event into the core, which answers as it does alone.
     ///
     /// The core's events begin with all that the pass had seen. Where the core takes the event they end with it, the
-    /// pass has seen them all, and the event is the pass's own, at its place. Where it refuses, the pass has seen the
-    /// events on which the refusal stands, and keeps its own.
+    /// pass has seen them all, and the event is the pass's own, at its place; of a connection that it opens nothing is taken
+    /// yet. Where it refuses, the pass has seen the events on which the refusal stands, and keeps its own.
     pub fn event<R: Wait>(&self, rt: &R, pass: &mut Pass<C>, event: Event) -> Result<u32, CoreErr>
         requires { IsOf self.now pass.old }
         ensures room { IsOf self.now pass.new }
@@ -23,6 +23,7 @@ impl<C: Core> Room<C> {
         ensures ok { IfOk result (λ conn. Puts (C.is_over (C.made (start_of self.now)))
             (C.takes (C.made (start_of self.now))) pass.old event conn pass.new) }
         ensures opened { IfOk result (λ conn. is_open event ≡ true → HasOpened pass.new conn) }
+        ensures fresh { IfOk result (λ conn. is_open event ≡ true → amount conn (own pass.new) ≡ 0) }
         ensures few { OnOk result (length (seen pass.new) < 2 ^ 63) }
         ensures kept { IfErr result (λ _. Keeps pass.old pass.new) }
         ensures err { IfErr result (λ error. IsRefusal (C.is_over (C.made (start_of self.now)) (seen pass.new))

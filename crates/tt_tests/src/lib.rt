@@ -1,10 +1,15 @@
-//! A room over a hub keeps every tick that two threads put into it: 100 from each leave the hub at frame 200. Each status
-//! permits just its packets.
-//!
-//! The tests that cross crates stand here, and nothing else does: each uses libraries of this repository together that
-//! know nothing of one another.
+//! The tests of the libraries, over their public calls alone. A library with tests of its own is proved twice, so they stand
+//! here; those that cross crates stand here too. A room over a hub keeps every tick that two threads put into it.
 #![tactic(auto)]
 
+#[cfg(test)]
+mod edge;
+#[cfg(test)]
+mod outside;
+#[cfg(test)]
+mod room;
+#[cfg(test)]
+mod shared;
 #[cfg(test)]
 mod tests;
 #[cfg(test)]
