@@ -1,10 +1,9 @@
 -- The laws that a core owes, for the hub's definitions, and what every list of events keeps.
-use Rattle.std.proofs.Common.{◌≡◌, ◌≢◌, ℕ, ◌+◌, ◌<◌, ◌≤◌, Bool, true, false, not, ◌&&◌, cond, List, [], ◌∷◌, ◌++◌, Option, Some, None, refl, sym, ap, ◌∙◌, append_assoc, arith, inl, inr}
+use Rattle.std.proofs.Common.{◌≡◌, ◌≢◌, ℕ, ◌+◌, ◌<◌, ◌≤◌, Bool, true, false, not, ◌&&◌, cond, List, [], ◌∷◌, ◌++◌, Some, None, refl, sym, ap, ◌∙◌, append_assoc, arith, inl, inr}
 use Rattle.std.specs.Prelude.{◌⊎◌, fold, eqb}
-use Rattle.std.proofs.lemmas.Bool.{cond_both, and_parts, and_right, both_ways, eqb-true, eqb-false, ne_eqb, not-true, true≢false, false≢true}
+use Rattle.std.proofs.lemmas.Bool.{cond_both, and_parts, and_right, both_ways, eqb-false, ne_eqb, not-true, true≢false, false≢true}
 use Rattle.std.proofs.lemmas.List.{append-nil}
 use Rattle.std.proofs.lemmas.List.Sums.{fold-append, sum_by-append}
-use Rattle.tt_edge.specs.declared.event.Door.TheVariants.{Main, Side}
 use Rattle.tt_edge.specs.declared.event.Event.{Event}
 use Rattle.tt_edge.specs.declared.event.Event.TheVariants.{Open, Packet, Broken, Shut, Tick, Stop}
 use Rattle.tt_edge.specs.Event.{is_open, opens}
@@ -14,12 +13,10 @@ use Rattle.tt_world.specs.declared.setup.Setup.{Setup}
 use Rattle.tt_hub.specs.declared.table.Standing.{Standing}
 use Rattle.tt_hub.specs.declared.table.Standing.TheVariants.{Unopened, Inactive, Welcomed, Ended}
 use Rattle.tt_hub.specs.declared.table.Table.{Table}
-use Rattle.tt_hub.specs.declared.verdict.Verdict.{Verdict}
-use Rattle.tt_hub.specs.declared.verdict.Verdict.TheVariants.{Welcome, Ends}
 use Rattle.tt_hub.specs.Table.{first, last_frame, is_unopened, is_there, takes, is_taken, closed}
 use Rattle.tt_hub.specs.Table as table
 use Rattle.tt_hub.specs.Judged.{judged}
-use Rattle.tt_hub.specs.Stepped.{behind, changed, said, counted, stepped, table_of, spelled, told, sent_from, sent_of}
+use Rattle.tt_hub.specs.Stepped.{behind, changed, said, counted, stepped, table_of, spelled, told, sent_from}
 use Rattle.tt_hub.specs.Hub.{sent, is_live, is_over}
 
 -- ---- one event more

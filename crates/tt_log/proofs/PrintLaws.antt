@@ -376,8 +376,8 @@ told_is_steps script is =
     record {
       each = all_append IsStep (sets ++ told_map script.saved) others
           (all_append IsStep sets (told_map script.saved)
-              (all_map Set IsStep IsSetting (λ x fits. fits) (told_settings script.setup) (all_filter IsSetting differs (settings_of script.setup) is.setup.settings))
-              (map_fits script.saved is.map))
+          (all_map Set IsStep IsSetting (λ x fits. fits) (told_settings script.setup) (all_filter IsSetting differs (settings_of script.setup) is.setup.settings))
+          (map_fits script.saved is.map))
           (all_map Line IsStep IsLine (λ x fits. fits) script.lines is.lines);
       order = up_order 0 (told_settings script.setup) script.saved script.lines (up_filter differs 0 (settings_of script.setup) (settings_up script.setup));
       openings =

@@ -1,5 +1,5 @@
 -- A map is its pieces, one after another; and what is written of it so far.
-use Rattle.std.proofs.Common.{◌≡◌, ◌≢◌, ℕ, suc, ◌+◌, ◌-◌, ◌<◌, ◌≤◌, Bool, true, false, List, [], ◌∷◌, ◌++◌, length, take, drop, min, refl, sym, ap, subst, ◌∙◌, append_assoc, arith, zero}
+use Rattle.std.proofs.Common.{◌≡◌, ◌≢◌, ℕ, suc, ◌+◌, ◌-◌, ◌<◌, ◌≤◌, Bool, true, false, List, [], ◌∷◌, ◌++◌, length, take, drop, min, refl, sym, ap, ◌∙◌, append_assoc, arith, zero}
 use Rattle.std.specs.Prelude.{Option, Some, None, nat_lt, if◌then◌else◌}
 use Rattle.std.specs.List.{flat_map}
 use Rattle.std.proofs.lemmas.Grind.{flat_map-append}
@@ -13,9 +13,9 @@ use Rattle.tt_world.specs.declared.sign.Sign.{Sign}
 use Rattle.tt_map.specs.declared.version.Version.TheVariants.{Second}
 use Rattle.tt_map.specs.declared.place.Place.{Place}
 use Rattle.tt_map.specs.declared.place.Place.TheVariants.{Front, CompanyAt, Between, SignAt, Back, Over}
-use Rattle.tt_map.specs.Layout.{u16, u32, live_from, company_bytes, sign_bytes, Chunk, GAME, RAND, CMPY, SIGN, ENDC, tag_of, body_of, part_of, chunk, head, map_of}
-use Rattle.tt_map.specs.Writing.{Writing, unwritten, begun, size_given, given, wrote, all_given, after_all, signs_on, from, piece_at, next, IsAt}
-use Rattle.tt_map.proofs.WritingLaws.{six_lengths, chunk_length, one_place}
+use Rattle.tt_map.specs.Layout.{u16, u32, live_from, company_bytes, sign_bytes, GAME, RAND, CMPY, SIGN, ENDC, tag_of, body_of, part_of, chunk, head, map_of}
+use Rattle.tt_map.specs.Writing.{Writing, unwritten, begun, size_given, wrote, all_given, after_all, signs_on, from, piece_at, next, IsAt}
+use Rattle.tt_map.proofs.WritingLaws.{six_lengths, chunk_length}
 
 -- ---- places
 

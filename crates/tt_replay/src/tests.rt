@@ -99,7 +99,8 @@ fn a_seed_is_set(rt: HostRuntime) -> Result<(), Fail> {
 
 /// A script whose game starts from a saved one in the first version of maps: day 29, part 73, and the company 0 with no money
 /// and a loan of 300,000.
-const SAVED: &[u8] = b"set map 4f54544e0001000047414d45000000060000001d490052414e44000000080000000000000000434d5059\
+const SAVED: &[u8] =
+    b"set map 4f54544e0001000047414d45000000060000001d490052414e44000000080000000000000000434d5059\
     0000001201000000000000000000000493e0014101425349474e000000020000454e444300000000\n";
 
 #[test]
