@@ -17,6 +17,3 @@ pub use laws::{
     addresses_after_both_results, next_only_after_failure, other_events_change_nothing,
     silent_at_the_end, ways_in_order,
 };
-
-#[cfg(test)]
-mod tests;

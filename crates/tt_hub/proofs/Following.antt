@@ -18,15 +18,15 @@ use Rattle.tt_hub.specs.Table.{first, last_frame, is_unopened, is_there, closed}
 use Rattle.tt_hub.specs.Table as table
 use Rattle.tt_hub.specs.Judged.{judged}
 use Rattle.tt_hub.specs.Stepped.{behind, changed, said, stepped, table_of, spelled, told, sent_of}
-use Rattle.tt_world.specs.World.{WorldState, start}
+use Rattle.tt_world.specs.World.{WorldState}
 use Rattle.tt_hub.specs.World.{world_at, world_behind}
 use Rattle.tt_hub.specs.Running.{IsRunning}
 use Rattle.tt_hub.specs.Laws.{table_of-push, sent-push, told-other, told-dead, unopened}
 
 -- nothing came yet
-pub running-first : (setup : Setup) → IsRunning setup [] first (start setup) []
+pub running-first : (start : WorldState) (setup : Setup) → IsRunning start setup [] first start []
 unfolding world_at
-running-first setup = record {
+running-first start setup = record {
   table_is = refl;
   world_is = refl;
   out_is = refl;
@@ -40,22 +40,22 @@ running-first setup = record {
 }
 
 -- a hub that is just made
-pub running-made : (setup copied : Setup) (events : List Event) (world : WorldState) (out : List ℕ) → copied ≡ setup → events ≡ [] → world ≡ start setup → out ≡ []
-    → IsRunning copied events first world out
-running-made setup copied events world out same none begins untold = rw (same, none, begins, untold) (running-first setup)
+pub running-made : (start world : WorldState) (setup copied : Setup) (events : List Event) (out : List ℕ) → copied ≡ setup → events ≡ [] → world ≡ start → out ≡ []
+    → IsRunning start copied events first world out
+running-made start world setup copied events out same none begins untold = rw (same, none, begins, untold) (running-first start setup)
 
 count-push : (p : Event → Bool) (events : List Event) (event : Event) → count_by p (events ++ event ∷ []) ≡ count_by p events + cond (p event) 1 0
 count-push p events event = omega (arith, sum_by-append (λ e. cond (p e) 1 0) events (event ∷ []))
 
 -- the world behind an event
-world-push : (setup : Setup) (t : Table) (e : Event) → world_behind (world_at (start setup) t.frame) e ≡ world_at (start setup) (changed setup t e).frame
+world-push : (start : WorldState) (setup : Setup) (t : Table) (e : Event) → world_behind (world_at start t.frame) e ≡ world_at start (changed setup t e).frame
 unfolding world_at
-world-push setup t (Open door peer) = refl
-world-push setup t (Packet conn kind body) = refl
-world-push setup t (Broken conn) = refl
-world-push setup t (Shut conn) = refl
-world-push setup t Tick = let next : suc t.frame ≡ t.frame + 1 = omega arith in ap (world_at (start setup)) next
-world-push setup t Stop = refl
+world-push start setup t (Open door peer) = refl
+world-push start setup t (Packet conn kind body) = refl
+world-push start setup t (Broken conn) = refl
+world-push start setup t (Shut conn) = refl
+world-push start setup t Tick = let next : suc t.frame ≡ t.frame + 1 = omega arith in ap (world_at start) next
+world-push start setup t Stop = refl
 
 -- ---- the one connection
 
@@ -219,23 +219,23 @@ taken_steps : (setup : Setup) (t : Table) (e : Event) → table.is_taken t e ≡
 taken_steps setup t e taken = rw taken refl
 
 -- a game that is not over is before its last frame
-pub early_of : (setup : Setup) (events : List Event) (t : Table) (world : WorldState) (out : List ℕ) → IsRunning setup events t world out → table.is_over t ≡ false → t.frame < last_frame
-early_of setup events t world out so_far going = let ne = eqb-false t.frame last_frame going in omega (arith, so_far.within, ne)
+pub early_of : (start : WorldState) (setup : Setup) (events : List Event) (t : Table) (world : WorldState) (out : List ℕ) → IsRunning start setup events t world out → table.is_over t ≡ false → t.frame < last_frame
+early_of start setup events t world out so_far going = let ne = eqb-false t.frame last_frame going in omega (arith, so_far.within, ne)
 
 -- few connections were opened
-pub few_of : (setup : Setup) (events : List Event) (t : Table) (world : WorldState) (out : List ℕ) → IsRunning setup events t world out → t.openings ≤ 1
-few_of setup events t world out so_far =
+pub few_of : (start : WorldState) (setup : Setup) (events : List Event) (t : Table) (world : WorldState) (out : List ℕ) → IsRunning start setup events t world out → t.openings ≤ 1
+few_of start setup events t world out so_far =
     elim (is_unopened t.standing) as (λ (b : Bool). t.openings ≡ cond {A = ℕ} b 0 1 → t.openings ≤ 1) [ true ↦ (λ e. omega (arith, e)) | false ↦ (λ e. omega (arith, e)) ] so_far.one
 
-pub running-more : (setup : Setup) (events : List Event) (t : Table) (world : WorldState) (out : List ℕ) (e : Event) → IsRunning setup events t world out → table.is_over t ≡ false → table.takes t e ≡ true
-    → IsRunning setup (events ++ e ∷ []) (changed setup t e) (world_behind world e) (out ++ spelled (said setup t e))
-running-more setup events t world out e so_far going takes =
+pub running-more : (start : WorldState) (setup : Setup) (events : List Event) (t : Table) (world : WorldState) (out : List ℕ) (e : Event) → IsRunning start setup events t world out → table.is_over t ≡ false → table.takes t e ≡ true
+    → IsRunning start setup (events ++ e ∷ []) (changed setup t e) (world_behind world e) (out ++ spelled (said setup t e))
+running-more start setup events t world out e so_far going takes =
     let taken : table.is_taken t e ≡ true = rw (going, takes) refl in
     let now : changed setup t e ≡ table_of setup (events ++ e ∷ []) =
     sym (taken_steps setup t e taken) ∙ ap (λ (s : Table). stepped setup s e) so_far.table_is ∙ sym (table_of-push setup events e) in
     record {
       table_is = now;
-      world_is = ap (λ (w : WorldState). world_behind w e) so_far.world_is ∙ world-push setup t e;
+      world_is = ap (λ (w : WorldState). world_behind w e) so_far.world_is ∙ world-push start setup t e;
       out_is = ap (λ (xs : List ℕ). xs ++ spelled (said setup t e)) so_far.out_is
           ∙ ap (λ (xs : List ℕ). sent_of setup events 1 ++ xs) (sym (told-one setup t e so_far.one so_far.conn taken) ∙ ap (λ (s : Table). told setup s e 1) so_far.table_is)
           ∙ sym (sent-push setup events e 1);
@@ -245,35 +245,35 @@ running-more setup events t world out e so_far going takes =
       openings = count-push is_open events e ∙ ap (λ (n : ℕ). n + cond (is_open e) 1 0) so_far.openings ∙ openings-push setup t e;
       one = one-push setup t e so_far.one taken;
       conn = conn-push setup t e so_far.conn;
-      within = within-push setup t e (early_of setup events t world out so_far going);
+      within = within-push setup t e (early_of start setup events t world out so_far going);
       near = near-push setup t e so_far.near;
     }
 
 -- the invariant behind an event, from what the calls for it made
-pub running-after : (setup : Setup) (events after : List Event) (t next : Table) (world later : WorldState) (out longer : List ℕ) (e : Event) → IsRunning setup events t world out
+pub running-after : (start : WorldState) (setup : Setup) (events after : List Event) (t next : Table) (world later : WorldState) (out longer : List ℕ) (e : Event) → IsRunning start setup events t world out
     → table.is_over t ≡ false → table.takes t e ≡ true → after ≡ events ++ e ∷ [] → next ≡ changed setup t e → later ≡ world_behind world e → longer ≡ out ++ spelled (said setup t e)
-    → IsRunning setup after next later longer
-running-after setup events after t next world later out longer e so_far going takes more stepped_on ran told_on =
-    rw (more, stepped_on, ran, told_on) (running-more setup events t world out e so_far going takes)
+    → IsRunning start setup after next later longer
+running-after start setup events after t next world later out longer e so_far going takes more stepped_on ran told_on =
+    rw (more, stepped_on, ran, told_on) (running-more start setup events t world out e so_far going takes)
 
 -- ---- a new connection
 
-none_left : (setup : Setup) (events : List Event) (t : Table) (world : WorldState) (out : List ℕ) (taken : ℕ) → IsRunning setup events t world out → is_unopened t.standing ≡ true → taken ≤ length out → taken ≡ 0
-none_left setup events t world out taken so_far fresh within =
+none_left : (start : WorldState) (setup : Setup) (events : List Event) (t : Table) (world : WorldState) (out : List ℕ) (taken : ℕ) → IsRunning start setup events t world out → is_unopened t.standing ≡ true → taken ≤ length out → taken ≡ 0
+none_left start setup events t world out taken so_far fresh within =
     let none : t.openings ≡ 0 = none_or_one (is_unopened t.standing) t.openings so_far.one fresh in
     let untold : out ≡ [] = so_far.out_is ∙ (unopened setup events 1 (inr (omega (arith, none, so_far.openings)))).1 in
     omega (arith, within, ap length untold)
 
 -- no byte of it is taken
-pub nothing_taken : (setup : Setup) (events : List Event) (t : Table) (world : WorldState) (out : List ℕ) (taken : ℕ) (e : Event) → IsRunning setup events t world out → table.takes t e ≡ true
+pub nothing_taken : (start : WorldState) (setup : Setup) (events : List Event) (t : Table) (world : WorldState) (out : List ℕ) (taken : ℕ) (e : Event) → IsRunning start setup events t world out → table.takes t e ≡ true
     → taken ≤ length out → is_open e ≡ true → taken ≡ 0
-nothing_taken setup events t world out taken (Open Main peer) so_far takes within opens = none_left setup events t world out taken so_far takes within
-nothing_taken setup events t world out taken (Open Side peer) so_far takes within opens = absurd (false≢true takes)
-nothing_taken setup events t world out taken (Packet conn kind body) so_far takes within opens = absurd (false≢true opens)
-nothing_taken setup events t world out taken (Broken conn) so_far takes within opens = absurd (false≢true opens)
-nothing_taken setup events t world out taken (Shut conn) so_far takes within opens = absurd (false≢true opens)
-nothing_taken setup events t world out taken Tick so_far takes within opens = absurd (false≢true opens)
-nothing_taken setup events t world out taken Stop so_far takes within opens = absurd (false≢true opens)
+nothing_taken start setup events t world out taken (Open Main peer) so_far takes within opens = none_left start setup events t world out taken so_far takes within
+nothing_taken start setup events t world out taken (Open Side peer) so_far takes within opens = absurd (false≢true takes)
+nothing_taken start setup events t world out taken (Packet conn kind body) so_far takes within opens = absurd (false≢true opens)
+nothing_taken start setup events t world out taken (Broken conn) so_far takes within opens = absurd (false≢true opens)
+nothing_taken start setup events t world out taken (Shut conn) so_far takes within opens = absurd (false≢true opens)
+nothing_taken start setup events t world out taken Tick so_far takes within opens = absurd (false≢true opens)
+nothing_taken start setup events t world out taken Stop so_far takes within opens = absurd (false≢true opens)
 
 pub cond_zero : (b : Bool) (n : ℕ) → n ≡ 0 → cond {A = ℕ} b n 0 ≡ 0
 cond_zero true n e = e

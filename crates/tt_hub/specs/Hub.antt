@@ -2,20 +2,22 @@
 use Rattle.std.specs.Prelude.{ℕ, Bool, ◌==◌, if◌then◌else◌, List}
 use Rattle.tt_edge.specs.declared.event.Event.{Event}
 use Rattle.tt_world.specs.declared.setup.Setup.{Setup}
-use Rattle.tt_world.specs.World.{WorldState, start}
+use Rattle.tt_world.specs.World.{WorldState}
 use Rattle.tt_hub.specs.World.{world_at}
 use Rattle.tt_hub.specs.Stepped.{table_of, sent_of}
 use Rattle.tt_hub.specs.Table as table
 
--- what it was made from, the events that it has taken, and how many bytes of its one connection were taken
+-- the world that the game started from, its setup, the events that it has taken, and how many bytes of its one connection
+-- were taken
 pub record HubState : Type 0 where
+  pub start : WorldState
   pub setup : Setup
   pub events : List Event
   pub taken : ℕ
 
--- the world behind a list of events: that of the start, run to the table's frame
-abbrev pub world_of : Setup → List Event → WorldState
-world_of setup events = world_at (start setup) (table_of setup events).frame
+-- the world behind a list of events: the one that the game started from, run to the table's frame
+abbrev pub world_of : WorldState → Setup → List Event → WorldState
+world_of start setup events = world_at start (table_of setup events).frame
 
 -- how many bytes of a connection were taken; the one connection has the number 1
 abbrev pub taken : HubState → ℕ → ℕ

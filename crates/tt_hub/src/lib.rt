@@ -7,7 +7,4 @@ mod plan;
 mod table;
 mod verdict;
 
-pub use hub::Hub;
-
-#[cfg(test)]
-mod tests;
+pub use hub::{FromErr, Hub};

@@ -7,11 +7,13 @@ use Rattle.std.proofs.lemmas.Bool.{ne_eqb, eq-eqb, eqb-true}
 use Rattle.std.proofs.lemmas.Slice.Eq.{bytes_eq-Decides}
 use Rattle.hex.specs.Hex.{encode_lower}
 use Rattle.tt_lines.specs.Lines.{HasNo}
-use Rattle.tt_log.specs.Forms.{Form, number, text, hex, key, Value, spelled, text_spelled, Fits, IsTextFrom}
+use Rattle.tt_log.specs.Forms.{Form, number, text, hex, saved, key, Value, spelled, text_spelled, Fits, IsTextFrom}
 use Rattle.tt_lines.specs.Digits.{IsPiece}
-use Rattle.tt_log.specs.Rows.{◌>>=◌, front_word, behind_word, word_at, rest_at, number_in, within, hex_in, text_in, text_within, number_at, hex_at, text_at, value_at, Row, none, end, all, ◌▸◌, ended_at, row_at, Branch, pick}
+use Rattle.tt_log.specs.Saved.{IsSaved}
+use Rattle.tt_log.specs.Rows.{◌>>=◌, front_word, behind_word, word_at, rest_at, number_in, within, hex_in, text_in, text_within, saved_within, number_at, hex_at, text_at, saved_at, value_at, Row, none, end, all, ◌▸◌, ended_at, row_at, Branch, pick}
 use Rattle.tt_lines.proofs.Breaks.{has_no-rest, has_no-cons, decimal_one}
 use Rattle.tt_lines.proofs.HexDigits.{lower_one}
+use Rattle.tt_log.proofs.SavedLaws.{saved_found, saved_back}
 use Rattle.tt_log.proofs.ValueLaws.{if_some, number_found, number_back, within_found, within_back, hex_found, hex_back, text_found, text_back, text_within_found, text_within_back}
 
 -- what may be left of a line: nothing, or a blank and more
@@ -73,24 +75,40 @@ blank_one : (f : Form) (x : Value f) → Fits f x → HasNo 32 (spelled f x)
 blank_one (number least most) n fits = number_one 32 least most n (omega arith) fits
 blank_one (text least most) content fits = text_one 32 content least most (omega arith) fits
 blank_one hex piece fits = lower_one 32 piece (omega arith) fits.bytes
+blank_one saved map fits = lower_one 32 map (omega arith) fits.0.bytes
 blank_one key w fits = fits
+
+hex_at_found : (piece left : List ℕ) → IsPiece piece → IsLeft left → hex_at (32 ∷ encode_lower piece ++ left) ≡ Some (piece, left)
+unfolding hex_at
+hex_at_found piece left fits is = rw (word_found (encode_lower piece) left (blank_one hex piece fits) is, hex_found (encode_lower piece) piece fits refl) refl
 
 -- a value is read from its spelling
 pub value_found : (f : Form) (x : Value f) (left : List ℕ) → Fits f x → IsLeft left → value_at f (32 ∷ spelled f x ++ left) ≡ Some (x, left)
-unfolding number_at hex_at text_at
+unfolding number_at text_at saved_at
 value_found (number least most) n left fits is =
     rw (word_found (decimal n) left (blank_one (number least most) n fits) is, number_found (decimal n) n refl fits.2, within_found least most n fits.0 fits.1) refl
 value_found (text least most) content left fits is =
     rw (word_found (text_spelled content) left (blank_one (text least most) content fits) is, text_found (text_spelled content) content fits.bytes refl, text_within_found least most content fits) refl
-value_found hex piece left fits is = rw (word_found (encode_lower piece) left (blank_one hex piece fits) is, hex_found (encode_lower piece) piece fits refl) refl
+value_found hex piece left fits is = hex_at_found piece left fits is
+value_found saved map left fits is = rw (hex_at_found map left fits.0 is, saved_found map fits.1) refl
 value_found key w left fits is = word_found w left fits is
 
 pairs : {A : Type 0} (x y : A) (left after : List ℕ) → ◌≡◌ {A = Option (A × List ℕ)} (Some (x, left)) (Some (y, after)) → (x ≡ y) × (left ≡ after)
 pairs {A} x y left after e = let both : (x, left) ≡ (y, after) = cc in (ap (λ (p : A × List ℕ). p.0) both, ap (λ (p : A × List ℕ). p.1) both)
 
+hex_at_back : (left piece after : List ℕ) → hex_at left ≡ Some (piece, after) → IsPiece piece × IsLeft after × (left ≡ 32 ∷ encode_lower piece ++ after)
+unfolding hex_at
+hex_at_back left piece after e =
+    let w = bind_some (word_at left) _ (piece, after) e in
+    let read = bind_some (hex_in w.0.0) _ (piece, after) w.2 in
+    let end = pairs read.0 piece w.0.1 after read.2 in
+    let parts = word_parts left w.0.0 w.0.1 w.1 in
+    let digits = hex_back w.0.0 read.0 read.1 in
+    (subst IsPiece end.0 digits.0, subst IsLeft end.1 parts.1, (let whole = parts.2 in let spelled = digits.1 ∙ ap encode_lower end.0 in let rest = end.1 in cc))
+
 -- what is read stands there, spelled as it should be
 pub value_back : (f : Form) (left : List ℕ) (x : Value f) (after : List ℕ) → value_at f left ≡ Some (x, after) → Fits f x × IsLeft after × (left ≡ 32 ∷ spelled f x ++ after)
-unfolding number_at hex_at text_at
+unfolding number_at text_at saved_at
 value_back (number least most) left n after e =
     let w = bind_some (word_at left) _ (n, after) e in
     let read = bind_some (number_in w.0.0) _ (n, after) w.2 in
@@ -112,13 +130,15 @@ value_back (text least most) left content after e =
     let same : read.0 ≡ content = range.0 ∙ end.0 in
     let fits : IsTextFrom least most read.0 = record { bytes = digits.0; some = range.1; text = range.2 } in
     (subst (IsTextFrom least most) same fits, subst IsLeft end.1 parts.1, (let whole = parts.2 in let spelled = digits.1 ∙ ap text_spelled same in let rest = end.1 in cc))
-value_back hex left piece after e =
-    let w = bind_some (word_at left) _ (piece, after) e in
-    let read = bind_some (hex_in w.0.0) _ (piece, after) w.2 in
-    let end = pairs read.0 piece w.0.1 after read.2 in
-    let parts = word_parts left w.0.0 w.0.1 w.1 in
-    let digits = hex_back w.0.0 read.0 read.1 in
-    (subst IsPiece end.0 digits.0, subst IsLeft end.1 parts.1, (let whole = parts.2 in let spelled = digits.1 ∙ ap encode_lower end.0 in let rest = end.1 in cc))
+value_back hex left piece after e = hex_at_back left piece after e
+value_back saved left map after e =
+    let read = bind_some (hex_at left) _ (map, after) e in
+    let kept = bind_some (saved_within read.0.0) _ (map, after) read.2 in
+    let end = pairs kept.0 map read.0.1 after kept.2 in
+    let parts = hex_at_back left read.0.0 read.0.1 read.1 in
+    let good = saved_back read.0.0 kept.0 parts.0.bytes kept.1 in
+    let same : read.0.0 ≡ map = good.0 ∙ end.0 in
+    ((subst IsPiece same parts.0, subst IsSaved same good.1), subst IsLeft end.1 parts.1, (let whole = parts.2 in let spelled = ap encode_lower same in let rest = end.1 in cc))
 value_back key left w after e = word_parts left w after e
 
 -- ---- rows

@@ -1,26 +1,28 @@
 -- The text of a script spells it, and what the bytes spell can be printed.
-use Rattle.std.proofs.Common.{◌≡◌, Result, Ok, Err, ℕ, suc, ◌<◌, ◌≤◌, List, [], ◌∷◌, ◌++◌, length, take, map, Bool, true, false, not, cond, refl, sym, ap, ap₂, subst, ◌∙◌, append_assoc, arith}
+use Rattle.std.proofs.Common.{◌≡◌, Result, Ok, Err, ℕ, suc, ◌<◌, ◌≤◌, List, [], ◌∷◌, ◌++◌, length, take, map, Bool, true, false, not, cond, ◌⊎◌, inl, inr, refl, sym, ap, ap₂, subst, ◌∙◌, append_assoc, arith}
 use Rattle.std.specs.Prelude.{◌==◌, sum_by, fold, filter, IfOk}
 use Rattle.std.specs.List.{AllByRecursion, flat_map, list_all}
 use Rattle.std.proofs.lemmas.Bool.{eqb-true}
 use Rattle.std.proofs.lemmas.Str.{IsUtf8-nil}
+use Rattle.std.proofs.lemmas.List.{append-nil}
 use Rattle.std.proofs.lemmas.List.Sums.{sum_by-append, sum_by-cons, fold-append}
 use Rattle.std.proofs.lemmas.Grind.{flat_map-append}
-use Rattle.tt_frame.proofs.TextLaws.{is_text-from_IsText}
+use Rattle.tt_frame.proofs.TextLaws.{is_text-from_IsText, length_of_text}
 use Rattle.tt_lines.specs.Lines.{HasNo, lines_of}
 use Rattle.tt_log.specs.declared.script.bad.ScriptBad.{ScriptBad}
-use Rattle.tt_log.specs.Forms.{number, text, hex, key, IsTextFrom, Word, named, word, rest, word_text, WordFits, behind_blanks, parted}
+use Rattle.tt_log.specs.Forms.{number, text, hex, saved, key, IsTextFrom, Fits, Word, named, word, rest, word_text, WordFits, behind_blanks, parted}
 use Rattle.tt_log.specs.Settings.{setting_words, place_of, with_setting, settings_of, is_plain}
 use Rattle.tt_log.specs.Orders.{words_by}
 use Rattle.tt_log.specs.Lines.{line_words, IsLine, openings_of}
-use Rattle.tt_log.specs.Steps.{step_words, step_text, IsStep, opens, Precedes}
+use Rattle.tt_log.specs.Steps.{step_words, step_text, IsStep, opens, step_place, Precedes}
 use Rattle.tt_log.specs.Contents.{Contents}
-use Rattle.tt_log.specs.Script.{InOrder, IsSteps, setup_with, setup_of, line_in, lines_in, contents_of, Spells}
-use Rattle.tt_log.specs.Printing.{IsSetting, IsTold, IsScript, told_settings, told_steps, step_line, script_text}
-use Rattle.tt_log.specs.Written.{setting_text, line_text}
+use Rattle.tt_log.specs.Script.{InOrder, IsSteps, setup_with, setup_of, map_in_step, saved_in, line_in, lines_in, contents_of, Spells}
+use Rattle.tt_log.specs.Printing.{IsSetting, IsTold, IsScript, told_settings, told_map, told_steps, step_line, script_text}
+use Rattle.tt_log.specs.Written.{setting_text, map_text, line_text}
 use Rattle.tt_lines.proofs.Breaks.{has_no-cons, has_no-append, has_no-test}
 use Rattle.tt_lines.specs.Lines.{HasNo}
 use Rattle.tt_lines.proofs.HexDigits.{lower_one}
+use Rattle.tt_log.proofs.ScriptLaws.{small_place}
 use Rattle.tt_log.proofs.FormLaws.{text_one, number_one}
 use Rattle.tt_lines.proofs.LineLaws.{lines-within}
 use Rattle.tt_log.specs.declared.script.line.Line1.{Line1}
@@ -28,8 +30,8 @@ use Rattle.tt_log.specs.declared.script.line.Line1.TheVariants.{Open, Side, Byte
 use Rattle.tt_log.specs.declared.script.setting.Setting.{Setting}
 use Rattle.tt_log.specs.declared.script.setting.Setting.TheVariants.{Seed, FrameFreq, SyncFreq, Clients, Init, PassLimit, Download, Join as JoinLimit, Lag, Cost, Pw, Admin}
 use Rattle.tt_log.specs.declared.script.step.Step.{Step}
-use Rattle.tt_log.specs.declared.script.step.Step.TheVariants.{Set, Line}
-use Rattle.tt_world.specs.Setup.{plain}
+use Rattle.tt_log.specs.declared.script.step.Step.TheVariants.{Set, Saved, Line}
+use Rattle.tt_world.specs.Setup.{plain, Fits as FitsSetup}
 use Rattle.tt_world.specs.declared.setup.Setup.{Setup}
 use Rattle.tt_world.specs.declared.command.Code.{Code}
 use Rattle.tt_world.specs.declared.command.Code.TheVariants.{IncreaseLoan, DecreaseLoan, Give, PlaceSign, RenameSign, RenameCompany, RenamePresident, Pause, NewCompany}
@@ -75,9 +77,12 @@ lines_are [] = refl
 lines_are (line ∷ lines) = ap (λ (u : List ℕ). line_text line ++ u) (lines_are lines)
 
 -- what was written is the text of the script
-pub text_is : (s : Setup) (lines : List Line1) → flat_map setting_text (settings_of s) ++ flat_map line_text lines ≡ script_text (record { setup = s; lines = lines })
-text_is s lines =
-    ap₂ (λ (a b : List ℕ). a ++ b) (told_is (settings_of s)) (lines_are lines) ∙ sym (flat_map-append step_line (map Set (told_settings s)) (map Line lines))
+pub text_is : (s : Setup) (m : List ℕ) (lines : List Line1) → flat_map setting_text (settings_of s) ++ map_text m ++ flat_map line_text lines ≡ script_text (record { setup = s; saved = m; lines = lines })
+text_is s m lines =
+    let sets = map Set (told_settings s) in
+    ap₂ (λ (a b : List ℕ). a ++ map_text m ++ b) (told_is (settings_of s)) (lines_are lines)
+    ∙ ap (λ (a : List ℕ). a ++ flat_map step_line (map Line lines)) (sym (flat_map-append step_line sets (told_map m)))
+    ∙ sym (flat_map-append step_line (sets ++ told_map m) (map Line lines))
 
 -- ---- no line feed within a line
 
@@ -87,6 +92,7 @@ IsOne (named w) = list_all (λ b. not (b == 10)) w ≡ true
 IsOne (word (number least most) n) = Unit {0}
 IsOne (word (text least most) content) = Unit {0}
 IsOne (word hex piece) = Unit {0}
+IsOne (word saved map) = Unit {0}
 IsOne (word key w) = HasNo 10 w
 IsOne (rest content) = Unit {0}
 
@@ -95,6 +101,7 @@ word_one (named w) fits one = has_no-test 10 w one
 word_one (word (number least most) n) fits one = number_one 10 least most n (omega arith) fits
 word_one (word (text least most) content) fits one = text_one 10 content least most (omega arith) fits
 word_one (word hex piece) fits one = lower_one 10 piece (omega arith) fits.bytes
+word_one (word saved map) fits one = lower_one 10 map (omega arith) fits.0.bytes
 word_one (word key w) fits one = one
 word_one (rest content) fits one = fits
 
@@ -151,6 +158,7 @@ line_one (Expect content) = (refl, (tt, tt))
 
 step_one : (step : Step) → IsStep step → HasNo 10 (step_text step)
 step_one (Set setting) fits = parted_one (step_words (Set setting)) (tt, fits) (refl, setting_one setting)
+step_one (Saved map) fits = parted_one (step_words (Saved map)) fits (refl, (refl, (tt, tt)))
 step_one (Line line) fits = parted_one (line_words line) fits.0 (line_one line)
 
 lines_written : (steps : List Step) → AllByRecursion IsStep steps → lines_of (flat_map step_line steps) ≡ map step_text steps
@@ -191,11 +199,21 @@ above : (before : Setting) (k : ℕ) (xs : List Setting) → place_of before < k
 above before k [] lt up = tt
 above before k (x ∷ xs) lt up = (omega (arith, lt, up.0), above before (suc (place_of x)) xs (omega (arith, lt, up.0)) up.1)
 
-up_order : (k : ℕ) (xs : List Setting) (lines : List Line1) → Up_from k xs → InOrder (map Set xs ++ map Line lines)
-up_order k [] lines up = lines_order lines
-up_order k (x ∷ xs) lines up = (
-  all_append (Precedes (Set x)) (map Set xs) (map Line lines) (above x (suc (place_of x)) xs (omega arith) up.1) (lines_free (Set x) lines),
-  up_order (suc (place_of x)) xs lines up.1,
+-- a map stands behind each setting
+map_free : (before : Setting) (m : List ℕ) → AllByRecursion (Precedes (Set before)) (told_map m)
+map_free before [] = tt
+map_free before (b ∷ m) = (omega (arith, small_place before), tt)
+
+map_order : (m : List ℕ) (lines : List Line1) → InOrder (told_map m ++ map Line lines)
+map_order [] lines = lines_order lines
+map_order (b ∷ m) lines = (lines_free (Saved (b ∷ m)) lines, lines_order lines)
+
+up_order : (k : ℕ) (xs : List Setting) (m : List ℕ) (lines : List Line1) → Up_from k xs → InOrder (map Set xs ++ told_map m ++ map Line lines)
+up_order k [] m lines up = map_order m lines
+up_order k (x ∷ xs) m lines up = (
+  all_append (Precedes (Set x)) (map Set xs ++ told_map m) (map Line lines)
+      (all_append (Precedes (Set x)) (map Set xs) (told_map m) (above x (suc (place_of x)) xs (omega arith) up.1) (map_free x m)) (lines_free (Set x) lines),
+  up_order (suc (place_of x)) xs m lines up.1,
 )
 
 settings_up : (s : Setup) → Up_from 0 (settings_of s)
@@ -281,10 +299,17 @@ lines_keep : (st : Setup) (lines : List Line1) → fold setup_with st (map Line 
 lines_keep st [] = refl
 lines_keep st (line ∷ lines) = lines_keep st lines
 
+map_keeps : (st : Setup) (m : List ℕ) → fold setup_with st (told_map m) ≡ st
+map_keeps st [] = refl
+map_keeps st (b ∷ m) = refl
+
 told_setup : (script : Contents) → IsTold script.setup → setup_of (told_steps script) ≡ script.setup
 told_setup script told =
-    fold-append setup_with plain (map Set (told_settings script.setup)) (map Line script.lines)
-    ∙ lines_keep (fold setup_with plain (map Set (told_settings script.setup))) script.lines
+    let sets = map Set (told_settings script.setup) in
+    fold-append setup_with plain (sets ++ told_map script.saved) (map Line script.lines)
+    ∙ lines_keep (fold setup_with plain (sets ++ told_map script.saved)) script.lines
+    ∙ fold-append setup_with plain sets (told_map script.saved)
+    ∙ map_keeps (fold setup_with plain sets) script.saved
     ∙ changed plain (settings_of script.setup) (all_change script.setup)
     ∙ setup_back script.setup told
 
@@ -296,9 +321,34 @@ own_lines : (lines : List Line1) → lines_in (map Line lines) ≡ lines
 own_lines [] = refl
 own_lines (line ∷ lines) = ap (λ (t : List Line1). line ∷ t) (own_lines lines)
 
+no_lines_of_map : (m : List ℕ) → lines_in (told_map m) ≡ []
+no_lines_of_map [] = refl
+no_lines_of_map (b ∷ m) = refl
+
 told_lines : (script : Contents) → lines_in (told_steps script) ≡ script.lines
 told_lines script =
-    flat_map-append line_in (map Set (told_settings script.setup)) (map Line script.lines) ∙ ap₂ (λ (a b : List Line1). a ++ b) (no_lines (told_settings script.setup)) (own_lines script.lines)
+    let sets = map Set (told_settings script.setup) in
+    flat_map-append line_in (sets ++ told_map script.saved) (map Line script.lines)
+    ∙ ap₂ (λ (a b : List Line1). a ++ b) (flat_map-append line_in sets (told_map script.saved) ∙ ap₂ (λ (a b : List Line1). a ++ b) (no_lines (told_settings script.setup)) (no_lines_of_map script.saved)) (own_lines script.lines)
+
+no_map : (xs : List Setting) → saved_in (map Set xs) ≡ []
+no_map [] = refl
+no_map (x ∷ xs) = no_map xs
+
+own_map : (m : List ℕ) → saved_in (told_map m) ≡ m
+own_map [] = refl
+own_map (b ∷ m) = ap (λ (t : List ℕ). b ∷ t) (append-nil m)
+
+no_map_of_lines : (lines : List Line1) → saved_in (map Line lines) ≡ []
+no_map_of_lines [] = refl
+no_map_of_lines (line ∷ lines) = no_map_of_lines lines
+
+told_saved : (script : Contents) → saved_in (told_steps script) ≡ script.saved
+told_saved script =
+    let sets = map Set (told_settings script.setup) in
+    flat_map-append map_in_step (sets ++ told_map script.saved) (map Line script.lines)
+    ∙ ap₂ (λ (a b : List ℕ). a ++ b) (flat_map-append map_in_step sets (told_map script.saved) ∙ ap₂ (λ (a b : List ℕ). a ++ b) (no_map (told_settings script.setup)) (own_map script.saved)) (no_map_of_lines script.lines)
+    ∙ append-nil script.saved
 
 no_openings : (xs : List Setting) → sum_by opens (map Set xs) ≡ 0
 no_openings [] = refl
@@ -308,6 +358,15 @@ own_openings : (lines : List Line1) → sum_by opens (map Line lines) ≡ sum_by
 own_openings [] = refl
 own_openings (line ∷ lines) = omega (arith, sum_by-cons opens (Line line) (map Line lines), own_openings lines, sum_by-cons openings_of line lines)
 
+no_openings_of_map : (m : List ℕ) → sum_by opens (told_map m) ≡ 0
+no_openings_of_map [] = refl
+no_openings_of_map (b ∷ m) = omega (arith, sum_by-cons opens (Saved (b ∷ m)) [])
+
+map_fits : (m : List ℕ) → (m ≡ []) ⊎ Fits saved m → AllByRecursion IsStep (told_map m)
+map_fits [] is = tt
+map_fits (b ∷ m) (inl none) = absurd cc
+map_fits (b ∷ m) (inr fits) = ((tt, (tt, (fits, tt))), tt)
+
 -- ---- the text of a script spells it
 
 told_is_steps : (script : Contents) → IsScript script → IsSteps (told_steps script)
@@ -315,11 +374,22 @@ told_is_steps script is =
     let sets = map Set (told_settings script.setup) in
     let others = map Line script.lines in
     record {
-      each = all_append IsStep sets others
-          (all_map Set IsStep IsSetting (λ x fits. fits) (told_settings script.setup) (all_filter IsSetting differs (settings_of script.setup) is.setup.settings))
+      each = all_append IsStep (sets ++ told_map script.saved) others
+          (all_append IsStep sets (told_map script.saved)
+              (all_map Set IsStep IsSetting (λ x fits. fits) (told_settings script.setup) (all_filter IsSetting differs (settings_of script.setup) is.setup.settings))
+              (map_fits script.saved is.map))
           (all_map Line IsStep IsLine (λ x fits. fits) script.lines is.lines);
-      order = up_order 0 (told_settings script.setup) script.lines (up_filter differs 0 (settings_of script.setup) (settings_up script.setup));
-      openings = omega (arith, is.openings, sum_by-append opens sets others, no_openings (told_settings script.setup), own_openings script.lines);
+      order = up_order 0 (told_settings script.setup) script.saved script.lines (up_filter differs 0 (settings_of script.setup) (settings_up script.setup));
+      openings =
+          omega (
+            arith,
+            is.openings,
+            sum_by-append opens (sets ++ told_map script.saved) others,
+            sum_by-append opens sets (told_map script.saved),
+            no_openings (told_settings script.setup),
+            no_openings_of_map script.saved,
+            own_openings script.lines,
+          );
     }
 
 pub spelled_text : (script : Contents) → IsScript script → Spells script (lines_of (script_text script))
@@ -329,7 +399,7 @@ spelled_text script is =
       steps = told_steps script;
       is = steps;
       text = lines_written (told_steps script) steps.each;
-      makes = ap₂ (λ (a : Setup) (b : List Line1). let made : Contents = record { setup = a; lines = b } in made) (sym (told_setup script is.setup)) (sym (told_lines script));
+      makes = ap3 (λ (a : Setup) (m : List ℕ) (b : List Line1). let made : Contents = record { setup = a; saved = m; lines = b } in made) (sym (told_setup script is.setup)) (sym (told_saved script)) (sym (told_lines script));
     }
 
 -- ---- what the bytes spell is of the grammar
@@ -382,6 +452,22 @@ plain_told = record {
   id = refl;
 }
 
+-- a setup that is told fits its ranges
+pub told_fits : (st : Setup) → IsTold st → FitsSetup st
+told_fits st told = record {
+  frame_freq = let range = told.settings.1.0.1.0 in (range.0, range.1);
+  sync_freq = let range = told.settings.1.1.0.1.0 in (range.0, range.1);
+  max_clients = let range = told.settings.1.1.1.0.1.0 in (range.0, range.1);
+  init = let range = told.settings.1.1.1.1.0.1.0 in (range.0, range.1);
+  pass_limit = let range = told.settings.1.1.1.1.1.0.1.0 in (range.0, range.1);
+  download = let range = told.settings.1.1.1.1.1.1.0.1.0 in (range.0, range.1);
+  join = let range = told.settings.1.1.1.1.1.1.1.0.1.0 in (range.0, range.1);
+  lag = let range = told.settings.1.1.1.1.1.1.1.1.0.1.0 in (range.0, range.1);
+  cost = let range = told.settings.1.1.1.1.1.1.1.1.1.0.1.0 in (range.0, range.1);
+  password = length_of_text 32 st.password told.settings.1.1.1.1.1.1.1.1.1.1.0.1.0.text;
+  admin_password = length_of_text 32 st.admin_password told.settings.1.1.1.1.1.1.1.1.1.1.1.0.1.0.text;
+}
+
 told_with : (st : Setup) (x : Setting) → IsSetting x → IsTold st → IsTold (with_setting st x)
 told_with st (Seed x) fits told = record { settings = (fits, told.settings.1); name = told.name; revision = told.revision; id = told.id }
 told_with st (FrameFreq x) fits told = record { settings = (told.settings.0, (fits, told.settings.1.1)); name = told.name; revision = told.revision; id = told.id }
@@ -399,23 +485,42 @@ told_with st (Admin x) fits told = record { settings = (told.settings.0, (told.s
 told_fold : (st : Setup) (steps : List Step) → AllByRecursion IsStep steps → IsTold st → IsTold (fold setup_with st steps)
 told_fold st [] each told = told
 told_fold st (Set x ∷ steps) each told = told_fold (with_setting st x) steps each.1 (told_with st x each.0 told)
+told_fold st (Saved m ∷ steps) each told = told_fold st steps each.1 told
 told_fold st (Line line ∷ steps) each told = told_fold st steps each.1 told
 
 lines_fit : (steps : List Step) → AllByRecursion IsStep steps → AllByRecursion IsLine (lines_in steps)
 lines_fit [] each = tt
 lines_fit (Set x ∷ steps) each = lines_fit steps each.1
+lines_fit (Saved m ∷ steps) each = lines_fit steps each.1
 lines_fit (Line line ∷ steps) each = (each.0, lines_fit steps each.1)
 
 lines_open : (steps : List Step) → sum_by openings_of (lines_in steps) ≡ sum_by opens steps
 lines_open [] = refl
 lines_open (Set x ∷ steps) = omega (arith, lines_open steps, sum_by-cons opens (Set x) steps)
+lines_open (Saved m ∷ steps) = omega (arith, lines_open steps, sum_by-cons opens (Saved m) steps)
 lines_open (Line line ∷ steps) = omega (arith, lines_open steps, sum_by-cons opens (Line line) steps, sum_by-cons openings_of line (lines_in steps))
+
+-- behind a map or a line there is no map
+none_saved : (before : Step) (steps : List Step) → 12 ≤ step_place before → AllByRecursion (Precedes before) steps → saved_in steps ≡ []
+none_saved before [] le all = refl
+none_saved before (Set x ∷ steps) le all = none_saved before steps le all.1
+none_saved before (Saved m ∷ steps) le all = let lt = all.0 in absurd (omega arith)
+none_saved before (Line line ∷ steps) le all = none_saved before steps le all.1
+
+saved_fits : (steps : List Step) → AllByRecursion IsStep steps → InOrder steps → (saved_in steps ≡ []) ⊎ Fits saved (saved_in steps)
+saved_fits [] each order = inl refl
+saved_fits (Set x ∷ steps) each order = saved_fits steps each.1 order.1
+saved_fits (Saved m ∷ steps) each order =
+    let only : m ++ saved_in steps ≡ m = ap (λ (t : List ℕ). m ++ t) (none_saved (Saved m) steps (omega arith) order.0) ∙ append-nil m in
+    inr (subst (λ (t : List ℕ). Fits saved t) (sym only) each.0.1.1.0)
+saved_fits (Line line ∷ steps) each order = inl (none_saved (Line line) steps (omega arith) order.0)
 
 pub spelled_script : (script : Contents) (texts : List (List ℕ)) → Spells script texts → IsScript script
 spelled_script script texts spells =
     let steps = spells.steps in
     let is : IsScript (contents_of steps) = record {
       setup = told_fold plain steps spells.is.each plain_told;
+      map = saved_fits steps spells.is.each spells.is.order;
       lines = lines_fit steps spells.is.each;
       openings = omega (arith, lines_open steps, spells.is.openings);
     } in

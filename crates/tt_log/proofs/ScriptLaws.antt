@@ -18,8 +18,9 @@ use Rattle.tt_log.specs.declared.script.bad.ScriptBad.{ScriptBad}
 use Rattle.tt_log.specs.declared.script.bad.ScriptBad.TheVariants.{Line as BadLine, Memory}
 use Rattle.tt_log.specs.declared.script.line.Line1.{Line1}
 use Rattle.tt_log.specs.declared.script.setting.Setting.{Setting}
+use Rattle.tt_log.specs.declared.script.setting.Setting.TheVariants.{Seed, FrameFreq, SyncFreq, Clients, Init, PassLimit, Download, Join as JoinLimit, Lag, Cost, Pw, Admin}
 use Rattle.tt_log.specs.declared.script.step.Step.{Step}
-use Rattle.tt_log.specs.declared.script.step.Step.TheVariants.{Set, Line}
+use Rattle.tt_log.specs.declared.script.step.Step.TheVariants.{Set, Saved, Line}
 use Rattle.tt_log.proofs.TableLaws.{read_found, read_back}
 
 -- ---- lists
@@ -136,43 +137,60 @@ begun bytes r rest count place openings = record {
   text = ap lines_of (sym rest);
   count = count;
   openings = openings;
-  place = λ setting. ((λ le. tt), (λ all. omega (arith, place)));
-  most = omega (arith, place);
+  place = λ own few. ((λ le. tt), (λ all. omega (arith, place)));
 }
 
 all_free : (steps : List Step) (line : Line1) → AllByRecursion (λ before. Precedes before (Line line)) steps
 all_free [] line = tt
 all_free (step ∷ steps) line = (tt, all_free steps line)
 
--- the settings that may follow a step, where it may follow what the place says
+-- the places that may follow steps
 abbrev places : List Step → ℕ → Type 0
-places steps place = (setting : Setting) → (place ≤ place_of setting) ↔ AllByRecursion (λ before. Precedes before (Set setting)) steps
+places steps least = (place : ℕ) → place ≤ 12 → (least ≤ place) ↔ AllByRecursion (λ before. step_place before < place) steps
 
-place_after : (steps : List Step) (step : Step) (place openings new : ℕ) → places steps place → place ≤ 13 → new ≡ suc (step_place step) → MayFollow place openings step → places (steps ++ step ∷ []) new
-place_after steps (Set own) place openings new old most is may = λ setting.
-    let P : Step → Type 0 = λ before. Precedes before (Set setting) in (
-      (λ le. all_snoc P steps (Set own) ((old setting).0 (omega (arith, le, is, may))) (omega (arith, le, is))),
-      (λ all. let last : place_of own < place_of setting = all_last P steps (Set own) all in omega (arith, last, is)),
+pub small_place : (setting : Setting) → place_of setting ≤ 11
+small_place (Seed n) = omega arith
+small_place (FrameFreq n) = omega arith
+small_place (SyncFreq n) = omega arith
+small_place (Clients n) = omega arith
+small_place (Init n) = omega arith
+small_place (PassLimit n) = omega arith
+small_place (Download n) = omega arith
+small_place (JoinLimit n) = omega arith
+small_place (Lag n) = omega arith
+small_place (Cost n) = omega arith
+small_place (Pw content) = omega arith
+small_place (Admin content) = omega arith
+
+-- behind a step that may follow the least place, or is behind all places
+place_behind : (steps : List Step) (step : Step) (least new : ℕ) → places steps least → new ≡ suc (step_place step) → ((place : ℕ) → new ≤ place → place ≤ 12 → least ≤ place)
+    → places (steps ++ step ∷ []) new
+place_behind steps step least new old is later = λ place few.
+    let P : Step → Type 0 = λ before. step_place before < place in (
+      (λ le. all_snoc P steps step ((old place few).0 (later place le few)) (omega (arith, le, is))),
+      (λ all. let last : step_place step < place = all_last P steps step all in omega (arith, last, is)),
     )
-place_after steps (Line line) place openings new old most is may = λ setting.
-    let P : Step → Type 0 = λ before. Precedes before (Set setting) in (
-      (λ le. all_snoc P steps (Line line) ((old setting).0 (omega (arith, le, is, most))) (omega (arith, le, is))),
-      (λ all. let last : 12 < place_of setting = all_last P steps (Line line) all in omega (arith, last, is)),
-    )
+
+place_after : (steps : List Step) (step : Step) (place openings new : ℕ) → places steps place → new ≡ suc (step_place step) → MayFollow place openings step → places (steps ++ step ∷ []) new
+place_after steps (Set own) place openings new old is may = place_behind steps (Set own) place new old is (λ other le few. omega (arith, le, is, may))
+place_after steps (Saved map) place openings new old is may = place_behind steps (Saved map) place new old is (λ other le few. omega (arith, le, is, may))
+place_after steps (Line line) place openings new old is may = place_behind steps (Line line) place new old is (λ other le few. absurd (omega (arith, le, is, few)))
 
 before_step : (steps : List Step) (step : Step) (place openings : ℕ) → places steps place → MayFollow place openings step → AllByRecursion (λ before. Precedes before step) steps
-before_step steps (Set own) place openings old may = (old own).0 may
+before_step steps (Set own) place openings old may = (old (place_of own) (omega (arith, small_place own))).0 may
+before_step steps (Saved map) place openings old may = (old 12 (omega arith)).0 may
 before_step steps (Line line) place openings old may = all_free steps line
 
 opens_within : (r_openings : ℕ) (step : Step) (place : ℕ) → r_openings ≤ 65535 → MayFollow place r_openings step → r_openings + opens step ≤ 65535
 opens_within openings (Set own) place few may = omega arith
+opens_within openings (Saved map) place few may = omega arith
 opens_within openings (Line line) place few may = may
 
 -- one line more
 pub grown : (r s : Standing) (bytes line : List ℕ) (steps : List Step) (step : Step) → IsAt r bytes steps → lines_of r.rest ≡ line ∷ lines_of s.rest → HasNo 10 line
-    → step_at line ≡ Some step → s.count ≡ r.count + 1 → s.place ≡ suc (step_place step) → s.openings ≡ r.openings + opens step → s.place ≤ 13
+    → step_at line ≡ Some step → s.count ≡ r.count + 1 → s.place ≡ suc (step_place step) → s.openings ≡ r.openings + opens step
     → MayFollow r.place r.openings step → IsAt s bytes (steps ++ step ∷ [])
-grown r s bytes line steps step at cut one read count place openings most may =
+grown r s bytes line steps step at cut one read count place openings may =
     let back = read_back line step one read in
     let sums = sum_by-append opens steps (step ∷ []) in
     let last = sum_by-cons opens step [] in
@@ -189,8 +207,7 @@ grown r s bytes line steps step at cut one read count place openings most may =
           ∙ ap (λ (t : List ℕ). (map step_text steps ++ t ∷ []) ++ lines_of s.rest) back.1 ∙ ap (λ (t : List (List ℕ)). t ++ lines_of s.rest) (sym texts);
       count = omega (arith, count, at.count, length-append steps (step ∷ []));
       openings = omega (arith, openings, at.openings, sums, last);
-      place = place_after steps step r.place r.openings s.place at.place at.most place may;
-      most = most;
+      place = place_after steps step r.place r.openings s.place at.place place may;
     }
 
 -- ---- the first bad line
@@ -208,7 +225,8 @@ abbrev pub Misfits : Standing → List ℕ → Type 0
 Misfits r line = (step : Step) → step_at line ≡ Some step → MayFollow r.place r.openings step → ⊥
 
 may_last : (r : Standing) (bytes : List ℕ) (steps : List Step) (step : Step) → IsAt r bytes steps → IsSteps (steps ++ step ∷ []) → MayFollow r.place r.openings step
-may_last r bytes steps (Set own) at is = (at.place own).1 (order_last steps (Set own) is.order)
+may_last r bytes steps (Set own) at is = (at.place (place_of own) (omega (arith, small_place own))).1 (order_last steps (Set own) is.order)
+may_last r bytes steps (Saved map) at is = (at.place 12 (omega arith)).1 (order_last steps (Saved map) is.order)
 may_last r bytes steps (Line line) at is = omega (arith, is.openings, at.openings, sum_by-append opens steps (Line line ∷ []), sum_by-cons opens (Line line) [])
 
 last_is : (line : List ℕ) (more : List Step) → line ∷ [] ≡ map step_text more → (step : Step) × (more ≡ step ∷ []) × (line ≡ step_text step)

@@ -6,7 +6,7 @@ use Rattle.std.specs.Fmt.{decimal}
 use Rattle.hex.specs.Hex.{encode_lower}
 use Rattle.std.proofs.lemmas.List.{append-nil}
 use Rattle.tt_lines.specs.Lines.{HasNo}
-use Rattle.tt_log.specs.Forms.{number, text, hex, key, text_spelled, Fits, WordFits}
+use Rattle.tt_log.specs.Forms.{number, text, hex, saved, key, text_spelled, Fits, WordFits}
 use Rattle.tt_log.specs.Settings.{setting_words}
 use Rattle.tt_log.specs.Orders.{words_by, UsesAll}
 use Rattle.tt_log.specs.Lines.{any, IsLine}
@@ -20,7 +20,7 @@ use Rattle.tt_log.specs.declared.script.line.Line1.TheVariants.{Open, Side, Byte
 use Rattle.tt_log.specs.declared.script.setting.Setting.{Setting}
 use Rattle.tt_log.specs.declared.script.setting.Setting.TheVariants.{Seed, FrameFreq, SyncFreq, Clients, Init, PassLimit, Download, Join as JoinLimit, Lag, Cost, Pw, Admin}
 use Rattle.tt_log.specs.declared.script.step.Step.{Step}
-use Rattle.tt_log.specs.declared.script.step.Step.TheVariants.{Set, Line}
+use Rattle.tt_log.specs.declared.script.step.Step.TheVariants.{Set, Saved, Line}
 use Rattle.tt_world.specs.declared.command.Code.{Code}
 use Rattle.tt_world.specs.declared.command.Code.TheVariants.{IncreaseLoan, DecreaseLoan, Give, PlaceSign, RenameSign, RenameCompany, RenamePresident, Pause, NewCompany}
 
@@ -53,7 +53,10 @@ settings_read = (
                     (λ x fits. ((tt, (fits, tt)), refl)),
                     (
                       (λ x fits. ((tt, (fits, tt)), refl)),
-                      ((λ x fits. ((tt, (fits, tt)), refl)), tt),
+                      (
+                        (λ x fits. ((tt, (fits, tt)), refl)),
+                        ((λ x fits. ((tt, (tt, (fits, tt))), refl)), tt),
+                      ),
                     ),
                   ),
                 ),
@@ -187,6 +190,11 @@ setting_found (Admin content) fits =
     known (codes "set") (32 ∷ codes "admin" ++ (32 ∷ text_spelled content ++ [])) refl refl ∙ set_found (codes "admin") (32 ∷ text_spelled content ++ []) refl refl
     ∙ go (text 0 32) (λ content. end (Set (Admin content))) content [] fits.1.0 tt
 
+map_found : (map : List ℕ) → IsStep (Saved map) → step_at (step_text (Saved map)) ≡ Some (Saved map)
+map_found map fits =
+    known (codes "set") (32 ∷ codes "map" ++ (32 ∷ encode_lower map ++ [])) refl refl ∙ set_found (codes "map") (32 ∷ encode_lower map ++ []) refl refl
+    ∙ go saved (λ map. end (Saved map)) map [] fits.1.1.0 tt
+
 order_found : (w left : List ℕ) (conn : ℕ) → list_all (λ b. not (b == 32)) w ≡ true → IsLeft left → row_at (key ▸ λ v. pick (orders conn) v) (32 ∷ w ++ left) ≡ row_at (pick (orders conn) w) left
 order_found w left conn one is = go key (λ v. pick (orders conn) v) w left (has_no-test 32 w one) is
 
@@ -284,4 +292,5 @@ line_found (Expect content) fits =
 -- a line is read from its text
 pub read_found : (step : Step) → IsStep step → step_at (step_text step) ≡ Some step
 read_found (Set setting) fits = setting_found setting fits
+read_found (Saved map) fits = map_found map fits
 read_found (Line line) fits = line_found line fits

@@ -6,6 +6,7 @@ use Rattle.tt_frame.specs.Packet.{IsBytes}
 use Rattle.tt_frame.specs.Text.{is_text}
 use Rattle.tt_lines.specs.Lines.{HasNo}
 use Rattle.tt_lines.specs.Digits.{IsPiece}
+use Rattle.tt_log.specs.Saved.{IsSaved}
 
 pub data Form : Type 0 where
   -- a number in decimal, from least to most
@@ -14,6 +15,8 @@ pub data Form : Type 0 where
   text : (least most : ℕ) → Form
   -- bytes as pairs of hexadecimal digits, at least one
   hex : Form
+  -- the map of a saved game, as pairs of hexadecimal digits
+  saved : Form
   -- a word that says what the line is
   key : Form
 
@@ -22,6 +25,7 @@ abbrev pub Value : Form → Type 0
 Value (number least most) = ℕ
 Value (text least most) = List ℕ
 Value hex = List ℕ
+Value saved = List ℕ
 Value key = List ℕ
 
 -- a text in digits, or the dash
@@ -34,6 +38,7 @@ abbrev pub spelled : (f : Form) → Value f → List ℕ
 spelled (number least most) n = decimal n
 spelled (text least most) bytes = text_spelled bytes
 spelled hex bytes = encode_lower bytes
+spelled saved bytes = encode_lower bytes
 spelled key word = word
 
 -- a text of least to most bytes
@@ -51,6 +56,7 @@ abbrev pub Fits : (f : Form) → Value f → Type 0
 Fits (number least most) n = (least ≤ n) × (n ≤ most) × (n < 2 ^ 32)
 Fits (text least most) bytes = IsTextFrom least most bytes
 Fits hex bytes = IsPiece bytes
+Fits saved bytes = IsPiece bytes × IsSaved bytes
 Fits key word = HasNoBlank word
 
 -- a word of a line, with its value

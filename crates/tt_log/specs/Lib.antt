@@ -1,4 +1,5 @@
 -- Scripts
+pub mod Saved
 pub mod Forms
 pub mod Settings
 pub mod Orders

@@ -1,12 +1,12 @@
 -- The tables by which lines are read: the word that a line is known by, the forms of the words behind it, and what they make.
 use Rattle.std.specs.Prelude.{ℕ, List, [], ◌∷◌, codes, Option}
-use Rattle.tt_log.specs.Forms.{number, text, hex, key}
+use Rattle.tt_log.specs.Forms.{number, text, hex, saved, key}
 use Rattle.tt_log.specs.Lines.{any}
 use Rattle.tt_log.specs.Rows.{Row, Branch, ◌▸◌, end, all, row, pick, row_at}
 use Rattle.tt_log.specs.declared.script.line.Line1.TheVariants.{Open, Side, Bytes, Shut, Tick, Stop, Join, Up, Down, Run, Pump, Do, Forge, Expect}
 use Rattle.tt_log.specs.declared.script.setting.Setting.TheVariants.{Seed, FrameFreq, SyncFreq, Clients, Init, PassLimit, Download, Join as JoinLimit, Lag, Cost, Pw, Admin}
 use Rattle.tt_log.specs.declared.script.step.Step.{Step}
-use Rattle.tt_log.specs.declared.script.step.Step.TheVariants.{Set, Line}
+use Rattle.tt_log.specs.declared.script.step.Step.TheVariants.{Set, Saved, Line}
 use Rattle.tt_world.specs.declared.command.Code.{Code}
 use Rattle.tt_world.specs.declared.command.Code.TheVariants.{IncreaseLoan, DecreaseLoan, Give, PlaceSign, RenameSign, RenameCompany, RenamePresident}
 
@@ -25,6 +25,7 @@ settings =
     ∷ row (codes "cost") (number 64 1073741824 ▸ λ n. end (Set (Cost n)))
     ∷ row (codes "pw") (text 0 32 ▸ λ bytes. end (Set (Pw bytes)))
     ∷ row (codes "admin") (text 0 32 ▸ λ bytes. end (Set (Admin bytes)))
+    ∷ row (codes "map") (saved ▸ λ map. end (Saved map))
     ∷ []
 
 -- a line that tells a client what to do

@@ -1,13 +1,17 @@
 -- How a line is read, word by word: its value, or nothing where a word isn't there. That this reading is the inverse of
 -- the tables, the laws of the crate say.
-use Rattle.std.specs.Prelude.{◌≡◌, ℕ, ◌^◌, List, [], ◌∷◌, codes, length, cond, ◌&&◌, ◌==◌, nat_le, nat_lt, if◌then◌else◌, Option, Some, None, Result, Ok, Err}
+use Rattle.std.specs.Prelude.{◌≡◌, ℕ, ◌^◌, List, [], ◌∷◌, codes, length, cond, Bool, false, ◌&&◌, ◌==◌, nat_le, nat_lt, if◌then◌else◌, Option, Some, None, Result, Ok, Err}
 use Rattle.std.specs.Str.{bytes_eq}
 use Rattle.std.specs.Str.Parse.{digits_value}
 use Rattle.std.specs.Fmt.{decimal}
 use Rattle.hex.specs.Hex.{encode_lower, decode_of}
 use Rattle.hex.specs.declared.error.FromHexError.{FromHexError}
 use Rattle.tt_frame.specs.Text.{is_text}
-use Rattle.tt_log.specs.Forms.{Form, number, text, hex, key, Value}
+use Rattle.tt_log.specs.Forms.{Form, number, text, hex, saved, key, Value}
+use Rattle.tt_log.specs.Saved.{most_saved, last_start_day}
+use Rattle.tt_world.specs.World.{WorldState}
+use Rattle.tt_map.specs.Reading.{map_in}
+use Rattle.tt_map.specs.declared.bad.MapBad.{MapBad}
 use Rattle.tt_log.specs.declared.script.bad.NoLine.{NoLine}
 use Rattle.tt_log.specs.declared.script.bad.NoLine.TheVariants.{Bad, Memory}
 
@@ -71,10 +75,23 @@ hex_at left = word_at left >>= λ w. hex_in w.0 >>= λ bytes. Some (bytes, w.1)
 unfoldable pub text_at : ℕ → ℕ → List ℕ → Option (List ℕ × List ℕ)
 text_at least most left = word_at left >>= λ w. text_in w.0 >>= λ bytes. text_within least most bytes >>= λ text. Some (text, w.1)
 
+-- whether what the bytes of a map tell is a game that may start again
+abbrev pub may_start : Result WorldState MapBad → Bool
+may_start (Ok w) = nat_le w.day last_start_day
+may_start (Err bad) = false
+
+-- the map of a saved game
+abbrev pub saved_within : List ℕ → Option (List ℕ)
+saved_within bytes = if nat_le (length bytes) most_saved && may_start (map_in bytes) then Some bytes else None
+
+unfoldable pub saved_at : List ℕ → Option (List ℕ × List ℕ)
+saved_at left = hex_at left >>= λ read. saved_within read.0 >>= λ map. Some (map, read.1)
+
 abbrev pub value_at : (f : Form) → List ℕ → Option (Value f × List ℕ)
 value_at (number least most) left = number_at least most left
 value_at (text least most) left = text_at least most left
 value_at hex left = hex_at left
+value_at saved left = saved_at left
 value_at key left = word_at left
 
 -- The words of a line that gives an M: what stands behind the words so far.

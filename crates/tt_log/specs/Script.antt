@@ -6,7 +6,7 @@ use Rattle.tt_log.specs.Steps.{step_text, IsStep, opens, Precedes}
 use Rattle.tt_log.specs.Contents.{Contents}
 use Rattle.tt_log.specs.declared.script.line.Line1.{Line1}
 use Rattle.tt_log.specs.declared.script.step.Step.{Step}
-use Rattle.tt_log.specs.declared.script.step.Step.TheVariants.{Set, Line}
+use Rattle.tt_log.specs.declared.script.step.Step.TheVariants.{Set, Saved, Line}
 use Rattle.tt_world.specs.Setup.{plain}
 use Rattle.tt_world.specs.declared.setup.Setup.{Setup}
 
@@ -15,7 +15,8 @@ abbrev pub InOrder : List Step → Type 0
 InOrder [] = Unit {0}
 InOrder (step ∷ steps) = AllByRecursion (Precedes step) steps × InOrder steps
 
--- the steps of a script: each value in its range, the settings first and in order, and at most 65,535 openings
+-- the steps of a script: each value in its range, the settings first and in order, the map behind them, and at most 65,535
+-- openings
 pub record IsSteps (steps : List Step) : Type 0 where
   pub each : AllByRecursion IsStep steps
   pub order : InOrder steps
@@ -24,15 +25,27 @@ pub record IsSteps (steps : List Step) : Type 0 where
 -- a setup behind one more step
 abbrev pub setup_with : Setup → Step → Setup
 setup_with s (Set setting) = with_setting s setting
+setup_with s (Saved map) = s
 setup_with s (Line line) = s
 
 -- the setup that the settings make
 abbrev pub setup_of : List Step → Setup
 setup_of steps = fold setup_with plain steps
 
+-- the map's bytes, where the step is one
+abbrev pub map_in_step : Step → List ℕ
+map_in_step (Set setting) = []
+map_in_step (Saved map) = map
+map_in_step (Line line) = []
+
+-- the bytes of the map that the game starts from; a script has at most one
+abbrev pub saved_in : List Step → List ℕ
+saved_in steps = flat_map map_in_step steps
+
 -- the line, where the step is one
 abbrev pub line_in : Step → List Line1
 line_in (Set setting) = []
+line_in (Saved map) = []
 line_in (Line line) = line ∷ []
 
 -- the lines behind the settings
@@ -41,7 +54,7 @@ lines_in steps = flat_map line_in steps
 
 -- the script of such steps
 abbrev pub contents_of : List Step → Contents
-contents_of steps = record { setup = setup_of steps; lines = lines_in steps }
+contents_of steps = record { setup = setup_of steps; saved = saved_in steps; lines = lines_in steps }
 
 -- the lines of an input spell the script: they are those of its steps
 pub record Spells (script : Contents) (texts : List (List ℕ)) : Type 0 where

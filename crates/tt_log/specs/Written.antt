@@ -5,7 +5,7 @@ use Rattle.std.specs.Fmt.{decimal}
 use Rattle.hex.specs.Hex.{encode_lower}
 use Rattle.tt_log.specs.Forms.{text_spelled}
 use Rattle.tt_log.specs.Settings.{is_plain}
-use Rattle.tt_log.specs.Printing.{step_line}
+use Rattle.tt_log.specs.Printing.{told_map, step_line}
 use Rattle.tt_log.specs.declared.script.line.Line1.{Line1}
 use Rattle.tt_log.specs.declared.script.setting.Setting.{Setting}
 use Rattle.tt_log.specs.declared.script.step.Step.TheVariants.{Set, Line}
@@ -28,6 +28,10 @@ parts_text parts = flat_map behind_blank parts
 -- a setting's line, unless it says what the plain setup says
 abbrev pub setting_text : Setting → List ℕ
 setting_text setting = if is_plain setting then [] else step_line (Set setting)
+
+-- the map's line, where there is a map
+abbrev pub map_text : List ℕ → List ℕ
+map_text map = flat_map step_line (told_map map)
 
 abbrev pub line_text : Line1 → List ℕ
 line_text line = step_line (Line line)

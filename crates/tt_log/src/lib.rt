@@ -27,6 +27,3 @@ pub use laws::{
 pub use script::{
     Bytes, Line1, Script, ScriptBad, ScriptReader, Setting, Step, parse_script, print_script,
 };
-
-#[cfg(test)]
-mod tests;

@@ -7,7 +7,7 @@ ghost use Rattle.std.specs.Prelude.{◌≡◌, ◌++◌, ◌⊎◌, ℕ, Ok, Err
 ghost use Rattle.tt_lines.specs.Lines.{lines_of, IsFirstBad};
 ghost use Rattle.tt_log.specs.Contents.{Contents};
 ghost use Rattle.tt_log.specs.Printing.{IsScript};
-ghost use Rattle.tt_log.specs.Script.{Spells, IsScriptText, setup_with, line_in};
+ghost use Rattle.tt_log.specs.Script.{Spells, IsScriptText, setup_with, map_in_step, line_in};
 ghost use Rattle.tt_log.specs.declared.script.bad.ScriptBad.TheVariants as bad;
 
 mod bad;
@@ -42,11 +42,13 @@ use std::marker::Model;
 pub use step::Step;
 use tt_world::Setup;
 
-/// A whole script. Contracts see its setup and the list of its lines.
+/// A whole script. Contracts see its setup, the bytes of its map and the list of its lines.
 #[derive(Debug, Drop)]
 pub struct Script {
     /// The setup of its game: the plain one, with what the `set` lines say.
     pub setup: Setup,
+    /// The map that the game starts from, as `set map` says it; empty where the game starts from the setup.
+    pub saved: Vec<u8>,
     /// The lines behind the settings.
     pub lines: Vec<Line1>,
 }
@@ -56,7 +58,7 @@ impl Model for Script {
 
     ghost Value = { Contents };
 
-    ghost view = { λ script. record { setup = script.setup; lines = script.lines.items } };
+    ghost view = { λ script. record { setup = script.setup; saved = script.saved.items; lines = script.lines.items } };
 }
 
 /// The script that the bytes spell.
@@ -80,28 +82,45 @@ fn parsed(alloc: Global, bytes: &[u8]) -> Result<Script, ScriptBad>
 {
     let mut reader = ScriptReader::new(bytes);
     let mut setup = Setup::plain();
+    let mut saved = Vec::new(alloc);
     let mut lines = Vec::new(alloc);
     loop {
         match reader.next(alloc) {
             Ok(Some(step)) => {
-                if let Err(_) = take(&mut setup, &mut lines, step) {
+                if let Err(_) = take(&mut setup, &mut saved, &mut lines, step) {
                     return Err(ScriptBad::Memory);
                 }
             }
-            Ok(None) => return Ok(Script { setup, lines }),
+            Ok(None) => {
+                return Ok(Script {
+                    setup,
+                    saved,
+                    lines,
+                });
+            }
             Err(bad) => return Err(bad),
         }
     }
 }
 
 /// Takes what one line says.
-fn take(setup: &mut Setup, lines: &mut Vec<Line1>, step: Step) -> Result<(), ScriptBad>
+fn take(
+    setup: &mut Setup,
+    saved: &mut Vec<u8>,
+    lines: &mut Vec<Line1>,
+    step: Step,
+) -> Result<(), ScriptBad>
     ensures setup { OnOk result (setup.new ≡ setup_with setup.old step) }
+    ensures saved { OnOk result (saved.new.items ≡ saved.old.items ++ map_in_step step) }
     ensures lines { OnOk result (lines.new.items ≡ lines.old.items ++ line_in step) }
 {
     match step {
         Step::Set(setting) => {
             setting.apply(setup);
+            Ok(())
+        }
+        Step::Saved(map) => {
+            saved.extend_from_slice(map.bytes())?;
             Ok(())
         }
         Step::Line(line) => {

@@ -9,7 +9,8 @@ use Rattle.std.proofs.lemmas.List.{length-append, length-take, take_more}
 use Rattle.tt_world.specs.World.{WorldState, company_at}
 use Rattle.tt_world.specs.Sound.{IsSound}
 use Rattle.tt_world.specs.declared.company.Company.{Company}
-use Rattle.tt_map.specs.Layout.{u32, live_from, company_bytes, Chunk, GAME, RAND, CMPY, SIGN, ENDC, Part, tag_of, body_of, part_of, chunk, head, map_tag, map_version, map_of}
+use Rattle.tt_map.specs.declared.version.Version.TheVariants.{Second}
+use Rattle.tt_map.specs.Layout.{u32, live_from, company_bytes, Chunk, GAME, RAND, CMPY, SIGN, ENDC, Part, tag_of, body_of, part_of, chunk, head, map_tag, number_of, map_of}
 use Rattle.tt_map.proofs.BodyLaws.{body_length}
 use Rattle.tt_map.proofs.ChunkLaws.{four_of}
 
@@ -31,9 +32,9 @@ live_more places n o lt is =
 
 -- one place more is written
 pub one_place : (places : List (Option Company)) (n : ℕ) (o : Option Company) → n < length places → o ≡ company_at places n
-    → flat_map company_bytes (live_from 0 (take (n + 1) places)) ≡ flat_map company_bytes (live_from 0 (take n places)) ++ flat_map company_bytes (live_from n (o ∷ []))
+    → flat_map (company_bytes Second) (live_from 0 (take (n + 1) places)) ≡ flat_map (company_bytes Second) (live_from 0 (take n places)) ++ flat_map (company_bytes Second) (live_from n (o ∷ []))
 one_place places n o lt is =
-    ap (λ (l : List (ℕ × Company)). flat_map company_bytes l) (live_more places n o lt is) ∙ flat_map-append company_bytes (live_from 0 (take n places)) (live_from n (o ∷ []))
+    ap (λ (l : List (ℕ × Company)). flat_map (company_bytes Second) l) (live_more places n o lt is) ∙ flat_map-append (company_bytes Second) (live_from 0 (take n places)) (live_from n (o ∷ []))
 
 length_more : (places : List (Option Company)) (n : ℕ) (o : Option Company) → n < length places → o ≡ company_at places n → length (live_from 0 (take (n + 1) places)) ≡ length (live_from 0 (take n places)) + length (live_from n (o ∷ []))
 length_more places n o lt is = ap length (live_more places n o lt is) ∙ length-append (live_from 0 (take n places)) (live_from n (o ∷ []))
@@ -54,25 +55,25 @@ count_without places n lt e = length_more places n (company_at places n) lt refl
 
 -- ---- lengths
 
-pub companies_fit : (w : WorldState) → IsSound w → length (body_of CMPY w.companies) ≤ 1156
-companies_fit w h = body_length CMPY w w.companies (record { places = h.places; each = h.companies; names = h.names })
+pub companies_fit : (w : WorldState) → IsSound w → length (body_of Second CMPY w.companies) ≤ 1216
+companies_fit w h = body_length Second CMPY w w.companies (record { places = h.places; each = h.companies; names = h.names; mosts = λ n c at. tt })
 
-pub signs_fit : (w : WorldState) → IsSound w → length (body_of SIGN w.signs) ≤ 39002
-signs_fit w h = body_length SIGN w w.signs (record { few = h.few; rising = h.rising; each = h.signs })
+pub signs_fit : (w : WorldState) → IsSound w → length (body_of Second SIGN w.signs) ≤ 39002
+signs_fit w h = body_length Second SIGN w w.signs (record { few = h.few; rising = h.rising; each = h.signs })
 
-chunk_length : (c : Chunk) (v : Part c) → length (chunk c v) ≡ 8 + length (body_of c v)
-chunk_length c v = omega (arith, four_of c, length-append (tag_of c ++ u32 (length (body_of c v))) (body_of c v), length-append (tag_of c) (u32 (length (body_of c v))))
+pub chunk_length : (c : Chunk) (v : Part c) → length (chunk Second c v) ≡ 8 + length (body_of Second c v)
+chunk_length c v = omega (arith, four_of c, length-append (tag_of c ++ u32 (length (body_of Second c v))) (body_of Second c v), length-append (tag_of c) (u32 (length (body_of Second c v))))
 
-six_lengths : (h a b c d e : List ℕ) → length (h ++ a ++ b ++ c ++ d ++ e) ≡ length h + length a + length b + length c + length d + length e
+pub six_lengths : (h a b c d e : List ℕ) → length (h ++ a ++ b ++ c ++ d ++ e) ≡ length h + length a + length b + length c + length d + length e
 six_lengths h a b c d e = simp length-append
 
-pub map_length : (w : WorldState) → IsSound w → length (map_of w) ≤ 40220
+pub map_length : (w : WorldState) → IsSound w → length (map_of w) ≤ 40280
 map_length w h =
     let companies = companies_fit w h in
     let signs = signs_fit w h in
     omega (
       arith,
-      six_lengths head (chunk GAME (part_of GAME w)) (chunk RAND (part_of RAND w)) (chunk CMPY (part_of CMPY w)) (chunk SIGN (part_of SIGN w)) (chunk ENDC (part_of ENDC w)),
+      six_lengths (head Second) (chunk Second GAME (part_of GAME w)) (chunk Second RAND (part_of RAND w)) (chunk Second CMPY (part_of CMPY w)) (chunk Second SIGN (part_of SIGN w)) (chunk Second ENDC (part_of ENDC w)),
       chunk_length GAME (part_of GAME w),
       chunk_length RAND (part_of RAND w),
       chunk_length CMPY w.companies,
@@ -86,6 +87,10 @@ map_length w h =
 pub three_wrote : (x o p q a b c : List ℕ) → o ≡ x ++ a → p ≡ o ++ b → q ≡ p ++ c → q ≡ x ++ (a ++ b ++ c)
 three_wrote x o p q a b c f g h = h ∙ ap (λ (y : List ℕ). y ++ c) (g ∙ ap (λ (y : List ℕ). y ++ b) f) ∙ simp append_assoc
 
+-- four of them
+pub four_wrote : (x o p q r a b c d : List ℕ) → o ≡ x ++ a → p ≡ o ++ b → q ≡ p ++ c → r ≡ q ++ d → r ≡ x ++ (a ++ b ++ c ++ d)
+four_wrote x o p q r a b c d f g h k = k ∙ ap (λ (y : List ℕ). y ++ d) (three_wrote x o p q a b c f g h) ∙ append_assoc x (a ++ b ++ c) d
+
 pub with_bytes : (o : List ℕ) {a b : List ℕ} → a ≡ b → o ++ a ≡ o ++ b
 with_bytes o e = ap (λ (y : List ℕ). o ++ y) e
 
@@ -93,7 +98,7 @@ with_bytes o e = ap (λ (y : List ℕ). o ++ y) e
 put : (c : Chunk) → List ℕ → List ℕ
 put c body = tag_of c ++ u32 (length body) ++ body
 
-put_is : (c : Chunk) (v : Part c) (body : List ℕ) → body ≡ body_of c v → put c body ≡ chunk c v
+put_is : (c : Chunk) (v : Part c) (body : List ℕ) → body ≡ body_of Second c v → put c body ≡ chunk Second c v
 unfolding put
 put_is c v body e = ap (λ (y : List ℕ). tag_of c ++ u32 (length y) ++ y) e
 
@@ -102,15 +107,15 @@ then : (o p x a b : List ℕ) → p ≡ o ++ a → o ≡ x → a ≡ b → p ≡
 then o p x a b wrote before same = wrote ∙ ap (λ (y : List ℕ). y ++ a) before ∙ ap (λ (y : List ℕ). x ++ y) same
 
 -- all that write a map
-pub map_wrote : (w : WorldState) (o0 o1 o2 o3 o4 o5 o6 o7 game rand cmpy sign : List ℕ) → o0 ≡ [] → o1 ≡ o0 ++ map_tag → o2 ≡ o1 ++ u32 map_version
-    → game ≡ body_of GAME (part_of GAME w) → rand ≡ body_of RAND (part_of RAND w) → cmpy ≡ body_of CMPY (part_of CMPY w) → sign ≡ body_of SIGN (part_of SIGN w)
+pub map_wrote : (w : WorldState) (o0 o1 o2 o3 o4 o5 o6 o7 game rand cmpy sign : List ℕ) → o0 ≡ [] → o1 ≡ o0 ++ map_tag → o2 ≡ o1 ++ u32 (number_of Second)
+    → game ≡ body_of Second GAME (part_of GAME w) → rand ≡ body_of Second RAND (part_of RAND w) → cmpy ≡ body_of Second CMPY (part_of CMPY w) → sign ≡ body_of Second SIGN (part_of SIGN w)
     → o3 ≡ o2 ++ (tag_of GAME ++ u32 (length game) ++ game) → o4 ≡ o3 ++ (tag_of RAND ++ u32 (length rand) ++ rand) → o5 ≡ o4 ++ (tag_of CMPY ++ u32 (length cmpy) ++ cmpy)
     → o6 ≡ o5 ++ (tag_of SIGN ++ u32 (length sign) ++ sign) → o7 ≡ o6 ++ (tag_of ENDC ++ u32 0 ++ []) → o7 ≡ map_of w
 unfolding put
 map_wrote w o0 o1 o2 o3 o4 o5 o6 o7 game rand cmpy sign e0 e1 e2 eg er ec es e3 e4 e5 e6 e7 =
-    let b2 : o2 ≡ head = then o1 o2 map_tag (u32 map_version) (u32 map_version) e2 (then o0 o1 [] map_tag map_tag e1 e0 refl) refl in
-    let b3 = then o2 o3 head (put GAME game) (chunk GAME (part_of GAME w)) e3 b2 (put_is GAME (part_of GAME w) game eg) in
-    let b4 = then o3 o4 (head ++ chunk GAME (part_of GAME w)) (put RAND rand) (chunk RAND (part_of RAND w)) e4 b3 (put_is RAND (part_of RAND w) rand er) in
-    let b5 = then o4 o5 (head ++ chunk GAME (part_of GAME w) ++ chunk RAND (part_of RAND w)) (put CMPY cmpy) (chunk CMPY (part_of CMPY w)) e5 b4 (put_is CMPY (part_of CMPY w) cmpy ec) in
-    let b6 = then o5 o6 (head ++ chunk GAME (part_of GAME w) ++ chunk RAND (part_of RAND w) ++ chunk CMPY (part_of CMPY w)) (put SIGN sign) (chunk SIGN (part_of SIGN w)) e6 b5 (put_is SIGN (part_of SIGN w) sign es) in
-    then o6 o7 (head ++ chunk GAME (part_of GAME w) ++ chunk RAND (part_of RAND w) ++ chunk CMPY (part_of CMPY w) ++ chunk SIGN (part_of SIGN w)) (put ENDC []) (chunk ENDC (part_of ENDC w)) e7 b6 (put_is ENDC (part_of ENDC w) [] refl)
+    let b2 : o2 ≡ head Second = then o1 o2 map_tag (u32 (number_of Second)) (u32 (number_of Second)) e2 (then o0 o1 [] map_tag map_tag e1 e0 refl) refl in
+    let b3 = then o2 o3 (head Second) (put GAME game) (chunk Second GAME (part_of GAME w)) e3 b2 (put_is GAME (part_of GAME w) game eg) in
+    let b4 = then o3 o4 (head Second ++ chunk Second GAME (part_of GAME w)) (put RAND rand) (chunk Second RAND (part_of RAND w)) e4 b3 (put_is RAND (part_of RAND w) rand er) in
+    let b5 = then o4 o5 (head Second ++ chunk Second GAME (part_of GAME w) ++ chunk Second RAND (part_of RAND w)) (put CMPY cmpy) (chunk Second CMPY (part_of CMPY w)) e5 b4 (put_is CMPY (part_of CMPY w) cmpy ec) in
+    let b6 = then o5 o6 (head Second ++ chunk Second GAME (part_of GAME w) ++ chunk Second RAND (part_of RAND w) ++ chunk Second CMPY (part_of CMPY w)) (put SIGN sign) (chunk Second SIGN (part_of SIGN w)) e6 b5 (put_is SIGN (part_of SIGN w) sign es) in
+    then o6 o7 (head Second ++ chunk Second GAME (part_of GAME w) ++ chunk Second RAND (part_of RAND w) ++ chunk Second CMPY (part_of CMPY w) ++ chunk Second SIGN (part_of SIGN w)) (put ENDC []) (chunk Second ENDC (part_of ENDC w)) e7 b6 (put_is ENDC (part_of ENDC w) [] refl)

@@ -2,16 +2,17 @@
 ghost use Rattle.std.specs.Prelude.{◌≡◌, ◌≤◌, ◌<◌, ◌^◌, ◌++◌, ◌∷◌, length, IfOk, OnOk, option_copied, []};
 ghost use Rattle.std.specs.List.{flat_map};
 ghost use Rattle.tt_world.specs.Sound.{IsSound};
+ghost use Rattle.tt_map.specs.declared.version.Version.TheVariants.{Second};
 ghost use Rattle.tt_map.specs.Layout.{text_body, i64, live_from, company_bytes, sign_bytes, u32, GAME, RAND, CMPY, SIGN, ENDC, body_of, part_of, chunk, head, map_of};
 ghost use Rattle.tt_map.specs.Maps.{IsMap};
 
-use crate::head::{TAG, VERSION};
+use crate::version::{SECOND_NUMBER, TAG};
 use std::alloc::Global;
 use tt_frame::{Name, OutOfMemory, Put};
 use tt_world::{COMPANIES, Company, Random, Sign, World};
 
 /// The greatest map has so many bytes.
-const GREATEST: usize = 40_220;
+const GREATEST: usize = 40_280;
 
 /// A text behind its length.
 fn put_name(out: &mut Vec<u8>, name: &Name) -> Result<(), OutOfMemory>
@@ -22,19 +23,20 @@ fn put_name(out: &mut Vec<u8>, name: &Name) -> Result<(), OutOfMemory>
     Put::raw(out, text)
 }
 
-/// The number of a company, its money and its loan.
+/// The number of a company, its money, its loan and the greatest one.
 fn put_sums(out: &mut Vec<u8>, number: u8, company: &Company) -> Result<(), OutOfMemory>
-    ensures { OnOk result (out.new.items ≡ out.old.items ++ (number ∷ i64 company.now.money ++ u32 company.now.loan)) }
+    ensures { OnOk result (out.new.items ≡ out.old.items ++ (number ∷ i64 company.now.money ++ u32 company.now.loan ++ u32 company.now.most)) }
 {
     Put::raw(out, &[number])?;
     Put::raw(out, &company.money.to_be_bytes())?;
     Put::raw(out, &company.loan.to_be_bytes())?;
+    Put::raw(out, &company.most.to_be_bytes())?;
     Ok(())
 }
 
 /// A company behind its number.
 fn put_company(out: &mut Vec<u8>, number: u8, company: &Company) -> Result<(), OutOfMemory>
-    ensures { OnOk result (out.new.items ≡ out.old.items ++ company_bytes (number, company.now)) }
+    ensures { OnOk result (out.new.items ≡ out.old.items ++ company_bytes Second (number, company.now)) }
 {
     put_sums(out, number, company)?;
     put_name(out, &company.name)?;
@@ -43,7 +45,7 @@ fn put_company(out: &mut Vec<u8>, number: u8, company: &Company) -> Result<(), O
 
 /// The company at a place, where there is one.
 fn put_place(out: &mut Vec<u8>, number: u8, company: Option<&Company>) -> Result<(), OutOfMemory>
-    ensures { OnOk result (out.new.items ≡ out.old.items ++ flat_map company_bytes (live_from number (option_copied company.entry ∷ []))) }
+    ensures { OnOk result (out.new.items ≡ out.old.items ++ flat_map (company_bytes Second) (live_from number (option_copied company.entry ∷ []))) }
 {
     match company {
         Some(company) => put_company(out, number, company),
@@ -62,8 +64,8 @@ fn put_sign(out: &mut Vec<u8>, sign: &Sign) -> Result<(), OutOfMemory>
 }
 
 /// The day, its part, and whether the world is paused.
-fn game_body(world: &World) -> [u8; 6]
-    ensures { result ≡ body_of GAME (part_of GAME world.now) }
+pub(crate) fn game_body(world: &World) -> [u8; 6]
+    ensures { result ≡ body_of Second GAME (part_of GAME world.now) }
 {
     let day = world.day().to_be_bytes();
     let paused = if world.paused() { 1 } else { 0 };
@@ -71,8 +73,8 @@ fn game_body(world: &World) -> [u8; 6]
 }
 
 /// The random words.
-fn words_body(random: &Random) -> [u8; 8]
-    ensures { result ≡ body_of RAND random.now }
+pub(crate) fn words_body(random: &Random) -> [u8; 8]
+    ensures { result ≡ body_of Second RAND random.now }
 {
     let (first, second) = random.words();
     let first = first.to_be_bytes();
@@ -83,7 +85,7 @@ fn words_body(random: &Random) -> [u8; 8]
 }
 
 /// How many companies are live.
-fn live_count(world: &World) -> u8
+pub(crate) fn live_count(world: &World) -> u8
     requires { IsSound world.now }
     ensures { result ≡ length (live_from 0 world.now.companies) }
 {
@@ -99,7 +101,7 @@ fn live_count(world: &World) -> u8
 /// The companies, each behind its number.
 fn companies_body(alloc: Global, world: &World) -> Result<Vec<u8>, OutOfMemory>
     requires { IsSound world.now }
-    ensures { IfOk result (λ body. body.items ≡ body_of CMPY (part_of CMPY world.now)) }
+    ensures { IfOk result (λ body. body.items ≡ body_of Second CMPY (part_of CMPY world.now)) }
 {
     let mut body = Vec::new(alloc);
     Put::raw(&mut body, &[live_count(world)])?;
@@ -112,7 +114,7 @@ fn companies_body(alloc: Global, world: &World) -> Result<Vec<u8>, OutOfMemory>
 /// The signs.
 fn signs_body(alloc: Global, signs: &[Sign]) -> Result<Vec<u8>, OutOfMemory>
     requires { length signs.now ≤ 1000 }
-    ensures { IfOk result (λ body. body.items ≡ body_of SIGN signs.now) }
+    ensures { IfOk result (λ body. body.items ≡ body_of Second SIGN signs.now) }
 {
     let mut body = Vec::new(alloc);
     let count = signs.len() as u16;
@@ -144,13 +146,13 @@ fn put_chunks(
 ) -> Result<(), OutOfMemory>
     requires sound { IsSound world.now }
     requires empty { out.old.items ≡ [] }
-    requires words { words.now ≡ body_of RAND (part_of RAND world.now) }
-    requires companies { companies.now ≡ body_of CMPY (part_of CMPY world.now) }
-    requires signs { signs.now ≡ body_of SIGN (part_of SIGN world.now) }
+    requires words { words.now ≡ body_of Second RAND (part_of RAND world.now) }
+    requires companies { companies.now ≡ body_of Second CMPY (part_of CMPY world.now) }
+    requires signs { signs.now ≡ body_of Second SIGN (part_of SIGN world.now) }
     ensures { OnOk result (out.new.items ≡ map_of world.now) }
 {
     Put::raw(out, &TAG)?;
-    Put::raw(out, &VERSION.to_be_bytes())?;
+    Put::raw(out, &SECOND_NUMBER.to_be_bytes())?;
     put_chunk(out, b"GAME", &game_body(world))?;
     put_chunk(out, b"RAND", words)?;
     put_chunk(out, b"CMPY", companies)?;
@@ -159,11 +161,11 @@ fn put_chunks(
     Ok(())
 }
 
-/// The map of a world, of at most 40,220 bytes. Where its day is at most 1,000,000,000, `decode_map` gives it back; no
+/// The map of a world, of at most 40,280 bytes. Where its day is at most 1,000,000,000, `decode_map` gives it back; no
 /// game comes to a later one.
 pub fn encode_map(alloc: Global, world: &World) -> Result<Vec<u8>, OutOfMemory>
     ensures map { IfOk result (λ bytes. bytes.items ≡ map_of world.now) }
-    ensures fits { IfOk result (λ bytes. length bytes.items ≤ 40220) }
+    ensures fits { IfOk result (λ bytes. length bytes.items ≤ 40280) }
     ensures told { world.now.day ≤ 1000000000 → IfOk result (λ bytes. IsMap bytes.items world.now) }
 {
     let signs = signs_body(alloc, world.signs())?;

@@ -11,7 +11,7 @@ use Rattle.tt_log.specs.Script.{Spells, IsScriptText, line_in, lines_in}
 use Rattle.tt_log.specs.Standing.{Standing}
 use Rattle.tt_log.specs.Reader.{IsAt}
 use Rattle.tt_log.specs.declared.script.step.Step.{Step}
-use Rattle.tt_log.specs.declared.script.step.Step.TheVariants.{Set, Line}
+use Rattle.tt_log.specs.declared.script.step.Step.TheVariants.{Set, Saved, Line}
 use Rattle.tt_log.proofs.ScriptLaws.{goes_on, first_of_script}
 use Rattle.tt_replay.specs.Expected.{expected_by, expected_in, expected_lines, DifferAt, IsDifference}
 
@@ -23,6 +23,7 @@ expected_of steps = expected_lines (lines_in steps)
 
 of_line : (step : Step) → expected_lines (line_in step) ≡ expected_in step
 of_line (Set setting) = refl
+of_line (Saved map) = refl
 of_line (Line line) = append-nil (expected_by line)
 
 of_more : (steps more : List Step) → expected_of (steps ++ more) ≡ expected_of steps ++ expected_of more

@@ -1,5 +1,5 @@
 -- Scripts that are played, step by step.
-use Rattle.std.proofs.Common.{◌≡◌, ℕ, ◌+◌, ◌-◌, ◌≤◌, List, [], ◌∷◌, ◌++◌, length, take, drop, map, true, refl, sym, ap, subst, ◌∙◌, arith}
+use Rattle.std.proofs.Common.{◌≡◌, ℕ, ◌+◌, ◌-◌, ◌≤◌, List, [], ◌∷◌, ◌++◌, length, take, drop, map, true, refl, sym, ap, ap₂, subst, ◌∙◌, arith, ◌<◌, ◌↔◌, inl, inr, Result, Ok, Err}
 use Rattle.std.specs.Prelude.{sum_by, fold}
 use Rattle.std.proofs.lemmas.List.{take-append-drop, take-map, length-map, length-append, append-nil}
 use Rattle.std.proofs.lemmas.List.Sums.{sum_by-append, sum_by-cons, fold-append}
@@ -8,13 +8,24 @@ use Rattle.std.proofs.Math.Seq.{take-append_seam}
 use Rattle.tt_lines.specs.Lines.{lines_of, IsFirstBad}
 use Rattle.tt_log.specs.Steps.{step_text, opens}
 use Rattle.tt_log.specs.Contents.{Contents}
-use Rattle.tt_log.specs.Script.{Spells, IsScriptText, setup_of, line_in, lines_in, contents_of}
+use Rattle.tt_log.specs.Script.{Spells, IsScriptText, setup_of, saved_in, line_in, lines_in, contents_of}
 use Rattle.tt_log.specs.Standing.{Standing}
 use Rattle.tt_log.specs.Reader as reader
 use Rattle.tt_log.specs.declared.script.line.Line1.{Line1}
 use Rattle.tt_log.specs.declared.script.step.Step.{Step}
 use Rattle.tt_log.proofs.ScriptLaws.{all_snoc, all_front, all_last, steps_take, goes_on, same_steps, one_of, first_of_script}
 use Rattle.tt_world.specs.declared.setup.Setup.{Setup}
+use Rattle.tt_world.specs.World.{WorldState, start}
+use Rattle.tt_world.specs.Setup.{Fits}
+use Rattle.tt_map.specs.Maps.{IsMap}
+use Rattle.tt_map.specs.Reading.{map_in}
+use Rattle.tt_map.specs.declared.bad.MapBad.{MapBad}
+use Rattle.tt_map.specs.declared.bad.MapBad.TheVariants as bad
+use Rattle.tt_map.proofs.MapLaws.{map_is_read}
+use Rattle.tt_log.specs.Saved.{IsSaved}
+use Rattle.tt_log.specs.Printing.{IsScript}
+use Rattle.tt_log.proofs.PrintLaws.{told_fits, spelled_script}
+use Rattle.tt_replay.specs.Begun.{world_or, world_from, MayStart}
 use Rattle.tt_replay.specs.declared.play.Play.{Play}
 use Rattle.tt_replay.specs.Script.{is_built, ticks_in, IsBuilt, IsPlayed, IsPlayedWith, MayFollow}
 use Rattle.tt_replay.specs.Played.{nothing, done, played}
@@ -75,11 +86,13 @@ all_read r bytes steps at none = record {
 }
 
 -- and all of it is played
-pub all_played : (r : Standing) (bytes : List ℕ) (steps : List Step) (setup : Setup) → reader.IsAt r bytes steps → r.rest ≡ [] → IsBuilt steps → setup ≡ setup_of steps → IsPlayedWith setup (lines_of bytes)
-all_played r bytes steps setup at none built made = record {
+pub all_played : (r : Standing) (bytes : List ℕ) (steps : List Step) (setup : Setup) (saved : List ℕ) → reader.IsAt r bytes steps → r.rest ≡ [] → IsBuilt steps → setup ≡ setup_of steps → saved ≡ saved_in steps
+    → IsPlayedWith setup saved (lines_of bytes)
+all_played r bytes steps setup saved at none built made told = record {
   script = contents_of steps;
   plays = record { spelled = all_read r bytes steps at none; built = built };
   made = made;
+  told = told;
 }
 
 -- ---- the first bad line
@@ -127,21 +140,21 @@ none_bad texts line is first = first.bad (played_take texts line is)
 -- ---- read a second time
 
 -- no line of it is refused
-pub none_unread : (setup : Setup) (texts : List (List ℕ)) (line : ℕ) → IsPlayedWith setup texts → IsFirstBad IsScriptText texts line → ⊥
-none_unread setup texts line is first = first.bad (first_of_script is.script texts line is.plays.spelled)
+pub none_unread : (setup : Setup) (saved : List ℕ) (texts : List (List ℕ)) (line : ℕ) → IsPlayedWith setup saved texts → IsFirstBad IsScriptText texts line → ⊥
+none_unread setup saved texts line is first = first.bad (first_of_script is.script texts line is.plays.spelled)
 
 -- what was read of it is played
-pub read_built : (setup : Setup) (r : Standing) (bytes : List ℕ) (steps : List Step) → IsPlayedWith setup (lines_of bytes) → reader.IsAt r bytes steps → IsBuilt steps
-read_built setup r bytes steps is at =
+pub read_built : (setup : Setup) (saved : List ℕ) (r : Standing) (bytes : List ℕ) (steps : List Step) → IsPlayedWith setup saved (lines_of bytes) → reader.IsAt r bytes steps → IsBuilt steps
+read_built setup saved r bytes steps is at =
     let all = is.plays.spelled in
     let on = goes_on steps all.steps (lines_of r.rest) at.is.each all.is.each (sym at.text ∙ all.text) in
     built_front steps on.0 (subst IsBuilt on.1 is.plays.built)
 
 -- and so the last line that was read may stand there
-pub read_last : (setup : Setup) (r : Standing) (bytes : List ℕ) (steps : List Step) (step : Step) → IsPlayedWith setup (lines_of bytes) → reader.IsAt r bytes (steps ++ step ∷ [])
+pub read_last : (setup : Setup) (saved : List ℕ) (r : Standing) (bytes : List ℕ) (steps : List Step) (step : Step) → IsPlayedWith setup saved (lines_of bytes) → reader.IsAt r bytes (steps ++ step ∷ [])
     → (is_built step ≡ true) × (sum_by opens steps + opens step ≤ 1) × (sum_by ticks_in steps + ticks_in step ≤ 100)
-read_last setup r bytes steps step is at =
-    let built = read_built setup r bytes (steps ++ step ∷ []) is at in (
+read_last setup saved r bytes steps step is at =
+    let built = read_built setup saved r bytes (steps ++ step ∷ []) is at in (
       all_last (λ s. is_built s ≡ true) steps step built.each,
       omega (arith, sum_snoc opens steps step, built.openings),
       omega (arith, sum_snoc ticks_in steps step, built.ticks),
@@ -154,13 +167,72 @@ played_snoc setup steps step =
     ap (played setup) lines ∙ fold-append (done setup) nothing (lines_in steps) (line_in step)
 
 -- all of it was done
-pub played_to : (setup : Setup) (r : Standing) (bytes : List ℕ) (steps : List Step) (play : Play) → IsPlayedWith setup (lines_of bytes) → reader.IsAt r bytes steps → r.rest ≡ [] → IsAt setup play (played setup (lines_in steps)) → PlayedTo (lines_of bytes) play
-played_to setup r bytes steps play is at none done_so =
+pub played_to : (setup : Setup) (saved : List ℕ) (r : Standing) (bytes : List ℕ) (steps : List Step) (play : Play) → IsPlayedWith setup saved (lines_of bytes) → reader.IsAt r bytes steps → r.rest ≡ []
+    → play.hub.start ≡ world_from setup saved → IsAt setup play (played setup (lines_in steps)) → PlayedTo (lines_of bytes) play
+played_to setup saved r bytes steps play is at none begins done_so =
     let spelled = all_read r bytes steps at none in
     let same = one_of is.script (contents_of steps) (lines_of bytes) is.plays.spelled spelled in
     let made : setup ≡ setup_of steps = is.made ∙ ap (λ (c : Contents). c.setup) same in
+    let told : saved ≡ saved_in steps = is.told ∙ ap (λ (c : Contents). c.saved) same in
     record {
       script = contents_of steps;
-      plays = record { spelled = spelled; built = read_built setup r bytes steps is at };
+      plays = record { spelled = spelled; built = read_built setup saved r bytes steps is at };
+      start = begins ∙ ap₂ world_from made told;
       at = subst (λ (s : Setup). IsAt s play (played s (lines_in steps))) made done_so;
     }
+
+-- ---- the start
+
+started : (script : Contents) → IsScript script → MayStart script.saved
+started script is = elim is.map [ inl none ↦ inl none | inr fits ↦ inr fits.1 ]
+
+-- a game that is played may start
+pub start_fits : (setup : Setup) (saved : List ℕ) (texts : List (List ℕ)) → IsPlayedWith setup saved texts → Fits setup × MayStart saved
+start_fits setup saved texts is =
+    let script = spelled_script is.script texts is.plays.spelled in (
+      subst Fits (sym is.made) (told_fits is.script.setup script.setup),
+      subst MayStart (sym is.told) (started is.script script),
+    )
+
+no_map : map_in [] ≡ Err (bad.Chunk 0)
+unfolding map_in
+no_map = refl
+
+-- without a map the start is the setup's own
+pub own_start : (setup : Setup) (saved : List ℕ) → saved ≡ [] → start setup ≡ world_from setup saved
+own_start setup saved none = sym (ap (λ (m : List ℕ). world_or (map_in m) (start setup)) none ∙ ap (λ (r : Result WorldState MapBad). world_or r (start setup)) no_map)
+
+pub map_start : (setup : Setup) (saved : List ℕ) (w : WorldState) → map_in saved ≡ Ok w → w ≡ world_from setup saved
+map_start setup saved w read = sym (ap (λ (r : Result WorldState MapBad). world_or r (start setup)) read)
+
+not_none : (saved : List ℕ) → MayStart saved → (saved ≡ [] → ⊥) → IsSaved saved
+not_none saved (inl none) some = absurd (some none)
+not_none saved (inr is) some = is
+
+pub some_saved : (saved : List ℕ) → MayStart saved → 0 < length saved → IsSaved saved
+some_saved saved may lt = not_none saved may (λ none. let e = ap length none in omega arith)
+
+ok_is : (w v : WorldState) → ◌≡◌ {A = Result WorldState MapBad} (Ok w) (Ok v) → w ≡ v
+ok_is w v e = cc
+
+-- what is read of a saved game is its world
+pub saved_is : (saved : List ℕ) (w : WorldState) → IsSaved saved → IsMap saved w → (map_in saved ≡ Ok w) × (w.day ≤ 900000000)
+saved_is saved w is map =
+    let same : is.world ≡ w = ok_is is.world w (sym (map_is_read saved is.world is.is) ∙ map_is_read saved w map) in
+    (map_is_read saved w map, subst (λ (v : WorldState). v.day ≤ 900000000) same is.day)
+
+-- a decoder that answers no world was handed no saved game
+abbrev failed : MapBad → Result WorldState MapBad
+failed told = Err told
+
+same_bad : (a b : MapBad) → failed a ≡ failed b → a ≡ b
+same_bad a b e = cc
+
+no_world : (w : WorldState) (told : MapBad) → Ok w ≡ failed told → ⊥
+no_world w told e = absurd cc
+
+pub never_bad : (saved : List ℕ) (result : Result WorldState MapBad) (told : MapBad) → IsSaved saved → result ≡ Err told → (told ≡ bad.Memory → ⊥)
+    → ((result ≡ Err bad.Memory → ⊥) → (w : WorldState) → (result ≡ Ok w) ↔ IsMap saved w) → ⊥
+never_bad saved result told is e other map =
+    let answered : result ≡ Err bad.Memory → ⊥ = λ m. other (same_bad told bad.Memory (sym e ∙ m)) in
+    no_world is.world told (sym ((map answered is.world).1 is.is) ∙ e)

@@ -4,16 +4,17 @@ use Rattle.std.specs.List.{flat_map}
 use Rattle.tt_log.specs.declared.script.line.Line1.{Line1}
 use Rattle.tt_log.specs.declared.script.line.Line1.TheVariants.{Expect}
 use Rattle.tt_log.specs.declared.script.step.Step.{Step}
-use Rattle.tt_log.specs.declared.script.step.Step.TheVariants.{Set, Line}
+use Rattle.tt_log.specs.declared.script.step.Step.TheVariants.{Set, Saved, Line}
 
 -- the line of the report that a line of a script expects, if it expects one
 abbrev pub expected_by : Line1 → List (List ℕ)
 expected_by (Expect line) = line ∷ []
 expected_by line = []
 
--- a setting expects none
+-- a setting and a map expect none
 abbrev pub expected_in : Step → List (List ℕ)
 expected_in (Set setting) = []
+expected_in (Saved map) = []
 expected_in (Line line) = expected_by line
 
 -- the lines that a script expects, in order

@@ -1,4 +1,5 @@
 pub mod Script
+pub mod Begun
 pub mod Played
 pub mod Report
 pub mod Playing

@@ -10,6 +10,7 @@ use Rattle.tt_hub.specs.Stepped.{table_of}
 use Rattle.tt_replay.specs.declared.play.Play.{Play}
 use Rattle.tt_log.specs.Contents.{Contents}
 use Rattle.tt_replay.specs.Script.{Plays}
+use Rattle.tt_replay.specs.Begun.{world_from}
 use Rattle.tt_replay.specs.Played.{Played, reader_limit, played}
 
 -- the hub of a game with this setup has taken these events, nothing of what it tells was taken, and the rest of the stream is kept
@@ -24,8 +25,9 @@ pub record IsAt (setup : Setup) (play : Play) (p : Played) : Type 0 where
   pub unkept : opens p.events ≡ 0 → play.rest.items ≡ []
   pub rest : is_there (table_of setup p.events).standing ≡ true → (reading reader_limit p.fed).1 ≡ rest_of play.rest.items
 
--- the lines of an input spell a script that is played, and all of it was done
+-- the lines of an input spell a script that is played, and all of it was done, from its start on
 pub record PlayedTo (texts : List (List ℕ)) (play : Play) : Type 0 where
   pub script : Contents
   pub plays : Plays script texts
+  pub start : play.hub.start ≡ world_from script.setup script.saved
   pub at : IsAt script.setup play (played script.setup script.lines)

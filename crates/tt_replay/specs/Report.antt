@@ -15,6 +15,7 @@ use Rattle.tt_world.specs.World.{WorldState, company_of}
 use Rattle.tt_hub.specs.Stepped.{table_of}
 use Rattle.tt_hub.specs.Hub.{world_of, is_live, sent}
 use Rattle.tt_log.specs.Contents.{Contents}
+use Rattle.tt_replay.specs.Begun.{world_from}
 use Rattle.tt_replay.specs.Played.{Played, played}
 
 -- ---- a connection
@@ -90,12 +91,14 @@ abbrev pub refused_line : ℕ → List ℕ
 refused_line zero = []
 refused_line (suc k) = codes "refused " ++ decimal (suc k) ++ codes "\n"
 
--- the report of a game: the connections, the server and its world, and how many lines were refused
-abbrev pub report_of : Setup → Played → List ℕ
-report_of setup p =
-    conn_lines setup p.events (opens p.events) ++ server_line (table_of setup p.events) (world_of setup p.events) ++ holding_lines (world_of setup p.events)
+-- the report of a game that started from this world: the connections, the server and its world, and how many lines were
+-- refused
+abbrev pub report_of : WorldState → Setup → Played → List ℕ
+report_of start setup p =
+    let world = world_of start setup p.events in
+    conn_lines setup p.events (opens p.events) ++ server_line (table_of setup p.events) world ++ holding_lines world
     ++ refused_line p.refused
 
 -- the report of a script
 abbrev pub report : Contents → List ℕ
-report script = report_of script.setup (played script.setup script.lines)
+report script = report_of (world_from script.setup script.saved) script.setup (played script.setup script.lines)

@@ -9,7 +9,7 @@ use Rattle.tt_log.specs.declared.script.line.Line1.TheVariants.{Open, Bytes, Tic
 use Rattle.tt_log.specs.declared.script.setting.Setting.{Setting}
 use Rattle.tt_log.specs.declared.script.setting.Setting.TheVariants.{Seed}
 use Rattle.tt_log.specs.declared.script.step.Step.{Step}
-use Rattle.tt_log.specs.declared.script.step.Step.TheVariants.{Set, Line}
+use Rattle.tt_log.specs.declared.script.step.Step.TheVariants.{Set, Saved, Line}
 use Rattle.tt_world.specs.declared.setup.Setup.{Setup}
 
 -- the settings that are played: the seed
@@ -25,9 +25,10 @@ is_line_built (Tick n) = true
 is_line_built (Expect line) = true
 is_line_built line = false
 
--- what is played of a script's lines, settings included
+-- what is played of a script's lines, settings included; a game may start from any map
 abbrev pub is_built : Step → Bool
 is_built (Set setting) = is_setting_built setting
+is_built (Saved map) = true
 is_built (Line line) = is_line_built line
 
 -- how many ticks a line asks for
@@ -35,9 +36,10 @@ abbrev pub ticks_of : Line1 → ℕ
 ticks_of (Tick n) = n
 ticks_of line = 0
 
--- a setting asks for none
+-- a setting and a map ask for none
 abbrev pub ticks_in : Step → ℕ
 ticks_in (Set setting) = 0
+ticks_in (Saved map) = 0
 ticks_in (Line line) = ticks_of line
 
 -- the lines of a script that is played: each is, and there are at most one opening and at most 100 ticks in sum
@@ -55,11 +57,12 @@ pub record Plays (script : Contents) (texts : List (List ℕ)) : Type 0 where
 abbrev pub IsPlayed : List (List ℕ) → Type 0
 IsPlayed texts = (script : Contents) × Plays script texts
 
--- the lines of an input spell a script that is played in a game with this setup
-pub record IsPlayedWith (setup : Setup) (texts : List (List ℕ)) : Type 0 where
+-- the lines of an input spell a script that is played in a game with this setup, from these bytes of a map
+pub record IsPlayedWith (setup : Setup) (saved : List ℕ) (texts : List (List ℕ)) : Type 0 where
   pub script : Contents
   pub plays : Plays script texts
   pub made : setup ≡ script.setup
+  pub told : saved ≡ script.saved
 
 -- what may stand behind lines that leave so many openings and ticks
 pub record MayFollow (openings ticks : ℕ) (step : Step) : Type 0 where

@@ -56,7 +56,7 @@ fn expected_in(step: &Step) -> u32
     ensures count { result ≡ length (expected_in step.now) }
 {
     match step {
-        Step::Set(_) => 0,
+        Step::Set(_) | Step::Saved(_) => 0,
         Step::Line(line) => expected_by(line),
     }
 }
@@ -81,6 +81,7 @@ fn behind<'a>(step: Step, report: &'a [u8]) -> Option<&'a [u8]>
 {
     match step {
         Step::Set(_setting) => Some(report),
+        Step::Saved(_map) => Some(report),
         Step::Line(line) => behind_line(&line, report),
     }
 }

@@ -1,12 +1,11 @@
 //! The lines of a script, done on a hub in order.
 //!
 //! A play keeps the hub, the bytes of the one connection that are no whole packet yet, and how many lines were refused.
-ghost use Rattle.std.specs.Prelude.{◌≡◌, ◌+◌, ◌<◌, ◌≤◌, [], ◌∷◌, ◌++◌, true, false, length, drop, IfOk, OnOk, OnErr, replicate, fold};
+ghost use Rattle.std.specs.Prelude.{◌≡◌, ◌+◌, ◌<◌, ◌≤◌, [], ◌∷◌, ◌++◌, true, false, length, drop, Ok, IfOk, OnOk, OnErr, replicate, fold};
 ghost use Rattle.tt_frame.specs.Packet.{IsBytes};
 ghost use Rattle.tt_frame.specs.Stream.{rest_of};
 ghost use Rattle.tt_frame.specs.StreamReading.{reading};
 ghost use Rattle.tt_edge.specs.Event.{opens};
-ghost use Rattle.tt_world.specs.declared.setup.Setup.{Setup};
 ghost use Rattle.tt_hub.specs.Table.{is_taken, is_there};
 ghost use Rattle.tt_hub.specs.Stepped.{table_of};
 ghost use Rattle.tt_hub.specs.Hub.{is_live};
@@ -15,15 +14,21 @@ ghost use Rattle.tt_log.specs.Lines.{openings_of};
 ghost use Rattle.tt_log.specs.Script.{line_in};
 ghost use Rattle.tt_log.specs.Steps.{opens as step_opens};
 ghost use Rattle.tt_replay.specs.Script.{is_built, is_line_built, ticks_of, ticks_in, IsPlayedWith};
+ghost use Rattle.tt_world.specs.Setup.{Fits};
+ghost use Rattle.tt_map.specs.Reading.{map_in};
+ghost use Rattle.tt_log.specs.Saved.{IsSaved};
+ghost use Rattle.tt_replay.specs.Begun.{world_from, MayStart};
 ghost use Rattle.tt_replay.specs.Played.{Played, nothing, reader_limit, stream_events, until_ended, with_piece, done};
 ghost use Rattle.tt_replay.specs.Playing.{IsAt, PlayedTo};
 
+use crate::script::Start;
 use std::alloc::Global;
 use tt_edge::{Body, Core, CoreErr, Door, Event, Peer};
 use tt_frame::{Next, OutOfMemory, first_of};
 use tt_hub::Hub;
 use tt_log::{Line1, ScriptBad, ScriptReader, Step};
-use tt_world::Setup;
+use tt_map::{MapBad, decode_map};
+use tt_world::{Setup, World};
 
 /// The largest packet that is read.
 const READER_LIMIT: u16 = 32_767;
@@ -45,13 +50,13 @@ pub struct Play {
     pub refused: u32,
 }
 
-/// Does the lines of a script in order, on a hub that is made for it with the script's setup. They are read one after
-/// the other, and none is kept.
-pub fn play_script(alloc: Global, setup: &Setup, bytes: &[u8]) -> Result<Play, OutOfMemory>
-    requires script { IsPlayedWith setup.now (lines_of bytes.now) }
+/// Does the lines of a script in order, on a hub that is made for it from the script's start. They are read one after the
+/// other, and none is kept.
+pub fn play_script(alloc: Global, start: &Start, bytes: &[u8]) -> Result<Play, OutOfMemory>
+    requires script { IsPlayedWith start.now.setup start.now.saved.items (lines_of bytes.now) }
     ensures played { IfOk result (λ play. PlayedTo (lines_of bytes.now) play) }
 {
-    let mut play = begun(alloc, setup)?;
+    let mut play = begun(alloc, start)?;
     let mut reader = ScriptReader::new(bytes);
     loop {
         match reader.next(alloc) {
@@ -68,29 +73,68 @@ pub fn play_script(alloc: Global, setup: &Setup, bytes: &[u8]) -> Result<Play, O
 }
 
 /// A play of no lines yet.
-fn begun(alloc: Global, setup: &Setup) -> Result<Play, OutOfMemory>
-    ensures at { IfOk result (λ play. IsAt setup.now play nothing) }
-    ensures setup { IfOk result (λ play. play.hub.setup ≡ setup.now) }
+fn begun(alloc: Global, start: &Start) -> Result<Play, OutOfMemory>
+    requires setup { Fits start.now.setup }
+    requires saved { MayStart start.now.saved.items }
+    ensures at { IfOk result (λ play. IsAt start.now.setup play nothing) }
+    ensures setup { IfOk result (λ play. play.hub.setup ≡ start.now.setup) }
+    ensures start { IfOk result (λ play. play.hub.start ≡ world_from start.now.setup start.now.saved.items) }
 {
     Ok(Play {
-        hub: Hub::new(alloc, setup)?,
+        hub: hub_from(alloc, &start.setup, &start.saved)?,
         rest: Vec::new(alloc),
         refused: 0,
     })
 }
 
-/// Does one line, settings included. What a setting says is in the setup of the game already.
+/// A hub that starts from the world that the bytes of a map tell, or, where there are none, from the setup.
+fn hub_from(alloc: Global, setup: &Setup, saved: &[u8]) -> Result<Hub, OutOfMemory>
+    requires setup { Fits setup.now }
+    requires saved { MayStart saved.now }
+    ensures start { IfOk result (λ hub. hub.start ≡ world_from setup.now saved.now) }
+    ensures setup { IfOk result (λ hub. hub.setup ≡ setup.now) }
+    ensures events { IfOk result (λ hub. hub.events ≡ []) }
+    ensures taken { IfOk result (λ hub. hub.taken ≡ 0) }
+{
+    if saved.is_empty() {
+        return Hub::new(alloc, setup);
+    }
+    let world = saved_world(alloc, saved)?;
+    match Hub::from_world(alloc, setup, world) {
+        Ok(hub) => Ok(hub),
+        Err(_) => Err(OutOfMemory),
+    }
+}
+
+/// The world of a saved game.
+fn saved_world(alloc: Global, saved: &[u8]) -> Result<World, OutOfMemory>
+    requires { IsSaved saved.now }
+    ensures world { IfOk result (λ world. map_in saved.now ≡ Ok world) }
+    ensures day { IfOk result (λ world. world.day ≤ 900000000) }
+{
+    match decode_map(alloc, saved) {
+        Ok(world) => Ok(world),
+        Err(MapBad::Memory) => Err(OutOfMemory),
+        Err(MapBad::Tag(_)) => unreachable!(),
+        Err(MapBad::Version(_)) => unreachable!(),
+        Err(MapBad::Chunk { .. }) => unreachable!(),
+    }
+}
+
+/// Does one line, settings included. What a setting says and the map are in the start of the game already.
 fn do_step(alloc: Global, play: &mut Play, step: Step) -> Result<(), OutOfMemory>
     requires built { is_built step ≡ true }
     requires early { (table_of play.old.hub.setup play.old.hub.events).frame + ticks_in step ≤ 100 }
     requires few { opens play.old.hub.events + step_opens step ≤ 1 }
     ensures at { (p : Played) → IsAt play.old.hub.setup play.old p → OnOk result (IsAt play.old.hub.setup play.new (fold (done play.old.hub.setup) p (line_in step))) }
     ensures setup { play.new.hub.setup ≡ play.old.hub.setup }
+    ensures start { play.new.hub.start ≡ play.old.hub.start }
     ensures frame { OnOk result ((table_of play.old.hub.setup play.new.hub.events).frame ≡ (table_of play.old.hub.setup play.old.hub.events).frame + ticks_in step) }
     ensures openings { OnOk result (opens play.new.hub.events ≡ opens play.old.hub.events + step_opens step) }
 {
     match step {
         Step::Set(_setting) => Ok(()),
+        Step::Saved(_map) => Ok(()),
         Step::Line(line) => do_line(alloc, play, &line),
     }
 }
@@ -102,6 +146,7 @@ fn do_line(alloc: Global, play: &mut Play, line: &Line1) -> Result<(), OutOfMemo
     requires few { opens play.old.hub.events + openings_of line.now ≤ 1 }
     ensures at { (p : Played) → IsAt play.old.hub.setup play.old p → OnOk result (IsAt play.old.hub.setup play.new (done play.old.hub.setup p line.now)) }
     ensures setup { play.new.hub.setup ≡ play.old.hub.setup }
+    ensures start { play.new.hub.start ≡ play.old.hub.start }
     ensures frame { OnOk result ((table_of play.old.hub.setup play.new.hub.events).frame ≡ (table_of play.old.hub.setup play.old.hub.events).frame + ticks_of line.now) }
     ensures openings { OnOk result (opens play.new.hub.events ≡ opens play.old.hub.events + openings_of line.now) }
 {
@@ -147,6 +192,7 @@ fn open(hub: &mut Hub) -> Result<(), OutOfMemory>
     requires none { opens hub.old.events ≡ 0 }
     ensures events { OnOk result (hub.new.events ≡ hub.old.events ++ Event.Open Door.Main NOBODY ∷ []) }
     ensures setup { hub.new.setup ≡ hub.old.setup }
+    ensures start { hub.new.start ≡ hub.old.start }
     ensures taken { hub.new.taken ≡ hub.old.taken }
 {
     put(
@@ -163,6 +209,7 @@ fn run_ticks(hub: &mut Hub, n: u32) -> Result<(), OutOfMemory>
     requires early { (table_of hub.old.setup hub.old.events).frame + n ≤ 100 }
     ensures events { OnOk result (hub.new.events ≡ hub.old.events ++ replicate n Event.Tick) }
     ensures setup { hub.new.setup ≡ hub.old.setup }
+    ensures start { hub.new.start ≡ hub.old.start }
     ensures taken { hub.new.taken ≡ hub.old.taken }
     ensures frame { OnOk result ((table_of hub.old.setup hub.new.events).frame ≡ (table_of hub.old.setup hub.old.events).frame + n) }
 {
@@ -177,6 +224,7 @@ fn feed(alloc: Global, play: &mut Play, conn: u32, piece: &[u8]) -> Result<(), O
     requires live { is_live play.old.hub.setup play.old.hub.events conn ≡ true }
     ensures at { (p : Played) → IsAt play.old.hub.setup play.old p → OnOk result (IsAt play.old.hub.setup play.new (with_piece play.old.hub.setup conn piece.now p)) }
     ensures setup { play.new.hub.setup ≡ play.old.hub.setup }
+    ensures start { play.new.hub.start ≡ play.old.hub.start }
     ensures frame { (table_of play.old.hub.setup play.new.hub.events).frame ≡ (table_of play.old.hub.setup play.old.hub.events).frame }
     ensures openings { opens play.new.hub.events ≡ opens play.old.hub.events }
 {
@@ -194,6 +242,7 @@ fn take_packets(alloc: Global, hub: &mut Hub, conn: u32, bytes: &[u8]) -> Result
     ensures rest { IfOk result (λ end. is_there (table_of hub.old.setup hub.new.events).standing ≡ true → (reading reader_limit bytes.now).1 ≡ rest_of (drop end bytes.now)) }
     ensures within { IfOk result (λ end. end ≤ length bytes.now) }
     ensures setup { hub.new.setup ≡ hub.old.setup }
+    ensures start { hub.new.start ≡ hub.old.start }
     ensures taken { hub.new.taken ≡ hub.old.taken }
     ensures frame { (table_of hub.old.setup hub.new.events).frame ≡ (table_of hub.old.setup hub.old.events).frame }
     ensures openings { opens hub.new.events ≡ opens hub.old.events }
@@ -227,6 +276,7 @@ fn put_packet(
     requires length { length body.now ≤ 32764 }
     ensures events { OnOk result (hub.new.events ≡ hub.old.events ++ Event.Packet conn kind body.now ∷ []) }
     ensures setup { hub.new.setup ≡ hub.old.setup }
+    ensures start { hub.new.start ≡ hub.old.start }
     ensures taken { hub.new.taken ≡ hub.old.taken }
     ensures frame { (table_of hub.old.setup hub.new.events).frame ≡ (table_of hub.old.setup hub.old.events).frame }
     ensures openings { opens hub.new.events ≡ opens hub.old.events }
@@ -241,6 +291,7 @@ fn put_broken(hub: &mut Hub, conn: u32) -> Result<(), OutOfMemory>
     requires live { is_live hub.old.setup hub.old.events conn ≡ true }
     ensures events { OnOk result (hub.new.events ≡ hub.old.events ++ Event.Broken conn ∷ []) }
     ensures setup { hub.new.setup ≡ hub.old.setup }
+    ensures start { hub.new.start ≡ hub.old.start }
     ensures taken { hub.new.taken ≡ hub.old.taken }
     ensures frame { (table_of hub.old.setup hub.new.events).frame ≡ (table_of hub.old.setup hub.old.events).frame }
     ensures openings { opens hub.new.events ≡ opens hub.old.events }
@@ -256,6 +307,7 @@ fn put(hub: &mut Hub, event: Event) -> Result<(), OutOfMemory>
     ensures ok { OnOk result (hub.new.events ≡ hub.old.events ++ event ∷ []) }
     ensures err { OnErr result (hub.new.events ≡ hub.old.events) }
     ensures setup { hub.new.setup ≡ hub.old.setup }
+    ensures start { hub.new.start ≡ hub.old.start }
     ensures taken { hub.new.taken ≡ hub.old.taken }
 {
     match hub.event(event) {

@@ -15,14 +15,13 @@ use crate::expecting::difference;
 use crate::form::{Form, form_of};
 use crate::play::play_script;
 use crate::report::report_of;
-use crate::script::{ScriptError, setup_of};
+use crate::script::{ScriptError, Start, start_of};
 use std::alloc::Global;
 use thiserror::Error;
 use tt_edge::{ReadAllError, Sink, Source, read_all, write_all};
 use tt_frame::{Line, OutOfMemory};
 use tt_lines::{put, put_number};
 use tt_show::{ShowError, show};
-use tt_world::Setup;
 
 /// All was done as said.
 const DONE: u8 = 0;
@@ -160,12 +159,12 @@ fn run(alloc: Global, input: &[u8]) -> Result<Vec<u8>, NoAnswer>
     ensures bad { (line : ℕ) → result ≡ Err (BadLine line) → IsFirstBad (IsOfForm Form.Run) (lines_of input.now) line }
     ensures never { (place : ℕ) → result ≢ Err (Differs place) }
 {
-    let setup = match setup_of(alloc, input) {
-        Ok(setup) => setup,
+    let start = match start_of(alloc, input) {
+        Ok(start) => start,
         Err(ScriptError::BadLine(line)) => return Err(NoAnswer::BadLine(line)),
         Err(ScriptError::Memory) => return Err(NoAnswer::Memory),
     };
-    match report_of_script(alloc, &setup, input) {
+    match report_of_script(alloc, &start, input) {
         Ok(report) => Ok(report),
         Err(_) => Err(NoAnswer::Memory),
     }
@@ -213,12 +212,12 @@ fn show_list(alloc: Global, input: &[u8]) -> Result<Vec<u8>, NoAnswer>
     }
 }
 
-/// The report of the script that the bytes spell, in a game with its setup.
-fn report_of_script(alloc: Global, setup: &Setup, input: &[u8]) -> Result<Vec<u8>, OutOfMemory>
-    requires script { IsPlayedWith setup.now (lines_of input.now) }
+/// The report of the script that the bytes spell, in a game from its start.
+fn report_of_script(alloc: Global, start: &Start, input: &[u8]) -> Result<Vec<u8>, OutOfMemory>
+    requires script { IsPlayedWith start.now.setup start.now.saved.items (lines_of input.now) }
     ensures answer { IfOk result (λ report. IsAnswer Form.Run (lines_of input.now) report.items) }
 {
-    let mut play = play_script(alloc, setup, input)?;
+    let mut play = play_script(alloc, start, input)?;
     let report = report_of(alloc, &mut play)?;
     Ok(report)
 }

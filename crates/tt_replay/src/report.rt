@@ -21,7 +21,7 @@ use tt_world::{Company, Random, Sign, World};
 
 /// The report's text. What the connections were told is taken from the hub.
 pub fn report_of(alloc: Global, play: &mut Play) -> Result<Vec<u8>, OutOfMemory>
-    ensures text { (setup : Setup) (p : Played) → IsAt setup play.old p → IfOk result (λ text. text.items ≡ report_of setup p) }
+    ensures text { (setup : Setup) (p : Played) → IsAt setup play.old p → IfOk result (λ text. text.items ≡ report_of play.old.hub.start setup p) }
 {
     let mut text = Vec::new(alloc);
     put_connections(alloc, &mut text, &mut play.hub)?;
@@ -35,6 +35,7 @@ pub fn report_of(alloc: Global, play: &mut Play) -> Result<Vec<u8>, OutOfMemory>
 fn put_connections(alloc: Global, text: &mut Vec<u8>, hub: &mut Hub) -> Result<(), OutOfMemory>
     ensures text { hub.old.taken ≡ 0 → OnOk result (text.new.items ≡ text.old.items ++ conn_lines hub.old.setup hub.old.events (opens hub.old.events)) }
     ensures setup { hub.new.setup ≡ hub.old.setup }
+    ensures start { hub.new.start ≡ hub.old.start }
     ensures events { hub.new.events ≡ hub.old.events }
 {
     for before in 0..hub.connections() {
@@ -52,6 +53,7 @@ fn put_connection(
 ) -> Result<(), OutOfMemory>
     ensures text { taken hub.old conn ≡ 0 → OnOk result (text.new.items ≡ text.old.items ++ conn_line hub.old.setup hub.old.events conn) }
     ensures setup { hub.new.setup ≡ hub.old.setup }
+    ensures start { hub.new.start ≡ hub.old.start }
     ensures events { hub.new.events ≡ hub.old.events }
     ensures others { (other : ℕ) → other ≢ conn → taken hub.new other ≡ taken hub.old other }
 {
@@ -80,7 +82,7 @@ fn put_life(text: &mut Vec<u8>, live: bool) -> Result<(), OutOfMemory>
 
 /// Appends the server's line.
 fn put_server(text: &mut Vec<u8>, hub: &Hub) -> Result<(), OutOfMemory>
-    ensures text { OnOk result (text.new.items ≡ text.old.items ++ server_line (table_of hub.now.setup hub.now.events) (world_of hub.now.setup hub.now.events)) }
+    ensures text { OnOk result (text.new.items ≡ text.old.items ++ server_line (table_of hub.now.setup hub.now.events) (world_of hub.now.start hub.now.setup hub.now.events)) }
 {
     put(text, b"server ")?;
     put_number(text, hub.frame())?;

@@ -1,11 +1,11 @@
 //! Which scripts are played, looked at line by line: no line is kept, however many there are.
 //!
-//! `setup_of` gives the setup of the script that the bytes spell, or their first bad line: the first with which what
-//! stands so far is no script, or none that is played.
-ghost use Rattle.std.specs.Prelude.{◌≡◌, ℕ, ◌+◌, true, Err, IfOk, IfSome, IfNone};
+//! `start_of` gives what the game of the script that the bytes spell starts from, or their first bad line: the first with
+//! which what stands so far is no script, or none that is played.
+ghost use Rattle.std.specs.Prelude.{◌≡◌, ℕ, ◌+◌, ◌++◌, true, Err, IfOk, IfSome, IfNone, OnOk};
 ghost use Rattle.tt_lines.specs.Lines.{lines_of, IsFirstBad};
 ghost use Rattle.tt_log.specs.Steps.{opens};
-ghost use Rattle.tt_log.specs.Script.{setup_with};
+ghost use Rattle.tt_log.specs.Script.{setup_with, map_in_step};
 ghost use Rattle.tt_replay.specs.declared.script.ScriptError.TheVariants.{Memory, BadLine};
 ghost use Rattle.tt_replay.specs.Script.{is_setting_built, is_line_built, is_built, ticks_of, ticks_in, MayFollow, IsPlayed, IsPlayedWith};
 
@@ -65,14 +65,26 @@ struct Left {
     ticks: u32,
 }
 
-/// The setup of the script that the bytes spell and that is played, or their first bad line. More lines than can be
-/// counted in 32 bits are answered by want of memory.
-pub fn setup_of(alloc: Global, bytes: &[u8]) -> Result<Setup, ScriptError>
-    ensures found { IfOk result (λ setup. IsPlayedWith setup (lines_of bytes.now)) }
+/// What the game of a script starts from.
+#[derive(Drop)]
+pub struct Start {
+    /// The setup of the game.
+    pub setup: Setup,
+    /// The bytes of a saved game's map, or none where the game starts from the setup.
+    pub saved: Vec<u8>,
+}
+
+/// What the game of the script starts from that the bytes spell and that is played, or their first bad line. More lines
+/// than can be counted in 32 bits are answered by want of memory.
+pub fn start_of(alloc: Global, bytes: &[u8]) -> Result<Start, ScriptError>
+    ensures found { IfOk result (λ start. IsPlayedWith start.setup start.saved.items (lines_of bytes.now)) }
     ensures bad { (line : ℕ) → result ≡ Err (BadLine line) → IsFirstBad IsPlayed (lines_of bytes.now) line }
 {
     let mut reader = ScriptReader::new(bytes);
-    let mut setup = Setup::plain();
+    let mut start = Start {
+        setup: Setup::plain(),
+        saved: Vec::new(alloc),
+    };
     let mut number = 0u32;
     let mut left = Left {
         openings: MOST_OPENINGS,
@@ -82,12 +94,15 @@ pub fn setup_of(alloc: Global, bytes: &[u8]) -> Result<Setup, ScriptError>
         number = next_number(number)?;
         match reader.next(alloc) {
             Ok(Some(step)) => {
-                let Some(behind) = take(left, &mut setup, step) else {
+                let Some(behind) = left_behind(left, &step) else {
                     return Err(ScriptError::BadLine(number));
                 };
                 left = behind;
+                if let Err(_) = apply(&mut start, step) {
+                    return Err(ScriptError::Memory);
+                }
             }
-            Ok(None) => return Ok(setup),
+            Ok(None) => return Ok(start),
             Err(ScriptBad::Line(line)) => return Err(ScriptError::BadLine(line)),
             Err(ScriptBad::Memory) => return Err(ScriptError::Memory),
         }
@@ -99,24 +114,6 @@ fn next_number(number: u32) -> Result<u32, OutOfMemory>
     ensures next { IfOk result (λ next. next ≡ number + 1) }
 {
     number.checked_add(1).ok_or(OutOfMemory)
-}
-
-/// Takes one more line: what it says of the setup is put there, and what is left behind it is the answer. None exactly
-/// where it may not stand there.
-fn take(left: Left, setup: &mut Setup, step: Step) -> Option<Left>
-    ensures may { IfSome result (λ _. MayFollow left.openings left.ticks step) }
-    ensures openings { IfSome result (λ behind. left.openings ≡ behind.openings + opens step) }
-    ensures ticks { IfSome result (λ behind. left.ticks ≡ behind.ticks + ticks_in step) }
-    ensures setup { IfSome result (λ _. setup.new ≡ setup_with setup.old step) }
-    ensures none { IfNone result (MayFollow left.openings left.ticks step → ⊥) }
-{
-    match left_behind(left, &step) {
-        Some(behind) => {
-            apply(setup, step);
-            Some(behind)
-        }
-        None => None,
-    }
 }
 
 /// What is left behind one more line. None exactly where it may not stand there.
@@ -138,14 +135,17 @@ fn left_behind(left: Left, step: &Step) -> Option<Left>
     Some(Left { openings, ticks })
 }
 
-/// Puts what a line says of the setup into it.
-fn apply(setup: &mut Setup, step: Step)
-    ensures setup { setup.new ≡ setup_with setup.old step }
+/// Puts what a line says of the start there. Where memory runs out, nothing was changed.
+fn apply(start: &mut Start, step: Step) -> Result<(), OutOfMemory>
+    ensures setup { OnOk result (start.new.setup ≡ setup_with start.old.setup step) }
+    ensures saved { OnOk result (start.new.saved.items ≡ start.old.saved.items ++ map_in_step step) }
 {
     match step {
-        Step::Set(setting) => setting.apply(setup),
+        Step::Set(setting) => setting.apply(&mut start.setup),
+        Step::Saved(map) => start.saved.extend_from_slice(map.bytes())?,
         Step::Line(_line) => {}
     }
+    Ok(())
 }
 
 /// Whether a line, settings included, is played.
@@ -154,6 +154,7 @@ fn is_built(step: &Step) -> bool
 {
     match step {
         Step::Set(setting) => is_setting_built(setting),
+        Step::Saved(_) => true,
         Step::Line(line) => is_line_built(line),
     }
 }
@@ -189,7 +190,7 @@ fn openings_in(step: &Step) -> u32
     ensures openings { result ≡ opens step.now }
 {
     match step {
-        Step::Set(_) => 0,
+        Step::Set(_) | Step::Saved(_) => 0,
         Step::Line(line) => line.openings(),
     }
 }
@@ -199,7 +200,7 @@ fn ticks_in(step: &Step) -> u32
     ensures ticks { result ≡ ticks_in step.now }
 {
     match step {
-        Step::Set(_) => 0,
+        Step::Set(_) | Step::Saved(_) => 0,
         Step::Line(line) => ticks_of(line),
     }
 }

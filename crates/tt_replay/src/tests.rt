@@ -97,8 +97,38 @@ fn a_seed_is_set(rt: HostRuntime) -> Result<(), Fail> {
     Ok(())
 }
 
+/// A script whose game starts from a saved one in the first version of maps: day 29, part 73, and the company 0 with no money
+/// and a loan of 300,000.
+const SAVED: &[u8] = b"set map 4f54544e0001000047414d45000000060000001d490052414e44000000080000000000000000434d5059\
+    0000001201000000000000000000000493e0014101425349474e000000020000454e444300000000\n";
+
+#[test]
+fn a_game_starts_from_a_saved_one(rt: HostRuntime) -> Result<(), Fail> {
+    let alloc = rt.alloc();
+    let still = run(alloc, SAVED)?;
+    assert_eq!(rt; still.status, 0);
+    assert_eq!(rt;
+        still.written.as_slice(),
+        b"server 0 0 00000000 00000000 29 73 0\ncompany 0 0 300000 41 42\n".as_slice()
+    );
+    let mut script = SAVED.to_vec(alloc)?;
+    script.extend_from_slice(b"tick 1\n")?;
+    let later = run(alloc, &script)?;
+    assert_eq!(rt; later.status, 0);
+    assert_eq!(rt;
+        later.written.as_slice(),
+        b"server 1 1 00000001 bfc48d14 30 0 0\ncompany 0 249 300000 41 42\n".as_slice()
+    );
+    let mut twice = SAVED.to_vec(alloc)?;
+    twice.extend_from_slice(SAVED)?;
+    let refused = run(alloc, &twice)?;
+    assert_eq!(rt; refused.status, 3);
+    assert_eq!(rt; refused.written.as_slice(), b"script: line 2\n".as_slice());
+    Ok(())
+}
+
 /// Inputs that are no script, and the number of the first bad line of each, as a digit.
-fn bad_scripts() -> [(&'static [u8], u8); 31] {
+fn bad_scripts() -> [(&'static [u8], u8); 33] {
     [
         (b"tick 0\n", b'1'),
         (b"tick 01\n", b'1'),
@@ -130,6 +160,8 @@ fn bad_scripts() -> [(&'static [u8], u8); 31] {
         (b"set seed 4294967296\n", b'1'),
         (b"set seed\n", b'1'),
         (b"set seeds 1\n", b'1'),
+        (b"set map -\n", b'1'),
+        (b"set seed 1\nset map 4f54544e00020000\n", b'2'),
         (b"set seed 1\nopen\ntick 1\nopen", b'4'),
     ]
 }

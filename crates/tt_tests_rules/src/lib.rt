@@ -1,7 +1,17 @@
-//! The worlds' and the verdicts' public calls, each tried once with its answer.
+//! What the libraries of worlds, maps, verdicts, attempts, scripts and the hub answer to numbers and bytes from outside.
 //!
-//! Only tests stand here: a library with tests of its own would be proved twice.
+//! Only tests stand here, over public calls, so that a change of a library proves the library alone.
 #![tactic(auto)]
 
 #[cfg(test)]
+mod attempts;
+#[cfg(test)]
+mod hub;
+#[cfg(test)]
+mod log;
+#[cfg(test)]
+mod map;
+#[cfg(test)]
 mod rules;
+#[cfg(test)]
+mod world;

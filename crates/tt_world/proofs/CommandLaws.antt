@@ -104,10 +104,10 @@ not_above_int a b e = grind (arith, ints)
 
 IsCompany-increased : (n : ℕ) (c : Company) → increase_refusal n c ≡ None → IsCompany c → IsCompany (increased n c)
 IsCompany-increased n c e s =
-    let p = passes (not (is_loan_sum n)) Amount (nat_lt 300000 (c.loan + n) ⇒ Loan or_else would_pass c.money n ⇒ Money) e in
-    let q = passes (nat_lt 300000 (c.loan + n)) Loan (would_pass c.money n ⇒ Money) p.then in
+    let p = passes (not (is_loan_sum n)) Amount (nat_lt c.most (c.loan + n) ⇒ Loan or_else would_pass c.money n ⇒ Money) e in
+    let q = passes (nat_lt c.most (c.loan + n)) Loan (would_pass c.money n ⇒ Money) p.then in
     let sum = (and_both (not (n == 0)) (n % 10000 == 0) (not_false (is_loan_sum n) p.not_so)).1 in
-    let loan : c.loan + n ≤ 300000 = le_of_no_test 300000 (c.loan + n) q.not_so in
+    let loan : c.loan + n ≤ c.most = le_of_no_test c.most (c.loan + n) q.not_so in
     let money : (c.money +ℤ pos n) ≤ℤ pos most_money = not_above_int (pos most_money) (c.money +ℤ pos n) (passes_last (would_pass c.money n) Money q.then) in
     let low = s.least_money in
     record {
@@ -115,6 +115,8 @@ IsCompany-increased n c e s =
       most_money = money;
       loan = loan;
       steps = steps_add c.loan n s.steps sum;
+      most = s.most;
+      most_steps = s.most_steps;
       name = s.name;
       president = s.president;
     }
@@ -133,6 +135,8 @@ IsCompany-decreased n c e s =
       most_money = omega (arith, ints);
       loan = omega arith;
       steps = steps_sub c.loan n s.steps sum loan;
+      most = s.most;
+      most_steps = s.most_steps;
       name = s.name;
       president = s.president;
     }
@@ -150,7 +154,7 @@ IsSound-decreased w n number e s = IsSound-changed w n (decreased number) (λ c.
 
 pub IsSound-president : (w : WorldState) (n : ℕ) (name : List ℕ) → IsName name → IsSound w → IsSound (changed n (president_renamed name) w)
 IsSound-president w n name is s = IsSound-changed w n (president_renamed name) (λ c. refl)
-    (λ c at h. record { least_money = h.least_money; most_money = h.most_money; loan = h.loan; steps = h.steps; name = h.name; president = is }) s
+    (λ c at h. record { least_money = h.least_money; most_money = h.most_money; loan = h.loan; steps = h.steps; most = h.most; most_steps = h.most_steps; name = h.name; president = is }) s
 
 pub IsSound-paused : (w : WorldState) (paused : Bool) → IsSound w → IsSound (record w { paused = paused })
 IsSound-paused w paused s = record { part = s.part; places = s.places; companies = s.companies; names = s.names; few = s.few; rising = s.rising; signs = s.signs }
@@ -179,14 +183,14 @@ IsSound-poorer w n number own s = IsSound-changed w n (poorer number) (λ c. ref
     (λ c is h.
     let money : pos number ≤ℤ c.money = if_some (company_of w n) (λ d. pos number ≤ℤ d.money) c own is in
     let high = h.most_money in
-    record { least_money = omega (arith, ints); most_money = omega (arith, ints); loan = h.loan; steps = h.steps; name = h.name; president = h.president }) s
+    record { least_money = omega (arith, ints); most_money = omega (arith, ints); loan = h.loan; steps = h.steps; most = h.most; most_steps = h.most_steps; name = h.name; president = h.president }) s
 
 pub IsSound-richer : (w : WorldState) (n number : ℕ) → IfSome (company_of w n) (λ c. (c.money +ℤ pos number) ≤ℤ pos most_money) → IsSound w → IsSound (changed n (richer number) w)
 IsSound-richer w n number room s = IsSound-changed w n (richer number) (λ c. refl)
     (λ c is h.
     let money : (c.money +ℤ pos number) ≤ℤ pos most_money = if_some (company_of w n) (λ d. (d.money +ℤ pos number) ≤ℤ pos most_money) c room is in
     let low = h.least_money in
-    record { least_money = omega (arith, ints); most_money = money; loan = h.loan; steps = h.steps; name = h.name; president = h.president }) s
+    record { least_money = omega (arith, ints); most_money = money; loan = h.loan; steps = h.steps; most = h.most; most_steps = h.most_steps; name = h.name; president = h.president }) s
 
 -- what a gift that is not refused says: the giver has the sum, both are live and not the same, and the receiver has room
 pub record IsGift (from to number : ℕ) (receiver giver : Option Company) : Type 0 where
@@ -270,7 +274,7 @@ IsSound-renamed w n name is free s =
       places = length-set w.companies n (option_map (renamed name) (company_at w.companies n)) ∙ s.places;
       companies = λ m c at. elim (eqb_tells m n) [
         | inl e ↦ let d = mine m c e.1 at in let h = s.companies n d.company d.was in
-            subst (λ x. IsCompany x) d.now (record { least_money = h.least_money; most_money = h.most_money; loan = h.loan; steps = h.steps; name = is; president = h.president })
+            subst (λ x. IsCompany x) d.now (record { least_money = h.least_money; most_money = h.most_money; loan = h.loan; steps = h.steps; most = h.most; most_steps = h.most_steps; name = is; president = h.president })
         | inr e ↦ s.companies m c (sym (there m e.1) ∙ at)
       ];
       names = λ m k c d at_m at_k same. elim (eqb_tells m n) [

@@ -48,12 +48,17 @@ no_number places room e =
 ten_steps : 100000 % 10000 ≡ 0
 ten_steps = refl
 
+thirty_steps : 300000 % 10000 ≡ 0
+thirty_steps = refl
+
 IsCompany-new : (places : List (Option Company)) → IsCompany (new_company places)
 IsCompany-new places = record {
   least_money = omega (arith, ints);
   most_money = omega (arith, ints);
   loan = omega arith;
   steps = ten_steps;
+  most = omega arith;
+  most_steps = thirty_steps;
   name = IsName-new places;
   president = IsName-president;
 }

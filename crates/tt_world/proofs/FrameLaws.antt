@@ -17,7 +17,7 @@ pub clamped_high : (m : ℤ) → clamped m ≤ℤ pos most_money
 clamped_high m = omega (arith, ints, clamps)
 
 with_money : (m : ℤ) (c : Company) → IsCompany c → IsCompany (record c { money = clamped m })
-with_money m c h = record { least_money = clamped_low m; most_money = clamped_high m; loan = h.loan; steps = h.steps; name = h.name; president = h.president }
+with_money m c h = record { least_money = clamped_low m; most_money = clamped_high m; loan = h.loan; steps = h.steps; most = h.most; most_steps = h.most_steps; name = h.name; president = h.president }
 
 pub earned_follows : (places : List (Option Company)) (words : ℕ × ℕ) → FollowsEach places (earned words places).1
 earned_follows [] words n = tt

@@ -36,7 +36,7 @@ would_pass money n = int_lt (pos most_money) (money +ℤ pos n)
 -- ---- 0, IncreaseLoan
 
 abbrev pub increase_refusal : ℕ → Company → Option Why
-increase_refusal n c = not (is_loan_sum n) ⇒ Amount or_else nat_lt 300000 (c.loan + n) ⇒ Loan or_else would_pass c.money n ⇒ Money
+increase_refusal n c = not (is_loan_sum n) ⇒ Amount or_else nat_lt c.most (c.loan + n) ⇒ Loan or_else would_pass c.money n ⇒ Money
 
 abbrev pub increased : ℕ → Company → Company
 increased n c = record c { money = c.money +ℤ pos n; loan = c.loan + n }
@@ -170,7 +170,7 @@ unfoldable pub new_name : List (Option Company) → List ℕ
 new_name companies = least_name companies 1 14
 
 abbrev pub new_company : List (Option Company) → Company
-new_company companies = record { money = pos 100000; loan = 100000; name = new_name companies; president = codes "President" }
+new_company companies = record { money = pos 100000; loan = 100000; most = 300000; name = new_name companies; president = codes "President" }
 
 abbrev pub founded : WorldState → WorldState
 founded w = record w { companies = slice_set w.companies (new_number w.companies) (Some (new_company w.companies)) }

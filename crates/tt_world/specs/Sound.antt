@@ -13,8 +13,10 @@ most_money = 9 * 10 ^ 15
 pub record IsCompany (c : Company) : Type 0 where
   pub least_money : neg_ℤ (pos most_money) ≤ℤ c.money
   pub most_money : c.money ≤ℤ pos most_money
-  pub loan : c.loan ≤ 300000
+  pub loan : c.loan ≤ c.most
   pub steps : c.loan % 10000 ≡ 0
+  pub most : c.most ≤ 1000000
+  pub most_steps : c.most % 10000 ≡ 0
   pub name : IsName c.name
   pub president : IsName c.president
 

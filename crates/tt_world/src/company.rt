@@ -10,6 +10,8 @@ pub struct Company {
     pub money: i64,
     /// What it has borrowed, in steps of 10,000.
     pub loan: u32,
+    /// The most that it may have borrowed: a step of 10,000, at most 1,000,000.
+    pub most: u32,
     /// Its name, which no other company of the world has.
     pub name: Name,
     /// The name of its president.
@@ -24,6 +26,7 @@ impl Company {
         Company {
             money: self.money,
             loan: self.loan,
+            most: self.most,
             name: self.name.copy(),
             president: self.president.copy(),
         }

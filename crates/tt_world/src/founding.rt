@@ -5,6 +5,7 @@ ghost use Rattle.tt_frame.specs.Text.{IsName};
 ghost use Rattle.tt_world.specs.Commands.{numbered_name, new_name, new_number, new_company};
 
 use crate::company::Company;
+use crate::limits::NEW_COMPANY_MOST;
 use crate::places::is_taken;
 use tt_frame::Name;
 
@@ -81,6 +82,7 @@ pub(crate) fn new_company(companies: &[Option<Company>]) -> Company
     Company {
         money: 100_000,
         loan: 100_000,
+        most: NEW_COMPANY_MOST,
         name: new_name(companies),
         president: name_of(b"President"),
     }

@@ -32,13 +32,11 @@ pub use laws::{
     refused_command_changes_nothing,
 };
 pub use limits::{
-    COMPANIES, LOAN_STEP, MOST_GIFT, MOST_LOAN, MOST_MONEY, PARTS_OF_DAY, SIGNS, TILES,
+    COMPANIES, LAST_START_DAY, LOAN_STEP, MOST_GIFT, MOST_LOAN, MOST_MONEY, NEW_COMPANY_MOST,
+    PARTS_OF_DAY, SIGNS, TILES,
 };
 pub use places::{is_taken, no_companies};
 pub use random::Random;
 pub use setup::Setup;
 pub use sign::Sign;
 pub use world::World;
-
-#[cfg(test)]
-mod tests;

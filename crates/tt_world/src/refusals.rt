@@ -8,7 +8,7 @@ ghost use Rattle.tt_world.specs.Commands.{is_loan_sum, increase_refusal, decreas
 
 use crate::company::Company;
 use crate::effect::Why;
-use crate::limits::{LOAN_STEP, MOST_GIFT, MOST_LOAN, MOST_MONEY, SIGNS, TILES};
+use crate::limits::{LOAN_STEP, MOST_GIFT, MOST_MONEY, SIGNS, TILES};
 use crate::places::is_taken;
 use crate::sign::Sign;
 
@@ -27,7 +27,7 @@ pub(crate) fn increase_loan(number: u32, company: &Company) -> Option<Why>
     if !is_loan_sum(number) {
         return Some(Why::Amount);
     }
-    if u64::from(company.loan) + u64::from(number) > u64::from(MOST_LOAN) {
+    if u64::from(company.loan) + u64::from(number) > u64::from(company.most) {
         return Some(Why::Loan);
     }
     if company.money + i64::from(number) > MOST_MONEY {

@@ -6,7 +6,7 @@ ghost use Rattle.tt_log.specs.Orders.{IsOrder};
 ghost use Rattle.tt_log.specs.Forms.{named, word, number, text, hex, parted};
 ghost use Rattle.tt_log.specs.Lines.{any, Holds};
 ghost use Rattle.tt_log.specs.Printing.{IsScript, script_text, step_line};
-ghost use Rattle.tt_log.specs.Written.{setting_text, line_text};
+ghost use Rattle.tt_log.specs.Written.{setting_text, map_text, line_text};
 ghost use Rattle.tt_lines.specs.Lines.{lines_of};
 ghost use Rattle.tt_log.specs.Script.{Spells};
 
@@ -20,7 +20,8 @@ use std::alloc::Global;
 use tt_frame::{Line, Name, OutOfMemory, Short};
 use tt_world::{Code, Command, Setup};
 
-/// The text of a script: the settings that differ from the plain setup, and the lines, each with its line feed.
+/// The text of a script: the settings that differ from the plain setup, the map that its game starts from, and the lines,
+/// each with its line feed.
 pub fn print_script(alloc: Global, script: &Script) -> Result<Vec<u8>, OutOfMemory>
     requires { IsScript script.now }
     ensures text { IfOk result (λ text. text.items ≡ script_text script.now) }
@@ -29,6 +30,7 @@ pub fn print_script(alloc: Global, script: &Script) -> Result<Vec<u8>, OutOfMemo
 {
     let mut out = Vec::new(alloc);
     put_settings(alloc, &mut out, &all_settings(&script.setup))?;
+    put_map(alloc, &mut out, &script.saved)?;
     put_lines(alloc, &mut out, &script.lines)?;
     Ok(out)
 }
@@ -63,6 +65,16 @@ fn put_settings(alloc: Global, out: &mut Vec<u8>, settings: &[Setting]) -> Resul
         }
     }
     Ok(())
+}
+
+/// Appends the map, where there is one.
+fn put_map(alloc: Global, out: &mut Vec<u8>, map: &[u8]) -> Result<(), OutOfMemory>
+    ensures ok { OnOk result (out.new.items ≡ out.old.items ++ map_text map.now) }
+{
+    if map.is_empty() {
+        return Ok(());
+    }
+    put_line(alloc, out, b"set map", &[Part::Hex(map)])
 }
 
 /// Appends lines.

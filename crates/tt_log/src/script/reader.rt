@@ -21,8 +21,11 @@ use tt_lines::first_line;
 /// The most connections that a script may open.
 const MOST_OPENINGS: u32 = 65_535;
 
-/// The place behind those of all settings, and behind that of a line.
-const NO_SETTING: u8 = 13;
+/// The place behind those of all settings.
+const MAP: u8 = 12;
+
+/// The place behind that of a line, where no setting and no map may follow.
+const NO_SETTING: u8 = 14;
 
 /// A reader of the lines of a script.
 ///
@@ -104,7 +107,7 @@ fn behind(place: u8, openings: u32, step: &Step) -> Option<(u8, u32)>
     requires { openings ≤ 65535 }
     ensures place { IfSome result (λ p. p.0 ≡ suc (step_place step.now)) }
     ensures openings { IfSome result (λ p. p.1 ≡ openings + opens step.now) }
-    ensures few { IfSome result (λ p. (p.0 ≤ 13) × (p.1 ≤ 65535)) }
+    ensures few { IfSome result (λ p. (p.0 ≤ 14) × (p.1 ≤ 65535)) }
     ensures may { IfSome result (λ _. MayFollow place openings step.now) }
     ensures none { IfNone result (MayFollow place openings step.now → ⊥) }
 {
@@ -115,6 +118,12 @@ fn behind(place: u8, openings: u32, step: &Step) -> Option<(u8, u32)>
                 return None;
             }
             Some((own + 1, openings))
+        }
+        Step::Saved(_) => {
+            if place > MAP {
+                return None;
+            }
+            Some((MAP + 1, openings))
         }
         Step::Line(line) => {
             let all = openings + line.openings();

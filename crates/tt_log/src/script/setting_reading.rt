@@ -6,7 +6,7 @@ ghost use Rattle.tt_log.specs.Reading.{settings};
 use crate::script::bad::NoLine;
 use crate::script::setting::Setting;
 use crate::script::step::Step;
-use crate::script::values::{any, number, number8, number16, password};
+use crate::script::values::{any, number, number8, number16, password, saved};
 use crate::script::words::Words;
 use std::alloc::Global;
 
@@ -55,6 +55,10 @@ pub fn setting_of(alloc: Global, word: &[u8], words: &mut Words) -> Result<Step,
         w if w == b"cost".as_slice() => line_of(Setting::Cost(cost(words)?), words),
         w if w == b"pw".as_slice() => line_of(Setting::Pw(password(alloc, words)?), words),
         w if w == b"admin".as_slice() => line_of(Setting::Admin(password(alloc, words)?), words),
+        w if w == b"map".as_slice() => {
+            let map = saved(alloc, words)?;
+            words.ended(Step::Saved(map))
+        }
         _ => Err(NoLine::Bad),
     }
 }

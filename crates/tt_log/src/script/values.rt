@@ -1,7 +1,8 @@
 //! The values of words: numbers in a range, texts and pieces of a stream.
-ghost use Rattle.std.specs.Prelude.{◌≡◌, ◌≤◌, ◌^◌, true, length, IfOk, List, ℕ, []};
+ghost use Rattle.std.specs.Prelude.{◌≡◌, ◌≤◌, ◌^◌, true, length, IfOk, MatchResult, List, ℕ, []};
 ghost use Rattle.tt_frame.specs.Text.{is_text};
-ghost use Rattle.tt_log.specs.Rows.{WordRead, BytesRead, number_at, hex_at, text_at, text_in};
+ghost use Rattle.tt_map.specs.Reading.{map_in};
+ghost use Rattle.tt_log.specs.Rows.{WordRead, BytesRead, number_at, hex_at, text_at, text_in, may_start, saved_at};
 
 use crate::script::bad::NoLine;
 use crate::script::bytes::Bytes;
@@ -10,6 +11,11 @@ use crate::script::numbers::number_of;
 use crate::script::words::Words;
 use std::alloc::Global;
 use tt_frame::{Line, Name, Short, Text};
+use tt_map::{MapBad, decode_map};
+use tt_world::LAST_START_DAY;
+
+/// The most bytes of a saved game's map.
+const MOST_SAVED: usize = 65_536;
 
 /// A number from `least` to `most`.
 #[tactic(auto, unfolding(crate::specs::Rows::number_at))]
@@ -48,6 +54,35 @@ pub fn bytes(alloc: Global, words: &mut Words) -> Result<Bytes, NoLine>
         return Err(NoLine::Bad);
     };
     hex_of(alloc, word)
+}
+
+/// Whether these bytes are the map of a game that may start again.
+fn may_start(alloc: Global, map: &[u8]) -> Result<bool, NoLine>
+    ensures { MatchResult result (λ yes. yes ≡ may_start (map_in map.now)) (λ bad. bad ≡ NoLine.Memory) }
+{
+    match decode_map(alloc, map) {
+        Ok(world) => Ok(world.day() <= LAST_START_DAY),
+        Err(MapBad::Memory) => Err(NoLine::Memory),
+        Err(MapBad::Tag(_)) => Ok(false),
+        Err(MapBad::Version(_)) => Ok(false),
+        Err(MapBad::Chunk { .. }) => Ok(false),
+    }
+}
+
+/// The map of a saved game, in hexadecimal digits.
+#[tactic(auto, unfolding(crate::specs::Rows::saved_at))]
+pub fn saved(alloc: Global, words: &mut Words) -> Result<Bytes, NoLine>
+    ensures read { WordRead (λ map. map) result words.new (saved_at words.old) }
+{
+    let map = bytes(alloc, words)?;
+    if map.bytes().len() > MOST_SAVED {
+        return Err(NoLine::Bad);
+    }
+    if may_start(alloc, map.bytes())? {
+        Ok(map)
+    } else {
+        Err(NoLine::Bad)
+    }
 }
 
 /// The bytes of a text: digits, or a dash for none.

@@ -1,8 +1,8 @@
-use Rattle.std.proofs.Common.{◌≡◌, Err, List, [], ◌∷◌, ◌++◌, sym, ap, ◌∙◌}
+use Rattle.std.proofs.Common.{◌≡◌, Err, ℕ, List, [], ◌∷◌, ◌++◌, sym, ap, ◌∙◌}
 use Rattle.std.proofs.lemmas.List.{append-nil}
 use Rattle.std.proofs.lemmas.List.Sums.{fold-append}
 use Rattle.std.proofs.lemmas.Grind.{flat_map-append}
-use Rattle.tt_log.specs.Script.{setup_with, line_in, lines_in}
+use Rattle.tt_log.specs.Script.{setup_with, map_in_step, saved_in, line_in, lines_in}
 use Rattle.tt_log.specs.declared.script.line.Line1.{Line1}
 use Rattle.tt_world.specs.Setup.{plain}
 use Rattle.tt_world.specs.declared.setup.Setup.{Setup}
@@ -19,7 +19,8 @@ loop-step-preserved c =
       (
         at,
         c.in_default.ensures.setup ∙ ap (λ (s : Setup). setup_with s step) kept.1 ∙ sym (fold-append setup_with plain steps (step ∷ [])),
-        c.in_default.ensures.lines ∙ ap (λ (t : List Line1). t ++ line_in step) kept.2 ∙ ap (λ (t : List Line1). lines_in steps ++ t) (sym (append-nil (line_in step))) ∙ sym (flat_map-append line_in steps (step ∷ [])),
+        c.in_default.ensures.saved ∙ ap (λ (t : List ℕ). t ++ map_in_step step) kept.2 ∙ ap (λ (t : List ℕ). saved_in steps ++ t) (sym (append-nil (map_in_step step))) ∙ sym (flat_map-append map_in_step steps (step ∷ [])),
+        c.in_default.ensures.lines ∙ ap (λ (t : List Line1). t ++ line_in step) kept.3 ∙ ap (λ (t : List Line1). lines_in steps ++ t) (sym (append-nil (line_in step))) ∙ sym (flat_map-append line_in steps (step ∷ [])),
       ),
     )
 

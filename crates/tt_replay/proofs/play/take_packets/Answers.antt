@@ -17,6 +17,7 @@ packets-preserved c =
       events = next.events;
       rest = next.rest;
       setup = c.in_ok-put_packet-in-Packet.ensures.setup ∙ so_far.setup;
+      start = c.in_ok-put_packet-in-Packet.ensures.start ∙ so_far.start;
       taken = c.in_ok-put_packet-in-Packet.ensures.taken ∙ so_far.taken;
       frame = (rw so_far.setup at c.in_ok-put_packet-in-Packet.ensures.frame) ∙ so_far.frame;
       openings = c.in_ok-put_packet-in-Packet.ensures.openings ∙ so_far.openings;

@@ -12,6 +12,7 @@ invariant-packets l = record {
   events : until_ended l.fn.hub.setup l.conn l.hub.events (stream_events l.conn (drop l.end l.bytes)) ≡ until_ended l.fn.hub.setup l.conn l.fn.hub.events (stream_events l.conn l.bytes);
   rest : (reading reader_limit (drop l.end l.bytes)).1 ≡ (reading reader_limit l.bytes).1;
   setup : l.hub.setup ≡ l.fn.hub.setup;
+  start : l.hub.start ≡ l.fn.hub.start;
   taken : l.hub.taken ≡ l.fn.hub.taken;
   frame : (table_of l.fn.hub.setup l.hub.events).frame ≡ (table_of l.fn.hub.setup l.fn.hub.events).frame;
   openings : opens l.hub.events ≡ opens l.fn.hub.events;

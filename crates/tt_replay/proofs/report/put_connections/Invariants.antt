@@ -8,6 +8,7 @@ abbrev pub invariant-loop-before : goal.invariant-loop-before
 invariant-loop-before l = record {
   text : l.fn.hub.taken ≡ 0 → l.text.items ≡ l.fn.text.items ++ conn_lines l.fn.hub.setup l.fn.hub.events l.before;
   setup : l.hub.setup ≡ l.fn.hub.setup;
+  start : l.hub.start ≡ l.fn.hub.start;
   events : l.hub.events ≡ l.fn.hub.events;
   untaken : l.fn.hub.taken ≡ 0 → (other : ℕ) → l.before < other → taken l.hub other ≡ 0;
 }

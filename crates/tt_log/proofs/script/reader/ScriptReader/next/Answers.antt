@@ -23,7 +23,7 @@ returns-in_default-behind-clause-bad c = λ bytes steps l at e.
 pub returns-clause-step : goal.returns-clause-step
 returns-clause-step c = λ bytes steps at.
     grown _ _ bytes c.first_line.result.0.now steps c.in-Ok.step (subst (λ r. IsAt r bytes steps) (sym c.self.view_is) at) c.first_line.ensures.line c.first_line.ensures.one
-    c.in-Ok.ensures c.in-Some.ensures.1 c.in-Some-behind.ensures.place c.in-Some-behind.ensures.openings c.in-Some-behind.ensures.few.0 c.in-Some-behind.ensures.may
+    c.in-Ok.ensures c.in-Some.ensures.1 c.in-Some-behind.ensures.place c.in-Some-behind.ensures.openings c.in-Some-behind.ensures.may
 
 pub returns-in-Err-Bad-clause-here : goal.returns-in-Err-Bad-clause-here
 returns-in-Err-Bad-clause-here c = λ l e.

@@ -1,0 +1,20 @@
+-- What the game of a script starts from.
+use Rattle.std.specs.Prelude.{◌≡◌, ◌⊎◌, ℕ, List, [], Result, Ok, Err}
+use Rattle.tt_log.specs.Saved.{IsSaved}
+use Rattle.tt_world.specs.World.{WorldState, start}
+use Rattle.tt_world.specs.declared.setup.Setup.{Setup}
+use Rattle.tt_map.specs.Reading.{map_in}
+use Rattle.tt_map.specs.declared.bad.MapBad.{MapBad}
+
+-- the world that was read, or another one where none was
+abbrev pub world_or : Result WorldState MapBad → WorldState → WorldState
+world_or (Ok w) own = w
+world_or (Err bad) own = own
+
+-- the world that a game starts from: the one that the bytes of a map tell, or the setup's own, where there are none
+abbrev pub world_from : Setup → List ℕ → WorldState
+world_from setup saved = world_or (map_in saved) (start setup)
+
+-- bytes that a game may start from: none, or the map of a saved game
+abbrev pub MayStart : List ℕ → Type 0
+MayStart saved = (saved ≡ []) ⊎ IsSaved saved

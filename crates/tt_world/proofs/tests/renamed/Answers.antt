@@ -1,6 +1,0 @@
-use Rattle.std.proofs.Common.{refl, arith}
-use Rattle.tt_frame.proofs.TextLaws.{IsText-from_is_plain}
-use Rattle.tt_world.proofs.tests.renamed.Goals as goal
-
-pub name_of-requires : goal.name_of-requires
-name_of-requires c = record { text = IsText-from_is_plain _ refl; some = omega arith; fits = omega arith }
