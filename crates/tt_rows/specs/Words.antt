@@ -174,7 +174,7 @@ entry frame sender company code number to text =
     record { frame = frame; sender = sender; company = company; command = record { code = code; number = number; to = to; text = text } }
 
 abbrev pub company : ℤ → ℕ → List ℕ → List ℕ → Company
-company money loan name president = record { money = money; loan = loan; name = name; president = president }
+company money loan name president = record { money = money; loan = loan; most = 300000; name = name; president = president }
 
 abbrev pub sign : ℕ → ℕ → ℕ → List ℕ → Sign
 sign id owner tile text = record { id = id; owner = owner; tile = tile; text = text }
