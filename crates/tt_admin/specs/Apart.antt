@@ -1,6 +1,7 @@
 -- Each message taken apart: the number and the body of its packet.
 use Rattle.std.specs.Prelude.{ℕ, List}
-use Rattle.tt_frame.specs.Apart.{Parted, part, parted_body}
+use Rattle.tt_frame.specs.Apart.{Parted, part}
+use Rattle.tt_frame.specs.Families.{Family, family_kind, family_body}
 use Rattle.tt_admin.specs.declared.message.AdminMsg.{AdminMsg}
 use Rattle.tt_admin.specs.declared.message.AdminMsg.TheVariants.{AdminJoin, AdminQuit, AdminUpdateFrequency, AdminPoll, AdminChat, AdminRcon, AdminGamescript, AdminPing, AdminExternalChat, ServerFull, ServerBanned, ServerError, ServerProtocol, ServerWelcome, ServerNewgame, ServerShutdown, ServerDate, ServerClientJoin, ServerClientInfo, ServerClientUpdate, ServerClientQuit, ServerClientError, ServerCompanyNew, ServerCompanyInfo, ServerCompanyUpdate, ServerCompanyRemove, ServerCompanyEconomy, ServerCompanyStats, ServerChat, ServerRcon, ServerConsole, ServerCmdNames, ServerCmdLoggingOld, ServerGamescript, ServerRconEnd, ServerPong, ServerCmdLogging}
 use Rattle.tt_admin.specs.Messages.{messages}
@@ -45,8 +46,14 @@ apart (ServerRconEnd text) = part messages 125 (text, tt)
 apart (ServerPong id) = part messages 126 (id, tt)
 apart (ServerCmdLogging client company code frame) = part messages 127 (client, (company, (code, (frame, tt))))
 
-abbrev pub kind_of : AdminMsg → ℕ
-kind_of m = (apart m).kind
+-- the messages of an admin
+abbrev pub admin_family : Family AdminMsg
+admin_family = record { table = messages; apart = apart }
 
+-- its number
+abbrev pub kind_of : AdminMsg → ℕ
+kind_of m = family_kind admin_family m
+
+-- the bytes of its body
 abbrev pub body_bytes : AdminMsg → List ℕ
-body_bytes m = parted_body messages (apart m)
+body_bytes m = family_body admin_family m

@@ -1,5 +1,5 @@
 //! What holds of all messages. These functions do nothing: their contracts are the laws.
-ghost use Rattle.std.specs.Prelude.{◌≡◌, ℕ, ◌+◌, ◌<◌, ◌≤◌, ◌^◌, List, ◌++◌, length, Ok};
+ghost use Rattle.std.specs.Prelude.{◌≡◌, ◌≢◌, ℕ, ◌+◌, ◌<◌, ◌≤◌, ◌^◌, List, ◌++◌, length, Ok};
 ghost use Rattle.tt_frame.specs.Packet.{Packet, packet};
 ghost use Rattle.tt_frame.specs.Framing.{BeginsWith};
 ghost use Rattle.tt_frame.specs.Unread.{whole};
@@ -13,9 +13,11 @@ pub fn one_spelling()
         → Spells m kind body → Spells m other bytes → (kind ≡ other) × (body ≡ bytes) }
 {}
 
-/// A message's packet has at most 32,767 bytes.
+/// A message's packet has at most 1,460 bytes, as many as a program of this project sends in one packet; only the names of
+/// commands (CMD_NAMES, 122) may have more, since they are up to 255. Every packet has at most 32,767.
 pub fn small_packets()
-    ensures { (m : AdminMsg) (kind : ℕ) (body : List ℕ) → Spells m kind body → length body + 3 ≤ 32767 }
+    ensures read { (m : AdminMsg) (kind : ℕ) (body : List ℕ) → Spells m kind body → length body + 3 ≤ 32767 }
+    ensures sent { (m : AdminMsg) (kind : ℕ) (body : List ℕ) → kind ≢ 122 → Spells m kind body → length body + 3 ≤ 1460 }
 {}
 
 /// What is spelled is read.

@@ -4,18 +4,12 @@
 //! stands in one table, one line for each message (specs/Messages.antt); all else is proved from it.
 #![tactic(auto)]
 
-mod command_list;
+mod items;
+mod kinds;
 mod laws;
 mod message;
-mod reading;
-mod update_list;
-mod writing;
 
-pub use command_list::{CommandName, CommandNames};
+pub use items::{CommandName, CommandNames, UpdateType, UpdateTypes};
 pub use laws::{one_spelling, round_trip, small_packets};
 pub use message::AdminMsg;
 pub use tt_frame::Bad;
-pub use update_list::{UpdateType, UpdateTypes};
-
-#[cfg(test)]
-mod tests;

@@ -1,7 +1,18 @@
 //! The messages between an admin and the server.
-use crate::command_list::CommandNames;
-use crate::update_list::UpdateTypes;
-use tt_frame::{Text, UpTo};
+ghost use Rattle.std.specs.Prelude.{◌≡◌, ◌⊎◌, ℕ, ◌≤◌, ◌+◌, ◌++◌, length, take, IfOk, OnOk, OnErr, Ok, Err};
+ghost use Rattle.tt_frame.specs.declared.bad.Bad.TheVariants.{Malformed, Memory};
+ghost use Rattle.tt_frame.specs.Packet.{packet};
+ghost use Rattle.tt_frame.specs.Unread.{whole};
+ghost use Rattle.tt_frame.specs.Tables.{MessageReadOrMemory, StopsBy, name_by, read_by};
+ghost use Rattle.tt_frame.specs.Said.{each_said};
+ghost use Rattle.tt_frame.specs.Families.{family_said};
+ghost use Rattle.tt_admin.specs.Messages.{messages, Spells, TakesMemory};
+ghost use Rattle.tt_admin.specs.Apart.{admin_family, kind_of, body_bytes};
+
+use crate::items::{CommandNames, UpdateTypes};
+use crate::kinds::{name_of, read, tell_parts};
+use std::alloc::Global;
+use tt_frame::{Bad, LongText, OutOfMemory, PartWriter, Text, UpTo, finish};
 
 /// A message between an admin and the server. Each field's type holds exactly the values that have a spelling.
 #[derive(Debug, PartialEq, Eq, Drop)]
@@ -28,15 +39,15 @@ pub enum AdminMsg {
     AdminChat {
         scope: UpTo<2>,
         to: u32,
-        text: Text<899>,
+        text: LongText<899>,
     },
     /// 5, from an admin: a line for the server's console.
     AdminRcon {
-        text: Text<899>,
+        text: LongText<899>,
     },
     /// 6, from an admin: a line for a script of the game.
     AdminGamescript {
-        text: Text<899>,
+        text: LongText<899>,
     },
     /// 7, from an admin: it asks for a pong with this number.
     AdminPing {
@@ -47,7 +58,7 @@ pub enum AdminMsg {
         source: Text<31>,
         colour: u16,
         user: Text<31>,
-        text: Text<899>,
+        text: LongText<899>,
     },
     /// 100, from the server: it has no room for the admin, and the connection ends.
     ServerFull,
@@ -146,17 +157,17 @@ pub enum AdminMsg {
     ServerChat {
         scope: UpTo<2>,
         client: u32,
-        text: Text<899>,
+        text: LongText<899>,
     },
     /// 120, from the server: a line that the console answers, and the colour to show it in.
     ServerRcon {
         colour: u16,
-        text: Text<899>,
+        text: LongText<899>,
     },
     /// 121, from the server: a line on its console, and where it comes from.
     ServerConsole {
         origin: Text<31>,
-        text: Text<899>,
+        text: LongText<899>,
     },
     /// 122, from the server: the commands of a game, by code and name.
     ServerCmdNames {
@@ -166,11 +177,11 @@ pub enum AdminMsg {
     ServerCmdLoggingOld,
     /// 124, from the server: a line from a script of the game. It is never sent.
     ServerGamescript {
-        text: Text<899>,
+        text: LongText<899>,
     },
     /// 125, from the server: the console has answered this line.
     ServerRconEnd {
-        text: Text<899>,
+        text: LongText<899>,
     },
     /// 126, from the server: the answer to the ping with this number.
     ServerPong {
@@ -183,4 +194,55 @@ pub enum AdminMsg {
         code: u16,
         frame: u32,
     },
+}
+
+impl AdminMsg {
+    /// The name of the message of that number, or no letters where no message has it.
+    pub fn name_of(kind: u8) -> &'static [u8]
+        ensures { result.now ≡ name_by messages kind }
+    {
+        name_of(kind)
+    }
+
+    /// The message that a packet of this number and body spells, or why it spells none.
+    pub fn decode(alloc: Global, kind: u8, body: &[u8]) -> Result<AdminMsg, Bad>
+        // What is read is spelled so.
+        ensures found { IfOk result (λ m. Spells m kind body.now) }
+        // What is spelled so is read, unless memory runs out, and that only for the kinds that take some: those with a list or
+        // with a text of up to 899 bytes.
+        ensures only { (m : AdminMsg) → Spells m kind body.now → (result ≡ Ok m) ⊎ (result ≡ Err Memory) }
+        ensures memory { result ≡ Err Memory → TakesMemory kind }
+
+        // It is malformed only where nothing is spelled, and the place is that of the first field that isn't there, or of
+        // the first byte behind the last field, or 0 where no message has the number.
+        ensures nothing { (at : ℕ) (m : AdminMsg) → result ≡ Err (Malformed at) → Spells m kind body.now → ⊥ }
+        ensures place { (at : ℕ) → result ≡ Err (Malformed at) → StopsBy messages kind body.now at }
+
+        // All of this in one: the answer is what reading the body by the table gives.
+        ensures exact { MessageReadOrMemory result (read_by messages kind (whole body.now)) }
+    {
+        read(alloc, kind, body)
+    }
+
+    /// Tells the message's head and its parts, in order: what a writer writes for them stands behind what stood there.
+    pub fn tell<W: PartWriter>(&self, to: &mut W) -> Result<(), OutOfMemory>
+        ensures ok { OnOk result (W.text to.new ≡ W.text to.old ++ each_said W.word (family_said admin_family self.now)) }
+        ensures err { OnErr result (take (length (W.text to.old)) (W.text to.new) ≡ W.text to.old) }
+    {
+        tell_parts(self, to)
+    }
+
+    /// Appends the packet of the message, or nothing where memory is refused.
+    pub fn encode(&self, out: &mut Vec<u8>) -> Result<(), OutOfMemory>
+        // What is appended is one packet, whose number and body spell the message.
+        ensures ok { OnOk result (out.new.items ≡ out.old.items ++ packet (kind_of self.now) (body_bytes self.now)) }
+        ensures spelled { Spells self.now (kind_of self.now) (body_bytes self.now) }
+        ensures size { length (body_bytes self.now) + 3 ≤ 32767 }
+
+        ensures err { OnErr result (out.new.items ≡ out.old.items) }
+    {
+        let start = out.len();
+        let written = tell_parts(self, out);
+        finish(out, start, written)
+    }
 }
