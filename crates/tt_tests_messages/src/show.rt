@@ -1,13 +1,9 @@
 //! Each message of a game once, lines that have no packet, and inputs that are no list.
 mod families;
 
-use crate::forms::Form::{Text, Truth, U16, U64};
-use crate::forms::Part::{Counted, Fixed, Marked, One};
-use crate::forms::{Row, Tail, Width};
-use crate::rows::put_row;
-use crate::{Family, ShowError, show, show_bytes, show_packet};
 use std::alloc::Global;
 use std::test::Fail;
+use tt_show::{Family, ShowError, show, show_bytes, show_packet};
 
 /// A line for each message, and its text.
 const ROWS: [(&[u8], &[u8]); 39] = [
@@ -93,26 +89,20 @@ fn rows() -> &'static [(&'static [u8], &'static [u8])] {
     &ROWS
 }
 
-fn is_shown(alloc: Global, input: &[u8], expected: &[u8]) -> bool {
+fn bad_line(alloc: Global, input: &[u8]) -> Option<u32> {
     match show(alloc, input) {
-        Ok(text) => text.as_slice() == expected,
-        Err(_) => false,
-    }
-}
-
-fn is_bad_at(alloc: Global, input: &[u8], expected: u32) -> bool {
-    match show(alloc, input) {
-        Err(ShowError::Line(line)) => line == expected,
-        _ => false,
+        Err(ShowError::Line(line)) => Some(line),
+        _ => None,
     }
 }
 
 #[test]
-fn each_message_has_its_line(rt: HostRuntime) {
+fn each_message_has_its_line(rt: HostRuntime) -> Result<(), Fail> {
     for row in rows().iter() {
         let (line, text) = *row;
-        assert!(rt; is_shown(rt.alloc(), line, text));
+        assert_eq!(rt; show(rt.alloc(), line)?.as_slice(), text);
     }
+    Ok(())
 }
 
 /// Lists, and their texts.
@@ -142,11 +132,12 @@ fn lists() -> &'static [(&'static [u8], &'static [u8])] {
 }
 
 #[test]
-fn each_list_has_its_text(rt: HostRuntime) {
+fn each_list_has_its_text(rt: HostRuntime) -> Result<(), Fail> {
     for row in lists().iter() {
         let (input, text) = *row;
-        assert!(rt; is_shown(rt.alloc(), input, text));
+        assert_eq!(rt; show(rt.alloc(), input)?.as_slice(), text);
     }
+    Ok(())
 }
 
 /// Inputs that are no list, and their first bad lines.
@@ -174,7 +165,7 @@ fn bad() -> &'static [(&'static [u8], u32)] {
 fn the_first_bad_line_is_told(rt: HostRuntime) {
     for row in bad().iter() {
         let (input, line) = *row;
-        assert!(rt; is_bad_at(rt.alloc(), input, line));
+        assert_eq!(rt; bad_line(rt.alloc(), input), Some(line));
     }
 }
 
@@ -189,36 +180,5 @@ fn lines_are_appended(rt: HostRuntime) -> Result<(), Fail> {
         text.as_slice(),
         b"> SERVER_MOVE 3 14\nCLIENT_QUIT\npartial 1\n".as_slice()
     );
-    Ok(())
-}
-
-/// Parts that no message of a game has.
-const OTHERS: Row = Row {
-    name: b"OTHERS",
-    parts: &[
-        Fixed(1),
-        One(U64),
-        Marked(2, &[U16, Text(3)]),
-        Counted(Width::Word, 2, &[Truth]),
-    ],
-    tail: Tail::End,
-};
-
-/// A body of these parts.
-const BODY: [u8; 22] = [
-    1, 255, 255, 255, 255, 255, 255, 255, 255, 1, 2, 1, b'a', 0, 1, 3, 0, 0, 0, 1, 0, 1,
-];
-
-#[test]
-fn other_parts_are_read(rt: HostRuntime) -> Result<(), Fail> {
-    let alloc = rt.alloc();
-    let mut text = Vec::new(alloc);
-    put_row(alloc, &mut text, &OTHERS, &BODY)?;
-    assert_eq!(rt;
-        text.as_slice(),
-        b"OTHERS 1 18446744073709551615 258 61 3 - 1 1\n".as_slice()
-    );
-    assert!(rt; put_row(alloc, &mut text, &OTHERS, &BODY[1..]).is_err());
-    assert!(rt; put_row(alloc, &mut text, &OTHERS, &BODY[..21]).is_err());
     Ok(())
 }

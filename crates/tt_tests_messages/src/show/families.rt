@@ -1,7 +1,8 @@
 //! Each message of admins, of the coordinator, of its STUN desk and of its TURN server once, and packets that spell none.
 //!
 //! One row stands for one message, and its packet is the one that the tests of the crates that decode these messages have.
-use super::is_shown;
+use std::test::Fail;
+use tt_show::show;
 
 /// A line for each message, and its text.
 const ROWS: [(&[u8], &[u8]); 58] = [
@@ -152,11 +153,12 @@ fn rows() -> &'static [(&'static [u8], &'static [u8])] {
 }
 
 #[test]
-fn each_message_of_the_other_families_has_its_line(rt: HostRuntime) {
+fn each_message_of_the_other_families_has_its_line(rt: HostRuntime) -> Result<(), Fail> {
     for row in rows().iter() {
         let (line, text) = *row;
-        assert!(rt; is_shown(rt.alloc(), line, text));
+        assert_eq!(rt; show(rt.alloc(), line)?.as_slice(), text);
     }
+    Ok(())
 }
 
 /// Lists of several families, bodies that no message has, and their texts.
@@ -189,9 +191,10 @@ fn lists() -> &'static [(&'static [u8], &'static [u8])] {
 }
 
 #[test]
-fn each_list_of_the_other_families_has_its_text(rt: HostRuntime) {
+fn each_list_of_the_other_families_has_its_text(rt: HostRuntime) -> Result<(), Fail> {
     for row in lists().iter() {
         let (input, text) = *row;
-        assert!(rt; is_shown(rt.alloc(), input, text));
+        assert_eq!(rt; show(rt.alloc(), input)?.as_slice(), text);
     }
+    Ok(())
 }
