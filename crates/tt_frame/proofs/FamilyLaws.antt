@@ -104,3 +104,7 @@ sealed_err M family m r q start before written after here same told cut = both q
     both : (p : Result (Unit {0}) OutOfMemory) → OnErr p (take (length before) written ≡ before) → OnErr p (after ≡ take start written) → OnErr p (after ≡ before)
     both (Ok done) kept end = tt
     both (Err e) kept end = end ∙ ap (λ (n : ℕ). take n written) here ∙ kept
+
+-- the number under which a message is spelled is its number
+pub kind_is : (M : Type 0) (family : Family M) → Lawful family → (m : M) (kind : ℕ) (body : List ℕ) → SpelledBy family.table m kind body → family_kind family m ≡ kind
+kind_is M family lawful m kind body spelled = ap (λ (p : ℕ × List ℕ). p.0) (one_spelling M (spelling family) family.table m kind body lawful.apart spelled)

@@ -1,8 +1,9 @@
 -- Lists, line by line.
-use Rattle.std.proofs.Common.{◌≡◌, ◌≢◌, ℕ, ◌+◌, ◌-◌, List, [], ◌∷◌, ◌++◌, length, take, refl, sym, ap, ap₂, ◌∙◌, append_assoc, arith}
+use Rattle.std.proofs.lemmas.Bool.{cases_lt}
+use Rattle.std.proofs.Common.{◌≡◌, ◌≢◌, inl, inr, subst, zero, suc, ◌<◌, ℕ, ◌+◌, ◌-◌, List, [], ◌∷◌, ◌++◌, length, take, refl, sym, ap, ap₂, ◌∙◌, append_assoc, arith}
 use Rattle.std.specs.Prelude.{map, codes}
 use Rattle.std.specs.List.{AllByRecursion}
-use Rattle.std.proofs.lemmas.List.{append-nil, map-append, take_at, length-map, length-append, nil_from_length}
+use Rattle.std.proofs.lemmas.List.{take-take, append-nil, map-append, take_at, length-map, length-append, nil_from_length}
 use Rattle.std.proofs.lemmas.Grind.{flat_map-append}
 use Rattle.hex.specs.Hex.{encode_lower}
 use Rattle.tt_lines.specs.Digits.{IsPiece}
@@ -118,3 +119,32 @@ first_bad input rest after text first number next so_far cut none counted =
           let last = last_is front first is.0 (sym with_it ∙ is.1.text) is.1.each in
           none last.0 last.1.0 last.1.1;
     }
+
+-- ---- one first bad line
+
+-- the first lines of a list are one
+front_lines : (n : ℕ) (lines : List ListLine) → AllByRecursion IsLine lines → (few : List ListLine) × (AllByRecursion IsLine few × (take n (map line_text lines) ≡ map line_text few))
+front_lines zero lines each = ([], (tt, refl))
+front_lines (suc n) [] each = ([], (tt, refl))
+front_lines (suc n) (l ∷ lines) each =
+    let few = front_lines n lines each.1 in
+    (l ∷ few.0, ((each.0, few.1.0), ap (λ (texts : List (List ℕ)). line_text l ∷ texts) few.1.1))
+
+front_list : (n : ℕ) (texts : List (List ℕ)) → IsList texts → IsList (take n texts)
+front_list n texts list =
+    let few = front_lines n list.0 list.1.each in
+    (few.0, record { each = few.1.0; text = ap (take n) list.1.text ∙ few.1.1 })
+
+not_before : (texts : List (List ℕ)) (l k : ℕ) → IsFirstBad IsList texts l → IsFirstBad IsList texts k → l < k → ⊥
+not_before texts l k first other lt =
+    let short : take l (take (k - 1) texts) ≡ take l texts = take-take l (k - 1) texts (omega arith) in
+    first.bad (subst (λ (some : List (List ℕ)). IsList some) short (front_list l (take (k - 1) texts) other.before))
+
+pub one_first_bad : (texts : List (List ℕ)) (l k : ℕ) → IsFirstBad IsList texts l → IsFirstBad IsList texts k → l ≡ k
+one_first_bad texts l k first other = elim (cases_lt l k) [
+  | inl lt ↦ absurd (not_before texts l k first other lt)
+  | inr le ↦ elim (cases_lt k l) [
+    | inl lt ↦ absurd (not_before texts k l other first lt)
+    | inr ge ↦ omega arith
+  ]
+]

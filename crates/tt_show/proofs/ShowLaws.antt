@@ -1,69 +1,77 @@
--- The line of a packet is the line of what its row reads.
-use Rattle.std.proofs.Common.{◌≡◌, ℕ, Bool, true, false, cond, eqb, List, [], ◌∷◌, ◌++◌, Option, Some, None, Result, Ok, Err, refl, sym, ap, ap₂, subst, ◌∙◌}
+-- The line of a packet is what the message that it spells tells of itself.
+use Rattle.std.proofs.Common.{◌≡◌, ℕ, List, [], ◌∷◌, ◌++◌, length, Option, Some, None, Result, Ok, Err, refl, sym, ap, subst, ◌∙◌, append_assoc}
 use Rattle.std.specs.Prelude.{codes}
-use Rattle.std.proofs.lemmas.Bool.{eqb-true}
+use Rattle.std.proofs.lemmas.List.{append-nil}
 use Rattle.tt_frame.specs.Packet.{IsBytes}
 use Rattle.tt_frame.specs.Unread.{whole}
-use Rattle.tt_frame.specs.Tables.{Rule, rule_of, SpelledBy, read_by}
-use Rattle.tt_frame.specs.Apart.{Values, made_of}
+use Rattle.tt_frame.specs.FieldForms.{Named, Field, u8, u16, u32, u64, within, truth, text, digest, optional_digest, raw, Value}
+use Rattle.tt_frame.specs.ItemForms.{Item}
+use Rattle.tt_frame.specs.Rows.{Row, unknown, end, rest, ◌▸◌, fixed, counted, marked}
+use Rattle.tt_frame.specs.Tables.{rule_of, name_by, SpelledBy, read_by, StopsBy, MessageReadOrMemory}
+use Rattle.tt_frame.specs.Apart.{Values}
+use Rattle.tt_frame.specs.Said.{Said, mark, field_said, item_said, items_said, marks_said, row_said, each_said}
+use Rattle.tt_frame.specs.Families.{Family as Messages, family_kind, family_said}
 use Rattle.tt_frame.specs.declared.bad.Bad.{Bad}
 use Rattle.tt_frame.specs.declared.bad.Bad.TheVariants.{Memory, Malformed}
 use Rattle.tt_frame.proofs.RowLaws.{row_again}
-use Rattle.tt_frame.proofs.TableLaws.{is_found}
-use Rattle.tt_show.specs.Names.{name_of}
-use Rattle.tt_show.specs.Texts.{row_text}
-use Rattle.tt_show.specs.Packets.{Messages, message_text, text_of, text_by, Appends}
-use Rattle.tt_show.specs.TextReading.{TextRead, RowPut}
-use Rattle.tt_show.proofs.TextLaws.{Linked}
+use Rattle.tt_frame.proofs.TableLaws.{is_found, stops_at}
+use Rattle.tt_frame.proofs.SaidLaws.{each_said-append}
+use Rattle.tt_show.specs.Words.{word}
+use Rattle.tt_show.specs.Texts.{field_text, item_text, items_text, row_text}
+use Rattle.tt_show.specs.SaidWords.{said_words}
+use Rattle.tt_show.specs.Packets.{message_text, text_of, text_by, Appends}
 
--- the line of a name and words
-abbrev pub line_of : List ℕ → List ℕ → List ℕ
-line_of name words = name ++ words ++ codes "\n"
+-- ---- the words of a row are the words of its parts
 
--- what a rule of the table makes of any values has the line of its name and those values
-abbrev pub IsNamed : {M : Type 0} → Messages M → Rule M → Type 0
-IsNamed family l = (v : Values l.fields) → message_text family (made_of l.fields l.make v) ≡ line_of (name_of family.names l.kind) (row_text l.fields v)
+field_words : (f : Field) (x : Value f) → said_words (field_said f x) ≡ word (field_text f x)
+field_words u8 x = refl
+field_words u16 x = refl
+field_words u32 x = refl
+field_words u64 x = refl
+field_words (within w max) x = refl
+field_words truth x = refl
+field_words (text max) x = refl
+field_words digest x = refl
+field_words optional_digest x = refl
+field_words (raw n) x = refl
 
-abbrev pub AllNamed : {M : Type 0} → Messages M → List (Rule M) → Type 0
-AllNamed family [] = Unit {0}
-AllNamed family (l ∷ ls) = IsNamed family l × AllNamed family ls
+item_words : (fs : List Named) (x : Item fs) → each_said said_words (item_said fs x) ≡ item_text fs x
+item_words [] x = refl
+item_words (f ∷ fs) x = λ i. field_words f.field x.0 i ++ item_words fs x.1 i
 
--- the same of the rule of a number
-abbrev NamedBy : {M : Type 0} → Messages M → ℕ → Rule M → Type 0
-NamedBy family kind l = (v : Values l.fields) → message_text family (made_of l.fields l.make v) ≡ line_of (name_of family.names kind) (row_text l.fields v)
+items_words : (fs : List Named) (xs : List (Item fs)) → each_said said_words (items_said fs xs) ≡ items_text fs xs
+items_words fs [] = refl
+items_words fs (x ∷ xs) = each_said-append said_words (item_said fs x) (items_said fs xs) ∙ (λ i. item_words fs x i ++ items_words fs xs i)
 
-named_by : (M : Type 0) (family : Messages M) (kind : ℕ) (l k : Rule M) (b : Bool) → eqb kind l.kind ≡ b → IsNamed family l → NamedBy family kind k → NamedBy family kind (cond b l k)
-named_by M family kind l k true e named others = λ v. named v ∙ ap (λ (n : ℕ). line_of (name_of family.names n) (row_text l.fields v)) (sym (eqb-true kind l.kind e))
-named_by M family kind l k false e named others = others
+marks_words : (fs : List Named) (xs : List (Item fs)) → each_said said_words (marks_said fs xs) ≡ items_text fs xs
+marks_words fs [] = refl
+marks_words fs (x ∷ xs) = each_said-append said_words (mark 1 ∷ item_said fs x) (marks_said fs xs) ∙ (λ i. item_words fs x i ++ marks_words fs xs i)
 
-pub named_of : (M : Type 0) (family : Messages M) (table : List (Rule M)) (kind : ℕ) → AllNamed family table → NamedBy family kind (rule_of table kind)
-named_of M family [] kind all = λ v. absurd v
-named_of M family (l ∷ ls) kind all = named_by M family kind l (rule_of ls kind) (eqb kind l.kind) refl all.0 (named_of M family ls kind all.1)
+pub row_words : (r : Row) (v : Values r) → each_said said_words (row_said r v) ≡ row_text r v
+row_words unknown v = absurd v
+row_words end v = refl
+row_words (rest low high) v = append-nil (said_words (Rattle.tt_frame.specs.Said.bytes v))
+row_words (f ▸ r) v = λ i. field_words f.field v.0 i ++ row_words r v.1 i
+row_words (fixed b r) v = ap (λ (s : List ℕ). said_words (Rattle.tt_frame.specs.Said.always b) ++ s) (row_words r v)
+row_words (counted w max fs r) v =
+    let n = said_words (Rattle.tt_frame.specs.Said.count (Rattle.tt_frame.specs.FieldForms.count_width w) (length v.0)) in
+    ap (λ (s : List ℕ). n ++ s) (each_said-append said_words (items_said fs v.0) (row_said r v.1) ∙ (λ i. items_words fs v.0 i ++ row_words r v.1 i))
+    ∙ sym (append_assoc n (items_text fs v.0) (row_text r v.1))
+row_words (marked max fs r) v =
+    each_said-append said_words (marks_said fs v.0 ++ mark 0 ∷ []) (row_said r v.1)
+    ∙ (λ i. (each_said-append said_words (marks_said fs v.0) (mark 0 ∷ []) ∙ append-nil (each_said said_words (marks_said fs v.0)) ∙ marks_words fs v.0) i ++ row_words r v.1 i)
 
--- a line is told where the words were read, and none where they were not
-abbrev pub Tells : Option (List ℕ) → List ℕ → TextRead → Type 0
-Tells line name (Ok x) = line ≡ Some (line_of name x.0)
-Tells line name (Err at) = line ≡ None
+-- ---- a message that was read
 
-pub told : (M : Type 0) (family : Messages M) (kind : ℕ) (l : Rule M) → NamedBy family kind l → (z : Result M ℕ) (w : TextRead) → Linked M l.fields l.make z w → Tells (text_of family z) (name_of family.names kind) w
-told M family kind l named (Ok m) w (v, (t, (is, h))) =
-    subst (Tells (Some (message_text family m)) (name_of family.names kind)) (sym h) (ap (λ (line : List ℕ). Some line) (ap (λ (n : M). message_text family n) is ∙ named v))
-told M family kind l named (Err at) w h = subst (Tells None (name_of family.names kind)) (sym h) refl
-
--- nothing is told where the row is not there
-pub nothing_told : (line : Option (List ℕ)) (name table before after : List ℕ) (e : Bad) (at : ℕ) (reading : TextRead) → Tells line table reading → RowPut (Err e) name before after reading
-    → ◌≡◌ {A = Result (Unit {0}) Bad} (Err e) (Err (Malformed at)) → line ≡ None
-nothing_told line name table before after Memory at reading tells put is = absurd cc
-nothing_told line name table before after (Malformed place) at reading tells put is = let P : TextRead → Type 0 = Tells line table in subst P put tells
-
--- the line that was put is the packet's
-pub line_told : (line : Option (List ℕ)) (name table none put old new : List ℕ) (reading : TextRead) → Tells line table reading → name ≡ table → none ≡ [] → RowPut (Ok tt) name none put reading → new ≡ old ++ put → Appends line old new
-line_told line name table none put old new reading tells named empty (words, (t, (h, is))) appended =
-    let P : TextRead → Type 0 = Tells line table in
-    let there : line ≡ Some (line_of table words) = subst P h tells in
-    let whole : put ≡ line_of table words = is ∙ ap₂ (λ (front title : List ℕ). front ++ line_of title words) empty named in
-    let Q : Option (List ℕ) → Type 0 = λ o. Appends o old new in
-    subst Q (sym there) (appended ∙ ap (λ (text : List ℕ). old ++ text) whole)
+-- its name and its words are its line
+pub line_shown : (M : Type 0) (family : Messages M) (kind : ℕ) (body : List ℕ) (m : M) (before after : List ℕ) → read_by family.table kind (whole body) ≡ Ok m → family_kind family m ≡ kind
+    → after ≡ before ++ (name_by family.table kind ++ (each_said said_words (family_said family m) ++ codes "\n")) → Appends (text_by family (record { kind = kind; body = body })) before after
+line_shown M family kind body m before after read same is =
+    let p = family.apart m in
+    let words = each_said said_words (family_said family m) in
+    let line : name_by family.table kind ++ (words ++ codes "\n") ≡ message_text family m =
+    sym (append_assoc (name_by family.table kind) words (codes "\n")) ∙ (λ i. (name_by family.table (sym same i) ++ row_words (rule_of family.table p.kind).fields p.values i) ++ codes "\n") in
+    subst (λ (z : Result M ℕ). Appends (text_of family z) before after) (sym read) (is ∙ ap (λ (s : List ℕ). before ++ s) line)
 
 -- ---- the messages that are spelled
 

@@ -1,10 +1,7 @@
 pub mod Words
+pub mod SaidWords
 pub mod Texts
-pub mod Names
 pub mod Packets
 pub mod Streams
 pub mod ListLines
 pub mod Lists
-pub mod Forms
-pub mod TextReading
-pub mod ValueWords

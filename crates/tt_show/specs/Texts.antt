@@ -1,7 +1,7 @@
 -- The text of a message's values: a word for each, in the order of its row.
 use Rattle.std.specs.Prelude.{ℕ, List, [], ◌∷◌, ◌++◌, length}
 use Rattle.std.specs.Fmt.{decimal}
-use Rattle.tt_frame.specs.FieldForms.{Field, u8, u16, u32, u64, within, truth, text, digest, optional_digest, raw, Value, optional_bytes, truth_number}
+use Rattle.tt_frame.specs.FieldForms.{Named, Field, u8, u16, u32, u64, within, truth, text, digest, optional_digest, raw, Value, optional_bytes, truth_number}
 use Rattle.tt_frame.specs.ItemForms.{Item}
 use Rattle.tt_frame.specs.Rows.{Row, unknown, end, rest, ◌▸◌, fixed, counted, marked}
 use Rattle.tt_frame.specs.Apart.{Values}
@@ -23,12 +23,12 @@ field_text optional_digest o = bytes_text (optional_bytes o)
 field_text (raw n) s = bytes_text s
 
 -- the fields of an item
-abbrev pub item_text : (fs : List Field) → Item fs → List ℕ
+abbrev pub item_text : (fs : List Named) → Item fs → List ℕ
 item_text [] x = []
-item_text (f ∷ fs) x = word (field_text f x.0) ++ item_text fs x.1
+item_text (f ∷ fs) x = word (field_text f.field x.0) ++ item_text fs x.1
 
 -- the items, one behind the other
-abbrev pub items_text : (fs : List Field) → List (Item fs) → List ℕ
+abbrev pub items_text : (fs : List Named) → List (Item fs) → List ℕ
 items_text fs [] = []
 items_text fs (x ∷ xs) = item_text fs x ++ items_text fs xs
 
@@ -38,7 +38,7 @@ abbrev pub row_text : (r : Row) → Values r → List ℕ
 row_text unknown v = absurd v
 row_text end v = []
 row_text (rest low high) v = word (bytes_text v)
-row_text (f ▸ r) v = word (field_text f v.0) ++ row_text r v.1
+row_text (f ▸ r) v = word (field_text f.field v.0) ++ row_text r v.1
 row_text (fixed byte r) v = word (decimal byte) ++ row_text r v
 row_text (counted w max fs r) v = (word (decimal (length v.0)) ++ items_text fs v.0) ++ row_text r v.1
 row_text (marked max fs r) v = items_text fs v.0 ++ row_text r v.1

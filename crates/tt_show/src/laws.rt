@@ -12,6 +12,8 @@ ghost use Rattle.tt_coord.specs.Stun.{StunSpells};
 ghost use Rattle.tt_coord.specs.declared.turn.TurnMsg.{TurnMsg};
 ghost use Rattle.tt_coord.specs.Turn.{TurnSpells};
 ghost use Rattle.tt_show.specs.declared.family.Family.TheVariants.{Game, Admin, Coord, Stun, Turn};
+ghost use Rattle.tt_lines.specs.Lines.{lines_of, IsFirstBad};
+ghost use Rattle.tt_show.specs.Lists.{IsList};
 ghost use Rattle.tt_show.specs.Packets.{game, admin, coord, stun, turn, message_text, packet_text};
 
 /// The line of a packet of a game is the line of the message that it spells, and only a packet that spells one has a line.
@@ -52,4 +54,9 @@ pub fn one_turn_line()
         → packet_text Turn (record { kind = kind; body = body }) ≡ Some (message_text turn m) }
     ensures only { (kind : ℕ) (body line : List ℕ) → IsBytes body → packet_text Turn (record { kind = kind; body = body }) ≡ Some line
         → (m : TurnMsg) × TurnSpells m kind body × (line ≡ message_text turn m) }
+{}
+
+/// An input has at most one first bad line: what `show` answers by `Line` is determined by the input.
+pub fn one_bad_line()
+    ensures { (input : List ℕ) (l k : ℕ) → IsFirstBad IsList (lines_of input) l → IsFirstBad IsList (lines_of input) k → l ≡ k }
 {}

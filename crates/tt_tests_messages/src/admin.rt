@@ -2,7 +2,7 @@
 mod limits;
 mod rows;
 
-use crate::{AdminMsg, CommandName, CommandNames, UpdateType, UpdateTypes};
+use tt_admin::{AdminMsg, CommandName, CommandNames, UpdateType, UpdateTypes};
 use std::alloc::Global;
 use std::test::Fail;
 use tt_frame::{Text, UpTo};
@@ -30,26 +30,26 @@ const PROTOCOL: [u8; 55] = [
     0x00, 0x01, 0x09, 0x00, 0x40, 0x00, 0x00,
 ];
 
-fn ten_types() -> UpdateTypes {
-    let mut items = UpdateTypes::new();
-    items.push(UpdateType::new(0, 63));
-    items.push(UpdateType::new(1, 65));
-    items.push(UpdateType::new(2, 65));
-    items.push(UpdateType::new(3, 61));
-    items.push(UpdateType::new(4, 61));
-    items.push(UpdateType::new(5, 64));
-    items.push(UpdateType::new(6, 64));
-    items.push(UpdateType::new(7, 1));
-    items.push(UpdateType::new(8, 64));
-    items.push(UpdateType::new(9, 64));
-    items
+fn ten_types(alloc: Global) -> Result<UpdateTypes, Fail> {
+    let mut items = UpdateTypes::new(alloc);
+    items.push(UpdateType { kind: 0, bits: 63 })?;
+    items.push(UpdateType { kind: 1, bits: 65 })?;
+    items.push(UpdateType { kind: 2, bits: 65 })?;
+    items.push(UpdateType { kind: 3, bits: 61 })?;
+    items.push(UpdateType { kind: 4, bits: 61 })?;
+    items.push(UpdateType { kind: 5, bits: 64 })?;
+    items.push(UpdateType { kind: 6, bits: 64 })?;
+    items.push(UpdateType { kind: 7, bits: 1 })?;
+    items.push(UpdateType { kind: 8, bits: 64 })?;
+    items.push(UpdateType { kind: 9, bits: 64 })?;
+    Ok(items)
 }
 
 #[test]
 fn the_protocol_packet_is_the_ten_types(rt: HostRuntime) -> Result<(), Fail> {
     let message = AdminMsg::ServerProtocol {
         version: 3,
-        items: ten_types(),
+        items: ten_types(rt.alloc())?,
     };
     assert!(rt; AdminMsg::decode(rt.alloc(), 0x67, &PROTOCOL[3..])? == message);
     let mut out = Vec::new(rt.alloc());
@@ -59,13 +59,16 @@ fn the_protocol_packet_is_the_ten_types(rt: HostRuntime) -> Result<(), Fail> {
 }
 
 #[test]
-fn a_list_of_types_has_them_in_order(rt: HostRuntime) {
-    let mut types = UpdateTypes::new();
-    types.push(UpdateType::new(0, 63));
-    types.push(UpdateType::new(9, 64));
-    let last = types.as_slice()[1];
-    assert_eq!(rt; last.kind(), 9);
-    assert_eq!(rt; last.bits(), 64);
+fn a_list_of_types_has_them_in_order(rt: HostRuntime) -> Result<(), Fail> {
+    let mut types = UpdateTypes::new(rt.alloc());
+
+    types.push(UpdateType { kind: 0, bits: 63 })?;
+    types.push(UpdateType { kind: 9, bits: 64 })?;
+    assert_eq!(rt; types.as_slice().len(), 2);
+    let last = &types.as_slice()[1];
+    assert_eq!(rt; last.kind, 9);
+    assert_eq!(rt; last.bits, 64);
+    Ok(())
 }
 
 /// The greeting's second packet.
@@ -97,9 +100,15 @@ fn the_welcome_packet_tells_the_game(rt: HostRuntime) -> Result<(), Fail> {
 fn two_commands(alloc: Global) -> Result<CommandNames, Fail> {
     let mut items = CommandNames::new(alloc);
     let first = Text::new(b"IncreaseLoan").ok_or("a name")?;
-    items.push(CommandName::new(0, first))?;
+    items.push(CommandName {
+        code: 0,
+        name: first,
+    })?;
     let second = Text::new(b"Pause").ok_or("a name")?;
-    items.push(CommandName::new(7, second))?;
+    items.push(CommandName {
+        code: 7,
+        name: second,
+    })?;
     Ok(items)
 }
 
@@ -121,8 +130,8 @@ fn a_list_of_commands_has_them_in_order(rt: HostRuntime) -> Result<(), Fail> {
     let commands = two_commands(rt.alloc())?;
     assert_eq!(rt; commands.as_slice().len(), 2);
     let last = &commands.as_slice()[1];
-    assert_eq!(rt; last.code(), 7);
-    assert_eq!(rt; last.name().bytes(), b"Pause".as_slice());
+    assert_eq!(rt; last.code, 7);
+    assert_eq!(rt; last.name.bytes(), b"Pause".as_slice());
     Ok(())
 }
 

@@ -2,9 +2,9 @@
 mod limits;
 mod rows;
 
-use crate::{CoordMsg, Info, Listed, LookupFile, LookupFiles, Servers, StunMsg, TurnMsg};
 use std::alloc::Global;
 use std::test::Fail;
+use tt_coord::{CoordMsg, Info, Listed, LookupFile, LookupFiles, Servers, StunMsg, TurnMsg};
 use tt_frame::{Text, UpTo};
 
 fn a_game() -> Result<Info, Fail> {
@@ -28,7 +28,10 @@ const LISTING: [u8; 31] = [
 fn one_server(alloc: Global) -> Result<Servers, Fail> {
     let mut items = Servers::new(alloc);
     let code = Text::new(b"+9ZDDVF").ok_or("a code")?;
-    items.push(Listed::new(code, a_game()?))?;
+    items.push(Listed {
+        code,
+        info: a_game()?,
+    })?;
     Ok(items)
 }
 
@@ -59,8 +62,8 @@ fn a_listed_server_has_its_code_and_its_game(rt: HostRuntime) -> Result<(), Fail
     let servers = one_server(rt.alloc())?;
     assert_eq!(rt; servers.as_slice().len(), 1);
     let server = &servers.as_slice()[0];
-    assert_eq!(rt; server.code().bytes(), b"+9ZDDVF".as_slice());
-    assert!(rt; *server.info() == a_game()?);
+    assert_eq!(rt; server.code.bytes(), b"+9ZDDVF".as_slice());
+    assert!(rt; server.info == a_game()?);
     Ok(())
 }
 
@@ -79,12 +82,17 @@ fn an_update_tells_the_game(rt: HostRuntime) -> Result<(), Fail> {
 fn a_lookup_is_a_list_of_files(rt: HostRuntime) -> Result<(), Fail> {
     let name = Text::new(b"file").ok_or("a name")?;
     let mut items = LookupFiles::new(rt.alloc());
-    items.push(LookupFile::new(7, 8, *b"0123456789abcdef", name))?;
+    items.push(LookupFile {
+        index: 7,
+        id: 8,
+        sum: *b"0123456789abcdef",
+        name,
+    })?;
     assert_eq!(rt; items.as_slice().len(), 1);
     let file = &items.as_slice()[0];
-    assert_eq!(rt; (file.index(), file.id()), (7, 8));
-    assert_eq!(rt; file.sum(), b"0123456789abcdef".as_slice());
-    assert_eq!(rt; file.name().bytes(), b"file".as_slice());
+    assert_eq!(rt; (file.index, file.id), (7, 8));
+    assert_eq!(rt; file.sum.as_slice(), b"0123456789abcdef".as_slice());
+    assert_eq!(rt; file.name.bytes(), b"file".as_slice());
     let body = b"\x01\x07\0\0\0\x08\0\0\x000123456789abcdeffile\0";
     assert!(rt; CoordMsg::decode(rt.alloc(), 15, body)? == CoordMsg::GcNewgrfLookup { items });
     Ok(())

@@ -1,12 +1,12 @@
 //! Texts at the edges of their rules, fields there and back, and a stream that comes in pieces.
 ghost use Rattle.std.specs.Prelude.{◌≡◌, [], codes};
 
-use crate::{
-    Bad, Digest, Fields, Framer, Line, Name, Next, OutOfMemory, Part, Put, Short, UpTo, append,
-    are_hex_digits, digest, digits_or_none, ended, finish, first_of, fixed, number8, number16,
-    number16_up_to, number32, number64, optional_digest, put_head, raw, text, truth, up_to,
-};
 use std::test::Fail;
+use tt_frame::{
+    Bad, Digest, Fields, Framer, Line, Name, Next, OutOfMemory, Part, Put, Short, UpTo,
+    are_hex_digits, digest, digits_or_none, ended, finish, first_of, fixed, number8, number16,
+    number16_up_to, number32, number64, optional_digest, put_head, raw, tell, text, truth, up_to,
+};
 
 #[test]
 fn a_text_is_utf8_with_no_byte_below_32(rt: HostRuntime) {
@@ -265,11 +265,11 @@ fn another_field_that_is_not_there_is_told_by_its_place(rt: HostRuntime) {
 #[test]
 fn a_packet_of_other_parts_is_appended_whole(rt: HostRuntime) -> Result<(), Fail> {
     let mut out = Vec::new(rt.alloc());
-    append(
+    let written = tell(
         &mut out,
-        9,
-        &[Part::U64(1), Part::Truth(true), Part::Raw(&[7, 8])],
-    )?;
+        &[Part::Head(9), Part::U64(1), Part::Truth(true), Part::Raw(&[7, 8])],
+    );
+    finish(&mut out, 0, written)?;
     assert_eq!(rt;
         out.as_slice(),
         [14, 0, 9, 1, 0, 0, 0, 0, 0, 0, 0, 1, 7, 8].as_slice()
@@ -281,16 +281,17 @@ fn a_packet_of_other_parts_is_appended_whole(rt: HostRuntime) -> Result<(), Fail
 fn a_packet_is_appended_whole(rt: HostRuntime) -> Result<(), Fail> {
     let name = Name::new(b"A").ok_or("a name")?;
     let mut out = vec![in rt.alloc(); 9]?;
-    append(
+    let written = tell(
         &mut out,
-        3,
         &[
+            Part::Head(3),
             Part::U8(1),
             Part::U16(2),
             Part::U32(3),
             Part::Words(name.bytes()),
         ],
-    )?;
+    );
+    finish(&mut out, 1, written)?;
     assert_eq!(rt;
         out.as_slice(),
         [9, 12, 0, 3, 1, 2, 0, 3, 0, 0, 0, 65, 0].as_slice()

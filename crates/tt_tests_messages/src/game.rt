@@ -1,7 +1,7 @@
 //! The join packet, there and back, cut and lengthened.
 mod rows;
 
-use crate::{Bad, GameMsg};
+use tt_game::{Bad, GameMsg};
 use std::test::Fail;
 use tt_frame::{Framer, Next, Text, UpTo};
 

@@ -1,6 +1,6 @@
 //! Texts at their limits and past them, bytes that no text has, and the longest lists.
-use super::rows::is_malformed;
-use crate::AdminMsg;
+use super::rows::place_of;
+use tt_admin::AdminMsg;
 use std::alloc::Global;
 use std::test::Fail;
 
@@ -71,17 +71,17 @@ fn a_text_has_at_most_its_limit(rt: HostRuntime) -> Result<(), Fail> {
         let longest = with_text(rt.alloc(), front, limit, behind)?;
         assert!(rt; AdminMsg::decode(rt.alloc(), kind, longest.as_slice()).is_ok());
         let past = with_text(rt.alloc(), front, limit + 1, behind)?;
-        assert!(rt; is_malformed(rt.alloc(), kind, past.as_slice(), front.len()));
+        assert_eq!(rt; place_of(rt.alloc(), kind, past.as_slice()), Some(front.len()), "number {kind}");
     }
     Ok(())
 }
 
 #[test]
 fn a_byte_that_no_text_has_is_malformed_at_its_text(rt: HostRuntime) {
-    assert!(rt; is_malformed(rt.alloc(), 121, b"admin\0cli\x1fents\0", 6));
-    assert!(rt; is_malformed(rt.alloc(), 121, b"admin\0cli\xffents\0", 6));
-    assert!(rt; is_malformed(rt.alloc(), 122, b"\x01\x07\0Pau\x1fse\0\0", 3));
-    assert!(rt; is_malformed(rt.alloc(), 122, b"\x01\x07\0Pau\xffse\0\0", 3));
+    assert_eq!(rt; place_of(rt.alloc(), 121, b"admin\0cli\x1fents\0"), Some(6));
+    assert_eq!(rt; place_of(rt.alloc(), 121, b"admin\0cli\xffents\0"), Some(6));
+    assert_eq!(rt; place_of(rt.alloc(), 122, b"\x01\x07\0Pau\x1fse\0\0"), Some(3));
+    assert_eq!(rt; place_of(rt.alloc(), 122, b"\x01\x07\0Pau\xffse\0\0"), Some(3));
 }
 
 #[test]
@@ -94,7 +94,7 @@ fn a_list_has_at_most_255_types(rt: HostRuntime) -> Result<(), Fail> {
     assert!(rt; AdminMsg::decode(rt.alloc(), 103, body.as_slice()).is_ok());
     body.truncate(1276);
     body.extend_from_slice(&[1, 2, 0, 3, 0, 0])?;
-    assert!(rt; is_malformed(rt.alloc(), 103, body.as_slice(), 1276));
+    assert_eq!(rt; place_of(rt.alloc(), 103, body.as_slice()), Some(1276));
     Ok(())
 }
 
@@ -111,6 +111,6 @@ fn a_list_has_at_most_255_commands(rt: HostRuntime) -> Result<(), Fail> {
     assert_eq!(rt; &out.as_slice()[3..], body.as_slice());
     body.truncate(1020);
     body.extend_from_slice(&[1, 2, 0, 0, 0])?;
-    assert!(rt; is_malformed(rt.alloc(), 122, body.as_slice(), 1020));
+    assert_eq!(rt; place_of(rt.alloc(), 122, body.as_slice()), Some(1020));
     Ok(())
 }

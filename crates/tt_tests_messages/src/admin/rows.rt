@@ -1,7 +1,7 @@
 //! Every message there and back, cut, lengthened, and with each field past its range.
 //!
 //! One row stands for one message, and the same bytes are written in words in the tests of the crate that shows packets.
-use crate::{AdminMsg, Bad};
+use tt_admin::{AdminMsg, Bad};
 use std::alloc::Global;
 use std::test::Fail;
 
@@ -59,11 +59,11 @@ fn rows() -> &'static [(u8, usize, &'static [u8])] {
     &ROWS
 }
 
-/// Whether this body spells nothing, and stops there.
-pub(crate) fn is_malformed(alloc: Global, kind: u8, body: &[u8], place: usize) -> bool {
+/// The place where this body stops, if it spells nothing.
+pub(crate) fn place_of(alloc: Global, kind: u8, body: &[u8]) -> Option<usize> {
     match AdminMsg::decode(alloc, kind, body) {
-        Err(Bad::Malformed { at }) => at == place,
-        _ => false,
+        Err(Bad::Malformed { at }) => Some(at),
+        _ => None,
     }
 }
 
@@ -88,7 +88,7 @@ fn a_packet_that_is_cut_is_malformed_at_its_last_field(rt: HostRuntime) {
         let (kind, place, body) = *row;
         if body.len() > 0 {
             let cut = &body[..body.len() - 1];
-            assert!(rt; is_malformed(rt.alloc(), kind, cut, place));
+            assert_eq!(rt; place_of(rt.alloc(), kind, cut), Some(place), "number {kind}");
         }
     }
 }
@@ -99,7 +99,7 @@ fn a_packet_with_a_byte_behind_is_malformed_there(rt: HostRuntime) -> Result<(),
         let (kind, _, body) = *row;
         let mut long = Vec::from_slice(rt.alloc(), body)?;
         long.push(0)?;
-        assert!(rt; is_malformed(rt.alloc(), kind, long.as_slice(), body.len()));
+        assert_eq!(rt; place_of(rt.alloc(), kind, long.as_slice()), Some(body.len()), "number {kind}");
     }
     Ok(())
 }
@@ -140,6 +140,6 @@ fn refused() -> &'static [(u8, usize, &'static [u8])] {
 fn what_is_refused_is_malformed_at_its_place(rt: HostRuntime) {
     for row in refused().iter() {
         let (kind, place, body) = *row;
-        assert!(rt; is_malformed(rt.alloc(), kind, body, place));
+        assert_eq!(rt; place_of(rt.alloc(), kind, body), Some(place), "number {kind}");
     }
 }

@@ -1,5 +1,5 @@
 //! Texts at their limits and past them, bytes that no text has, and the longest lists.
-use super::rows::{Family, again, is_malformed};
+use super::rows::{Family, again, place_of};
 use std::alloc::Global;
 use std::test::Fail;
 
@@ -96,7 +96,7 @@ fn a_text_has_at_most_its_limit(rt: HostRuntime) -> Result<(), Fail> {
         let longest = with_text(rt.alloc(), front, limit, behind)?;
         assert!(rt; again(rt.alloc(), family, kind, longest.as_slice()).is_ok());
         let past = with_text(rt.alloc(), front, limit + 1, behind)?;
-        assert!(rt; is_malformed(rt.alloc(), family, kind, past.as_slice(), front.len()));
+        assert_eq!(rt; place_of(rt.alloc(), family, kind, past.as_slice()), Some(front.len()), "number {kind}");
     }
     Ok(())
 }
@@ -104,13 +104,13 @@ fn a_text_has_at_most_its_limit(rt: HostRuntime) -> Result<(), Fail> {
 #[test]
 fn a_byte_that_no_text_has_is_malformed_at_its_text(rt: HostRuntime) {
     let control = b"\x01tok\x1f\0\x01";
-    assert!(rt; is_malformed(rt.alloc(), Family::Coord, 8, control, 1));
-    assert!(rt; is_malformed(rt.alloc(), Family::Stun, 0, control, 1));
+    assert_eq!(rt; place_of(rt.alloc(), Family::Coord, 8, control), Some(1));
+    assert_eq!(rt; place_of(rt.alloc(), Family::Stun, 0, control), Some(1));
     let no_character = b"\x01tok\xff\0\x01";
-    assert!(rt; is_malformed(rt.alloc(), Family::Coord, 8, no_character, 1));
-    assert!(rt; is_malformed(rt.alloc(), Family::Stun, 0, no_character, 1));
-    assert!(rt; is_malformed(rt.alloc(), Family::Turn, 2, b"127.0.0.\x1f\0", 0));
-    assert!(rt; is_malformed(rt.alloc(), Family::Turn, 2, b"127.0.0.\xff\0", 0));
+    assert_eq!(rt; place_of(rt.alloc(), Family::Coord, 8, no_character), Some(1));
+    assert_eq!(rt; place_of(rt.alloc(), Family::Stun, 0, no_character), Some(1));
+    assert_eq!(rt; place_of(rt.alloc(), Family::Turn, 2, b"127.0.0.\x1f\0"), Some(0));
+    assert_eq!(rt; place_of(rt.alloc(), Family::Turn, 2, b"127.0.0.\xff\0"), Some(0));
 }
 
 /// A body of that many items, behind the bytes that count them.
@@ -135,7 +135,7 @@ fn a_listing_has_at_most_255_servers(rt: HostRuntime) -> Result<(), Fail> {
     let most = with_items(rt.alloc(), &[255, 0], 255, &server)?;
     assert!(rt; is_spelled_again(rt.alloc(), 5, most.as_slice())?);
     let past = with_items(rt.alloc(), &[0, 1], 256, &server)?;
-    assert!(rt; is_malformed(rt.alloc(), Family::Coord, 5, past.as_slice(), 0));
+    assert_eq!(rt; place_of(rt.alloc(), Family::Coord, 5, past.as_slice()), Some(0));
     Ok(())
 }
 
@@ -145,6 +145,6 @@ fn a_lookup_has_at_most_62_files(rt: HostRuntime) -> Result<(), Fail> {
     let most = with_items(rt.alloc(), &[62], 62, file)?;
     assert!(rt; is_spelled_again(rt.alloc(), 15, most.as_slice())?);
     let past = with_items(rt.alloc(), &[63], 63, file)?;
-    assert!(rt; is_malformed(rt.alloc(), Family::Coord, 15, past.as_slice(), 0));
+    assert_eq!(rt; place_of(rt.alloc(), Family::Coord, 15, past.as_slice()), Some(0));
     Ok(())
 }

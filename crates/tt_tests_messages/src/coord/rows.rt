@@ -2,9 +2,9 @@
 //! field past its range.
 //!
 //! One row stands for one message, and the same bytes are written in words in the tests of the crate that shows packets.
-use crate::{Bad, CoordMsg, StunMsg, TurnMsg};
 use std::alloc::Global;
 use std::test::Fail;
+use tt_coord::{Bad, CoordMsg, StunMsg, TurnMsg};
 
 /// Whose message a packet is.
 #[derive(Clone, Copy)]
@@ -95,17 +95,16 @@ pub(crate) fn again(alloc: Global, family: Family, kind: u8, body: &[u8]) -> Res
     }
 }
 
-/// Whether this body spells nothing, and stops there.
-pub(crate) fn is_malformed(
+/// The place where this body stops, if it spells nothing.
+pub(crate) fn place_of(
     alloc: Global,
     family: Family,
     kind: u8,
     body: &[u8],
-    place: usize,
-) -> bool {
+) -> Option<usize> {
     match again(alloc, family, kind, body) {
-        Err(Bad::Malformed { at }) => at == place,
-        _ => false,
+        Err(Bad::Malformed { at }) => Some(at),
+        _ => None,
     }
 }
 
@@ -128,7 +127,7 @@ fn a_packet_that_is_cut_is_malformed_at_its_last_field(rt: HostRuntime) {
         let (family, kind, place, body) = *row;
         if body.len() > 0 {
             let cut = &body[..body.len() - 1];
-            assert!(rt; is_malformed(rt.alloc(), family, kind, cut, place));
+            assert_eq!(rt; place_of(rt.alloc(), family, kind, cut), Some(place), "number {kind}");
         }
     }
 }
@@ -139,7 +138,7 @@ fn a_packet_with_a_byte_behind_is_malformed_there(rt: HostRuntime) -> Result<(),
         let (family, kind, _, body) = *row;
         let mut long = Vec::from_slice(rt.alloc(), body)?;
         long.push(0)?;
-        assert!(rt; is_malformed(rt.alloc(), family, kind, long.as_slice(), body.len()));
+        assert_eq!(rt; place_of(rt.alloc(), family, kind, long.as_slice()), Some(body.len()), "number {kind}");
     }
     Ok(())
 }
@@ -232,6 +231,6 @@ fn refused() -> &'static [(Family, u8, usize, &'static [u8])] {
 fn what_is_refused_is_malformed_at_its_place(rt: HostRuntime) {
     for row in refused().iter() {
         let (family, kind, place, body) = *row;
-        assert!(rt; is_malformed(rt.alloc(), family, kind, body, place));
+        assert_eq!(rt; place_of(rt.alloc(), family, kind, body), Some(place), "number {kind}");
     }
 }

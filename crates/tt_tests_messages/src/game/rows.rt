@@ -1,5 +1,5 @@
 //! Every message there and back, cut, lengthened, and with each field past its range.
-use crate::{Bad, File, Files, GameMsg, MapPiece};
+use tt_game::{Bad, File, Files, GameMsg, MapPiece};
 use std::alloc::Global;
 use std::test::Fail;
 
@@ -30,9 +30,9 @@ const ROWS: [(u8, usize, &[u8]); 39] = [
     (18, 0, b""),
     (19, 0, b""),
     (20, 0, b"\x03\0\0\0"),
-    (21, 4, b"\x05\0\0\0\x06\0\0\0"),
+    (21, 8, b"\x05\0\0\0\x06\0\0\0\x07"),
     (22, 4, b"\x05\0\0\0\xadh$\xfe"),
-    (23, 0, b"J\0\0\0"),
+    (23, 4, b"J\0\0\0\xff"),
     (24, 8, b"\0\x05\0\x0a\0\0\0\x02Hello\0"),
     (25, 18, b"\0\x05\0\x0a\0\0\0\x02Hello\0\x08\0\0\0\x02\0\0\0"),
     (26, 5, b"\x02\x03\0\0\0Hi\0"),
@@ -55,10 +55,10 @@ fn rows() -> &'static [(u8, usize, &'static [u8])] {
     &ROWS
 }
 
-fn is_malformed(alloc: Global, kind: u8, body: &[u8], place: usize) -> bool {
+fn place_of(alloc: Global, kind: u8, body: &[u8]) -> Option<usize> {
     match GameMsg::decode(alloc, kind, body) {
-        Err(Bad::Malformed { at }) => at == place,
-        _ => false,
+        Err(Bad::Malformed { at }) => Some(at),
+        _ => None,
     }
 }
 
@@ -84,7 +84,7 @@ fn a_packet_that_is_cut_is_malformed_at_its_last_field(rt: HostRuntime) {
         let (kind, place, body) = *row;
         if body.len() > 0 && kind != 17 {
             let cut = &body[..body.len() - 1];
-            assert!(rt; is_malformed(rt.alloc(), kind, cut, place));
+            assert_eq!(rt; place_of(rt.alloc(), kind, cut), Some(place), "number {kind}");
         }
     }
 }
@@ -96,7 +96,7 @@ fn a_packet_with_a_byte_behind_is_malformed_there(rt: HostRuntime) -> Result<(),
         if kind != 17 {
             let mut long = Vec::from_slice(rt.alloc(), body)?;
             long.push(0)?;
-            assert!(rt; is_malformed(rt.alloc(), kind, long.as_slice(), body.len()));
+            assert_eq!(rt; place_of(rt.alloc(), kind, long.as_slice()), Some(body.len()), "number {kind}");
         }
     }
     Ok(())
@@ -129,7 +129,7 @@ fn above() -> &'static [(u8, usize, &'static [u8])] {
 fn a_field_above_its_range_is_malformed_at_its_place(rt: HostRuntime) {
     for row in above().iter() {
         let (kind, place, body) = *row;
-        assert!(rt; is_malformed(rt.alloc(), kind, body, place));
+        assert_eq!(rt; place_of(rt.alloc(), kind, body), Some(place), "number {kind}");
     }
 }
 
@@ -137,7 +137,7 @@ fn a_field_above_its_range_is_malformed_at_its_place(rt: HostRuntime) {
 fn a_text_longer_than_its_field_is_malformed_at_its_place(rt: HostRuntime) {
     let mut name = [b'A'; 26];
     name[25] = 0;
-    assert!(rt; is_malformed(rt.alloc(), 28, &name, 0));
+    assert_eq!(rt; place_of(rt.alloc(), 28, &name), Some(0));
     assert!(rt; GameMsg::decode(rt.alloc(), 28, &name[1..]).is_ok());
 }
 
@@ -149,20 +149,21 @@ fn a_digest_may_be_left_out(rt: HostRuntime) -> Result<(), Fail> {
 }
 
 #[test]
-fn a_piece_of_a_map_has_1_to_1400_bytes(rt: HostRuntime) {
+fn a_piece_of_a_map_has_1_to_1400_bytes(rt: HostRuntime) -> Result<(), Fail> {
     let bytes = [7; 1401];
     for count in [1, 2, 3, 4, 5, 1399, 1400] {
         assert!(rt; GameMsg::decode(rt.alloc(), 17, &bytes[..count]).is_ok());
     }
-    assert!(rt; is_malformed(rt.alloc(), 17, &[], 0));
-    assert!(rt; is_malformed(rt.alloc(), 17, &bytes, 0));
-    assert!(rt; MapPiece::new(&[]).is_none());
-    assert!(rt; MapPiece::new(&bytes).is_none());
+    assert_eq!(rt; place_of(rt.alloc(), 17, &[]), Some(0));
+    assert_eq!(rt; place_of(rt.alloc(), 17, &bytes), Some(0));
+    assert!(rt; MapPiece::new(rt.alloc(), &[])?.is_none());
+    assert!(rt; MapPiece::new(rt.alloc(), &bytes)?.is_none());
+    Ok(())
 }
 
 #[test]
 fn a_piece_of_a_map_is_its_bytes(rt: HostRuntime) -> Result<(), Fail> {
-    let piece = MapPiece::new(&[1, 2]).ok_or("a piece")?;
+    let piece = MapPiece::new(rt.alloc(), &[1, 2])?.ok_or("a piece")?;
     assert_eq!(rt; piece.bytes(), [1, 2].as_slice());
     let message = GameMsg::decode(rt.alloc(), 17, &[1, 2])?;
     assert!(rt; message == GameMsg::ServerMapData { rest: piece });
@@ -171,12 +172,18 @@ fn a_piece_of_a_map_is_its_bytes(rt: HostRuntime) -> Result<(), Fail> {
 
 #[test]
 fn a_list_of_files_has_them_in_order(rt: HostRuntime) -> Result<(), Fail> {
-    let mut items = Files::new();
-    items.push(File::new(1, [2; 16]));
-    items.push(File::new(3, [4; 16]));
+    let mut items = Files::new(rt.alloc());
+    items.push(File {
+        id: 1,
+        sum: [2; 16],
+    })?;
+    items.push(File {
+        id: 3,
+        sum: [4; 16],
+    })?;
     let last = items.as_slice()[1];
-    assert_eq!(rt; last.id(), 3);
-    assert_eq!(rt; last.sum(), [4; 16].as_slice());
+    assert_eq!(rt; last.id, 3);
+    assert_eq!(rt; last.sum.as_slice(), [4; 16].as_slice());
     let mut body = [4; 41];
     body[..5].copy_from_slice(&[2, 1, 0, 0, 0]);
     body[5..21].copy_from_slice(&[2; 16]);
