@@ -18,7 +18,7 @@ use tt_room::{Pass, Room};
 
 /// How many milliseconds a worker rests where nobody came. The listeners of the other workers wait meanwhile, and with many
 /// of them somebody who comes is met at once.
-const PAUSE: u64 = 450;
+const PAUSE: u64 = 300;
 
 /// How a worker ended.
 #[derive(Clone, Copy, Debug, PartialEq, Eq)]
