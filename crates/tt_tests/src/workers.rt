@@ -297,6 +297,11 @@ fn a_listener_that_fails_ends_its_worker_alone(rt: HostRuntime) -> Result<(), Fa
     Ok(())
 }
 
+/// A clock in memory, beside such handles.
+fn ticking<'a>(ticker: MemTicker) -> Role<Watched<'a>, Watched<'a>, MemTicker> {
+    Role::Ticker(ticker)
+}
+
 /// The roles of a ticker and of one handle, which gives one link.
 fn two_roles<'a>(
     alloc: Global,
@@ -304,7 +309,7 @@ fn two_roles<'a>(
     back: &'a AtomicU64,
 ) -> Result<Vec<Role<Watched<'a>, Watched<'a>, MemTicker>>, Fail> {
     let mut roles = Vec::new(alloc);
-    roles.push(Role::Ticker(ticker))?;
+    roles.push(ticking(ticker))?;
     let link = link(alloc, 9, LinkPlan::working(alloc))?;
     roles.push(handle(alloc, link, &[], back)?)?;
     Ok(roles)
