@@ -5,7 +5,7 @@ ghost use Rattle.tt_edge.specs.Link.{no_counts};
 use crate::event::Peer;
 use crate::link::{Link, LinkGot, LinkWrote};
 use crate::listener::{Accepted, Listener, Served};
-use crate::rhythm::next_look;
+use crate::rhythm::Rhythm;
 use libc::net::{POLLIN, poll};
 use libc::types::pollfd;
 use std::io::{self, Error, ErrorKind, Read, Write};
@@ -43,8 +43,7 @@ fn is_passing(error: &Error) -> bool {
 pub struct TcpLink<R> {
     clock: R,
     stream: TcpStream,
-    met: Duration,
-    asked: bool,
+    rhythm: Rhythm,
     faults: u64,
     ends: u64,
     idle_reads: u64,
@@ -62,12 +61,11 @@ impl<R: Clock + Drop> TcpLink<R> {
         stream.set_nodelay(true)?;
         stream.set_read_timeout(Some(Duration::from_millis(WAIT)))?;
         stream.set_write_timeout(Some(Duration::from_millis(WAIT)))?;
-        let met = clock.monotonic()?;
+        let rhythm = Rhythm::new(clock.monotonic()?);
         Ok(TcpLink {
             clock,
             stream,
-            met,
-            asked: false,
+            rhythm,
             faults: 0,
             ends: 0,
             idle_reads: 0,
@@ -77,30 +75,25 @@ impl<R: Clock + Drop> TcpLink<R> {
     }
 
     /// Whether there is something to read, after a wait for it.
-    fn is_ready(&self) -> bool {
-        let now = self.clock.monotonic().unwrap_or(self.met);
-        let since = now.saturating_sub(self.met);
-        let wait = next_look(
-            since
-                .as_secs()
-                .saturating_mul(1000)
-                .saturating_add(u64::from(since.subsec_millis())),
-        );
+    fn is_ready(&mut self) -> bool
+        ensures { tcp_counts_of self.new ≡ tcp_counts_of self.old }
+    {
+        let wait = self.rhythm.wait(self.clock.monotonic().unwrap_or(Duration::ZERO));
         let mut asked = [pollfd {
             fd: self.stream.as_raw_fd(),
             events: POLLIN,
             revents: 0,
         }];
-        poll(&mut asked, wait as i32) > 0
+        let found = poll(&mut asked, wait) > 0;
+        self.rhythm.note_look(found);
+        found
     }
 
-    /// Notes that bytes went out. Where the peer had asked for nothing, a tick told them.
+    /// Notes that bytes went out.
     fn note_write(&mut self)
         ensures { tcp_counts_of self.new ≡ tcp_counts_of self.old }
     {
-        if !self.asked {
-            self.met = self.clock.monotonic().unwrap_or(self.met);
-        }
+        self.rhythm.note_write(self.clock.monotonic().unwrap_or(Duration::ZERO));
     }
 }
 
@@ -121,11 +114,9 @@ impl<R: Clock + Drop> Link for TcpLink<R> {
             return LinkGot::End;
         }
         if !self.is_ready() {
-            self.asked = false;
             self.idle_reads = self.idle_reads.saturating_add(1);
             return LinkGot::Nothing;
         }
-        self.asked = true;
         match self.stream.read(out) {
             Ok(0) => {
                 self.ends = self.ends.saturating_add(1);

@@ -14,3 +14,5 @@ mod shared;
 mod tests;
 #[cfg(test)]
 mod verdicts;
+#[cfg(test)]
+mod workers;

@@ -70,10 +70,13 @@ module _ (told : List Event → List ℕ) (live : List Event → Bool) (conn : �
 
   ends_in : (seen history : List Event) (own : List (ℕ × Event)) (c c' : LinkCounts) (out : List ℕ) (e : LinkEnd) → IsPrefix seen history → conn ≤ opens seen → EndsSo told (live seen) seen own c c' out e → EndsIn told (live history) history own c c' out e
   ends_in seen history own c c' out end.Done longer known ended = (dead_on told live conn grows stays seen history longer known ended.0, ended.1 history longer)
-  ends_in seen history own c c' out end.PeerEnd longer known ended = (ended.0, elim ended.1 [
-    | inl idle ↦ inl idle
-    | inr all ↦ inr (up_to_each history out (behind own) own (omega arith) (all history longer))
-  ])
+  ends_in seen history own c c' out end.PeerEnd longer known ended = (
+    ended.0,
+    elim ended.1 [
+      | inl idle ↦ inl idle
+      | inr all ↦ inr (up_to_each history out (behind own) own (omega arith) (all history longer))
+    ],
+  )
   ends_in seen history own c c' out end.LinkFault longer known ended = ended
   ends_in seen history own c c' out end.Over longer known ended = ended
   ends_in seen history own c c' out end.Memory longer known ended = tt
@@ -152,8 +155,7 @@ module _ {C L : Type 0} (now : L → LinkNow) (told : List Event → ℕ → Lis
       let start = x.0 in
       let next = x.1 in
       let one = served_in start next row x.5 in
-      let rest = links_in rows next b x.6 in
-      (
+      let rest = links_in rows next b x.6 in (
         one.0 ++ rest.0,
         rest.1 ∙ ap (λ (m : List (ℕ × Event)). m ++ rest.0) (one.1 ∙ ap (λ (m : List (ℕ × Event)). m ++ one.0) x.2.1) ∙ append_assoc (mine a) one.0 rest.0,
         prefix_trans (seen a) (seen start) (seen b) x.2.0 (prefix_trans (seen start) (seen next) (seen b) x.4 rest.2),
@@ -164,31 +166,38 @@ module _ {C L : Type 0} (now : L → LinkNow) (told : List Event → ℕ → Lis
   pub gathers_links : (a b : Pass C) (c c' : DoorCounts) (s s' : Option (List (Served × L))) (q q' : Option (List Peer)) (e : WorkerEnd) → Attended now told live over door a b c c' s s' q q' e
       → (part : List (ℕ × Event)) × (mine b ≡ mine a ++ part) × ((history : List Event) → IsPrefix (seen b) history → GathersLinks now told live over history door c c' s s' q q' part e)
   gathers_links a b c c' s s' q q' e t =
-      let all = links_in t.rows a b t.attends in
-      (all.0, all.1, λ history longer. record {
-        rows = t.rows;
-        links = all.3 history longer;
-        given = t.given;
-        given_back = t.given_back;
-        ended = ends_over t.rows (over (seen b)) (over history) c c' e (over_later over last (seen b) history longer) t.ended;
-      })
+      let all = links_in t.rows a b t.attends in (
+        all.0,
+        all.1,
+        λ history longer. record {
+          rows = t.rows;
+          links = all.3 history longer;
+          given = t.given;
+          given_back = t.given_back;
+          ended = ends_over t.rows (over (seen b)) (over history) c c' e (over_later over last (seen b) history longer) t.ended;
+        },
+      )
 
 -- ---- the ticker
 
 ticks_over : (b b' : Bool) (c c' : TickCounts) (last : Beat) (stop : List Event) (r : TickEnd) → (b ≡ true → b' ≡ true) → TicksEndSo b c c' last stop r → TicksEndSo b' c c' last stop r
 ticks_over b b' c c' last stop tick.Over on ended = (ended.0, ended.1, on ended.2, ended.3)
-ticks_over b b' c c' last stop tick.Stopped on ended = (ended.0, elim ended.1 [ | inl one ↦ inl one | inr none ↦ inr (none.0, on none.1) ], ended.2, ended.3)
-ticks_over b b' c c' last stop tick.Fault on ended = (ended.0, elim ended.1 [ | inl one ↦ inl one | inr none ↦ inr (none.0, on none.1) ], ended.2)
+ticks_over b b' c c' last stop tick.Stopped on ended = (ended.0, elim ended.1 [ inl one ↦ inl one | inr none ↦ inr (none.0, on none.1) ], ended.2, ended.3)
+ticks_over b b' c c' last stop tick.Fault on ended = (ended.0, elim ended.1 [ inl one ↦ inl one | inr none ↦ inr (none.0, on none.1) ], ended.2)
 ticks_over b b' c c' last stop tick.Memory on ended = ended
 
 -- the part of the ticker's worker
 pub gathers_ticks : {C : Type 0} (over : List Event → Bool) → ((before : List Event) (e : Event) → over before ≡ true → over (before ++ e ∷ []) ≡ true) → (a b : Pass C) (c c' : TickCounts) (t t' : Option (List Beat)) (r : TickEnd) → Ticks (over (seen b)) a b c c' t t' r
     → (part : List (ℕ × Event)) × (mine b ≡ mine a ++ part) × ((history : List Event) → IsPrefix (seen b) history → GathersTicks (over history) c c' t t' part r)
-gathers_ticks over stays_over a b c c' t t' r ticks = (ticks.put, ticks.own_events, λ history longer. record {
-  count = ticks.count;
-  last = ticks.last;
-  stop = ticks.stop;
-  told = ticks.beats;
-  events = ticks.events;
-  ended = ticks_over (over (seen b)) (over history) c c' ticks.last ticks.stop r (over_later over stays_over (seen b) history longer) ticks.ended;
-})
+gathers_ticks over stays_over a b c c' t t' r ticks = (
+  ticks.put,
+  ticks.own_events,
+  λ history longer. record {
+    count = ticks.count;
+    last = ticks.last;
+    stop = ticks.stop;
+    told = ticks.beats;
+    events = ticks.events;
+    ended = ticks_over (over (seen b)) (over history) c c' ticks.last ticks.stop r (over_later over stays_over (seen b) history longer) ticks.ended;
+  },
+)

@@ -7,18 +7,14 @@ ghost use Rattle.tt_workers.specs.Delivering.{GoesOn};
 ghost use Rattle.tt_workers.specs.Attending.{is_memory, Asks, Attended};
 
 use crate::gate::Gate;
+use crate::rest::Rest;
 use crate::serve::serve_link;
 use std::alloc::Global;
 use std::sync::Wait;
-use std::thread;
-use std::time::{Clock, Duration};
+use std::time::Clock;
 use tt_edge::{Accepted, Door, LinkEnd, Listener, Servable};
 use tt_frame::Framer;
 use tt_room::{Pass, Room};
-
-/// How many milliseconds a worker rests where nobody came. The listeners of the other workers wait meanwhile, and with many
-/// of them somebody who comes is met at once.
-const PAUSE: u64 = 450;
 
 /// How a worker ended.
 #[derive(Clone, Copy, Debug, PartialEq, Eq)]
@@ -43,7 +39,8 @@ fn is_memory(end: LinkEnd) -> bool
 {
     match end {
         LinkEnd::Memory => true,
-        LinkEnd::Done | LinkEnd::PeerEnd | LinkEnd::LinkFault | LinkEnd::Over | LinkEnd::Slow => false,
+        LinkEnd::Done | LinkEnd::PeerEnd | LinkEnd::LinkFault | LinkEnd::Over | LinkEnd::Slow =>
+            false,
     }
 }
 
@@ -79,6 +76,7 @@ fn ask<R: Wait + Clock, C: Servable, D: Listener, G: Gate>(
     room: &Room<C>,
     pass: &mut Pass<C>,
     gate: &G,
+    rest: &Rest,
     framer: &mut Framer,
     door: Door,
     listener: &mut D,
@@ -93,6 +91,7 @@ fn ask<R: Wait + Clock, C: Servable, D: Listener, G: Gate>(
 {
     match listener.accept() {
         Accepted::Link(link, peer) => {
+            rest.wake_one();
             let mut held = link;
             let served = serve_link(rt, alloc, room, pass, gate, framer, door, peer, &mut held);
             *short = either(*short, is_memory(served.end));
@@ -101,7 +100,7 @@ fn ask<R: Wait + Clock, C: Servable, D: Listener, G: Gate>(
             Asked::Served
         }
         Accepted::Nothing => {
-            thread::sleep(rt, Duration::from_millis(PAUSE));
+            rest.rest(rt);
             Asked::Nothing
         }
         Accepted::Failed => Asked::Failed,
@@ -115,6 +114,7 @@ pub fn attend<R: Wait + Clock, C: Servable, D: Listener, G: Gate>(
     room: &Room<C>,
     pass: &mut Pass<C>,
     gate: &G,
+    rest: &Rest,
     framer: &mut Framer,
     door: Door,
     listener: &mut D,
@@ -128,7 +128,9 @@ pub fn attend<R: Wait + Clock, C: Servable, D: Listener, G: Gate>(
 {
     let mut short = false;
     'link: for _ in rt.forever() {
-        if let Asked::Failed = ask(rt, alloc, room, pass, gate, framer, door, listener, &mut short) {
+        if let Asked::Failed = ask(
+            rt, alloc, room, pass, gate, rest, framer, door, listener, &mut short,
+        ) {
             return unless_short(short, WorkerEnd::ListenFault);
         }
         if room.over(rt, pass) {

@@ -88,7 +88,14 @@ pub fn hand_over<R: Wait, C: Servable, G: Gate>(
                 let Ok(body) = Body::new(alloc, body) else {
                     return Ear::Memory;
                 };
-                match put(rt, room, pass, gate, conn, Event::Packet { conn, kind, body }) {
+                match put(
+                    rt,
+                    room,
+                    pass,
+                    gate,
+                    conn,
+                    Event::Packet { conn, kind, body },
+                ) {
                     Fate::Taken => {}
                     Fate::Ended => return Ear::Ended,
                     Fate::Memory => return Ear::Memory,

@@ -16,5 +16,4 @@ pub fn one_history<C: Servable, L: Listener, A: Listener, T: Ticker>(room: &Room
         (door_view L.counts L.served L.peers (link_now L.Link.counts L.Link.left L.Link.was_read L.Link.held))
         (door_view A.counts A.served A.peers (link_now A.Link.counts A.Link.left A.Link.was_read A.Link.held))
         (tick_view T.counts T.beats) }
-{
-}
+{}

@@ -85,7 +85,9 @@ pub fn serve_link<R: Wait, C: Servable, L: Link, G: Gate>(
     let mut ear = Ear::Open;
     let mut out = Outgoing::new();
     let mut read = 0;
-    let ended = converse(rt, alloc, room, pass, gate, framer, conn, link, &mut out, &mut read, &mut ear);
+    let ended = converse(
+        rt, alloc, room, pass, gate, framer, conn, link, &mut out, &mut read, &mut ear,
+    );
     let end = close(rt, room, pass, gate, conn, ear, ended);
     Served {
         conn,

@@ -37,7 +37,12 @@ fn stop<R: Wait, C: Servable>(rt: &R, room: &Room<C>, pass: &mut Pass<C>, end: T
 }
 
 /// Hands over a Tick for each that the ticker tells, until all is over or the ticker tells another thing.
-pub fn tick_loop<R: Wait, C: Servable, T: Ticker>(rt: &R, room: &Room<C>, pass: &mut Pass<C>, ticker: &mut T) -> TickEnd
+pub fn tick_loop<R: Wait, C: Servable, T: Ticker>(
+    rt: &R,
+    room: &Room<C>,
+    pass: &mut Pass<C>,
+    ticker: &mut T,
+) -> TickEnd
     requires { IsOf room.now pass.old }
     ensures on { GoesOn room.now pass.old pass.new }
     ensures own { own pass.new ≡ own pass.old }

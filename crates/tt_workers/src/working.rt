@@ -7,6 +7,7 @@ ghost use Rattle.tt_workers.specs.Working.{IsReady, Works, core_view, door_view,
 
 use crate::attending::{WorkerEnd, attend};
 use crate::gate::{Gate, OpenGate};
+use crate::rest::Rest;
 use crate::ticks::{TickEnd, tick_loop};
 use std::alloc::Global;
 use std::sync::Wait;
@@ -66,6 +67,7 @@ fn run<R: Wait + Clock, C: Servable, L: Listener, A: Listener, T: Ticker, G: Gat
     alloc: Global,
     room: &Room<C>,
     gate: &G,
+    rest: &Rest,
     worker: &mut Worker<C, L, A, T>,
 )
     requires { IsReady room.now worker.old }
@@ -76,10 +78,30 @@ fn run<R: Wait + Clock, C: Servable, L: Listener, A: Listener, T: Ticker, G: Gat
 {
     match &mut worker.role {
         Role::Game(listener) => {
-            worker.end = attend(rt, alloc, room, &mut worker.pass, gate, &mut worker.framer, Door::Main, listener);
+            worker.end = attend(
+                rt,
+                alloc,
+                room,
+                &mut worker.pass,
+                gate,
+                rest,
+                &mut worker.framer,
+                Door::Main,
+                listener,
+            );
         }
         Role::Admin(listener) => {
-            worker.end = attend(rt, alloc, room, &mut worker.pass, gate, &mut worker.framer, Door::Side, listener);
+            worker.end = attend(
+                rt,
+                alloc,
+                room,
+                &mut worker.pass,
+                gate,
+                rest,
+                &mut worker.framer,
+                Door::Side,
+                listener,
+            );
         }
         Role::Ticker(ticker) => {
             worker.end = tick_end(tick_loop(rt, room, &mut worker.pass, ticker));
@@ -87,14 +109,21 @@ fn run<R: Wait + Clock, C: Servable, L: Listener, A: Listener, T: Ticker, G: Gat
     }
 }
 
-/// Runs all workers, each in a thread of its own, until each has ended. Where threads can't be started, the threads that
-/// there are run the workers, one after another.
-pub fn run_workers_with<R: Threads + Wait + Clock + Sync, C: Servable + Send, L: Listener + Send, A: Listener + Send, T: Ticker + Send, G: Gate + Sync>(
+/// Runs all workers, each in a thread of its own, until each has ended.
+fn run_all<
+    R: Threads + Wait + Clock + Sync,
+    C: Servable + Send,
+    L: Listener + Send,
+    A: Listener + Send,
+    T: Ticker + Send,
+    G: Gate + Sync,
+>(
     rt: &R,
     alloc: Global,
     room: &Room<C>,
     workers: &mut Vec<Worker<C, L, A, T>>,
     gate: &G,
+    rest: &Rest,
 )
 where
     L::Link: Send,
@@ -119,17 +148,43 @@ where
                 (door_view L.counts L.served L.peers (link_now L.Link.counts L.Link.left L.Link.was_read L.Link.held))
                 (door_view A.counts A.served A.peers (link_now A.Link.counts A.Link.left A.Link.was_read A.Link.held))
                 (tick_view T.counts T.beats) worker.old worker.new }
-        { run(rt, alloc, room, gate, worker) },
+        { run(rt, alloc, room, gate, rest, worker) },
     );
 }
 
+/// Runs all workers, each in a thread of its own, until each has ended. Where threads can't be started, the threads that
+/// there are run the workers, one after another.
+pub fn run_workers_with<
+    R: Threads + Wait + Clock + Sync,
+    C: Servable + Send,
+    L: Listener + Send,
+    A: Listener + Send,
+    T: Ticker + Send,
+    G: Gate + Sync,
+>(rt: &R, alloc: Global, room: &Room<C>, workers: &mut Vec<Worker<C, L, A, T>>, gate: &G)
+where
+    L::Link: Send,
+    A::Link: Send,
+    requires { All (IsReady room.now) workers.old.items }
+    ensures len { vec_len workers.new ≡ vec_len workers.old }
+    ensures parts { (i : ℕ) (d : _) → i < vec_len workers.old → Works room.now
+        (core_view (C.sent (C.made (start_of room.now))) (C.is_live (C.made (start_of room.now))) (C.is_over (C.made (start_of room.now))))
+        (door_view L.counts L.served L.peers (link_now L.Link.counts L.Link.left L.Link.was_read L.Link.held))
+        (door_view A.counts A.served A.peers (link_now A.Link.counts A.Link.left A.Link.was_read A.Link.held))
+        (tick_view T.counts T.beats) (slice_index_or workers.old.items i d) (slice_index_or workers.new.items i d) }
+{
+    let rest = Rest::new(workers.len());
+    run_all(rt, alloc, room, workers, gate, &rest);
+}
+
 /// The same with no gate.
-pub fn run_workers<R: Threads + Wait + Clock + Sync, C: Servable + Send, L: Listener + Send, A: Listener + Send, T: Ticker + Send>(
-    rt: &R,
-    alloc: Global,
-    room: &Room<C>,
-    workers: &mut Vec<Worker<C, L, A, T>>,
-)
+pub fn run_workers<
+    R: Threads + Wait + Clock + Sync,
+    C: Servable + Send,
+    L: Listener + Send,
+    A: Listener + Send,
+    T: Ticker + Send,
+>(rt: &R, alloc: Global, room: &Room<C>, workers: &mut Vec<Worker<C, L, A, T>>)
 where
     L::Link: Send,
     A::Link: Send,

@@ -22,8 +22,8 @@ returns-in-Game g c =
     let run = c.attend-worker in
     let w = c.args.worker.now in
     let all = gathers_links now told live over Main (λ conn before e. g.met.C.Core.sent_grows m before e conn) (λ conn before e within dead. g.met.C.Core.ended_stays m before e conn within dead)
-        (λ before e is. (g.met.C.Core.over_is_last m before e 0 is).1) w.pass run.new.pass (d.counts c.in-Game.listener) (d.counts run.new.listener) (d.served c.in-Game.listener) (d.served run.new.listener)
-        (d.peers c.in-Game.listener) (d.peers run.new.listener) run.result run.ensures.attended in
+    (λ before e is. (g.met.C.Core.over_is_last m before e 0 is).1) w.pass run.new.pass (d.counts c.in-Game.listener) (d.counts run.new.listener) (d.served c.in-Game.listener) (d.served run.new.listener)
+    (d.peers c.in-Game.listener) (d.peers run.new.listener) run.result run.ensures.attended in
     record {
       on = run.ensures.on;
       framer = run.ensures.framer;
@@ -45,8 +45,8 @@ returns-in-Admin g c =
     let run = c.attend-worker-in-Admin in
     let w = c.args.worker.now in
     let all = gathers_links now told live over Side (λ conn before e. g.met.C.Core.sent_grows m before e conn) (λ conn before e within dead. g.met.C.Core.ended_stays m before e conn within dead)
-        (λ before e is. (g.met.C.Core.over_is_last m before e 0 is).1) w.pass run.new.pass (d.counts c.in-Admin.listener) (d.counts run.new.listener) (d.served c.in-Admin.listener) (d.served run.new.listener)
-        (d.peers c.in-Admin.listener) (d.peers run.new.listener) run.result run.ensures.attended in
+    (λ before e is. (g.met.C.Core.over_is_last m before e 0 is).1) w.pass run.new.pass (d.counts c.in-Admin.listener) (d.counts run.new.listener) (d.served c.in-Admin.listener) (d.served run.new.listener)
+    (d.peers c.in-Admin.listener) (d.peers run.new.listener) run.result run.ensures.attended in
     record {
       on = run.ensures.on;
       framer = run.ensures.framer;
