@@ -3,7 +3,45 @@ use Rattle.std.specs.Prelude.{ℕ, List}
 use Rattle.tt_frame.specs.Apart.{Parted, part}
 use Rattle.tt_frame.specs.Families.{Family, family_kind, family_body}
 use Rattle.tt_admin.specs.declared.message.AdminMsg.{AdminMsg}
-use Rattle.tt_admin.specs.declared.message.AdminMsg.TheVariants.{AdminJoin, AdminQuit, AdminUpdateFrequency, AdminPoll, AdminChat, AdminRcon, AdminGamescript, AdminPing, AdminExternalChat, ServerFull, ServerBanned, ServerError, ServerProtocol, ServerWelcome, ServerNewgame, ServerShutdown, ServerDate, ServerClientJoin, ServerClientInfo, ServerClientUpdate, ServerClientQuit, ServerClientError, ServerCompanyNew, ServerCompanyInfo, ServerCompanyUpdate, ServerCompanyRemove, ServerCompanyEconomy, ServerCompanyStats, ServerChat, ServerRcon, ServerConsole, ServerCmdNames, ServerCmdLoggingOld, ServerGamescript, ServerRconEnd, ServerPong, ServerCmdLogging}
+use Rattle.tt_admin.specs.declared.message.AdminMsg.TheVariants.{
+  AdminJoin,
+  AdminQuit,
+  AdminUpdateFrequency,
+  AdminPoll,
+  AdminChat,
+  AdminRcon,
+  AdminGamescript,
+  AdminPing,
+  AdminExternalChat,
+  ServerFull,
+  ServerBanned,
+  ServerError,
+  ServerProtocol,
+  ServerWelcome,
+  ServerNewgame,
+  ServerShutdown,
+  ServerDate,
+  ServerClientJoin,
+  ServerClientInfo,
+  ServerClientUpdate,
+  ServerClientQuit,
+  ServerClientError,
+  ServerCompanyNew,
+  ServerCompanyInfo,
+  ServerCompanyUpdate,
+  ServerCompanyRemove,
+  ServerCompanyEconomy,
+  ServerCompanyStats,
+  ServerChat,
+  ServerRcon,
+  ServerConsole,
+  ServerCmdNames,
+  ServerCmdLoggingOld,
+  ServerGamescript,
+  ServerRconEnd,
+  ServerPong,
+  ServerCmdLogging,
+}
 use Rattle.tt_admin.specs.Messages.{messages}
 
 -- its number, and the values of its fields in order
@@ -21,7 +59,8 @@ apart ServerFull = part messages 100 tt
 apart ServerBanned = part messages 101 tt
 apart (ServerError code) = part messages 102 (code, tt)
 apart (ServerProtocol version items) = part messages 103 (version, (items, tt))
-apart (ServerWelcome name revision dedicated map seed landscape day width height) = part messages 104 (name, (revision, (dedicated, (map, (seed, (landscape, (day, (width, (height, tt)))))))))
+apart (ServerWelcome name revision dedicated map seed landscape day width height) =
+    part messages 104 (name, (revision, (dedicated, (map, (seed, (landscape, (day, (width, (height, tt)))))))))
 apart ServerNewgame = part messages 105 tt
 apart ServerShutdown = part messages 106 tt
 apart (ServerDate day) = part messages 107 (day, tt)

@@ -5,7 +5,45 @@ use Rattle.tt_frame.specs.Rows.{end, ◌▸◌, marked}
 use Rattle.tt_frame.specs.Tables.{Rule, row, SpelledBy}
 use Rattle.tt_admin.specs.Items.{update_type, command_name}
 use Rattle.tt_admin.specs.declared.message.AdminMsg.{AdminMsg}
-use Rattle.tt_admin.specs.declared.message.AdminMsg.TheVariants.{AdminJoin, AdminQuit, AdminUpdateFrequency, AdminPoll, AdminChat, AdminRcon, AdminGamescript, AdminPing, AdminExternalChat, ServerFull, ServerBanned, ServerError, ServerProtocol, ServerWelcome, ServerNewgame, ServerShutdown, ServerDate, ServerClientJoin, ServerClientInfo, ServerClientUpdate, ServerClientQuit, ServerClientError, ServerCompanyNew, ServerCompanyInfo, ServerCompanyUpdate, ServerCompanyRemove, ServerCompanyEconomy, ServerCompanyStats, ServerChat, ServerRcon, ServerConsole, ServerCmdNames, ServerCmdLoggingOld, ServerGamescript, ServerRconEnd, ServerPong, ServerCmdLogging}
+use Rattle.tt_admin.specs.declared.message.AdminMsg.TheVariants.{
+  AdminJoin,
+  AdminQuit,
+  AdminUpdateFrequency,
+  AdminPoll,
+  AdminChat,
+  AdminRcon,
+  AdminGamescript,
+  AdminPing,
+  AdminExternalChat,
+  ServerFull,
+  ServerBanned,
+  ServerError,
+  ServerProtocol,
+  ServerWelcome,
+  ServerNewgame,
+  ServerShutdown,
+  ServerDate,
+  ServerClientJoin,
+  ServerClientInfo,
+  ServerClientUpdate,
+  ServerClientQuit,
+  ServerClientError,
+  ServerCompanyNew,
+  ServerCompanyInfo,
+  ServerCompanyUpdate,
+  ServerCompanyRemove,
+  ServerCompanyEconomy,
+  ServerCompanyStats,
+  ServerChat,
+  ServerRcon,
+  ServerConsole,
+  ServerCmdNames,
+  ServerCmdLoggingOld,
+  ServerGamescript,
+  ServerRconEnd,
+  ServerPong,
+  ServerCmdLogging,
+}
 
 -- One line for each message: its number, its name, its fields in order with their names, and the variant that takes their
 -- values in that order.
@@ -24,7 +62,8 @@ messages =
     ∷ row 101 "BANNED" end ServerBanned
     ∷ row 102 "ERROR" ("code" ⦂ up_to 20 ▸ end) ServerError
     ∷ row 103 "PROTOCOL" ("version" ⦂ u8 ▸ marked 255 update_type end) ServerProtocol
-    ∷ row 104 "WELCOME" ("name" ⦂ text 31 ▸ "revision" ⦂ text 31 ▸ "dedicated" ⦂ truth ▸ "map" ⦂ text 31 ▸ "seed" ⦂ u32 ▸ "landscape" ⦂ u8 ▸ "day" ⦂ u32 ▸ "width" ⦂ u16 ▸ "height" ⦂ u16 ▸ end) ServerWelcome
+    ∷ row 104 "WELCOME" ("name" ⦂ text 31 ▸ "revision" ⦂ text 31 ▸ "dedicated" ⦂ truth ▸ "map" ⦂ text 31 ▸ "seed" ⦂ u32 ▸ "landscape" ⦂ u8
+    ▸ "day" ⦂ u32 ▸ "width" ⦂ u16 ▸ "height" ⦂ u16 ▸ end) ServerWelcome
     ∷ row 105 "NEWGAME" end ServerNewgame
     ∷ row 106 "SHUTDOWN" end ServerShutdown
     ∷ row 107 "DATE" ("day" ⦂ u32 ▸ end) ServerDate

@@ -38,8 +38,10 @@ step_begun ways TryingStun (StunResult side ok) is = tt
 step_begun ways TryingTurn (StunResult side ok) is = tt
 step_begun ways (AwaitingStun server client) (StunResult side true) is =
     let here = stays (AwaitingStun server client) in
-    either (eqb side 0) (agreed true client) (cond (eqb side 1) (agreed server true) here) (agreed_begun true client) (either (eqb side 1) (agreed server true) here (agreed_begun server true) tt)
-step_begun ways (AwaitingStun server client) (StunResult side false) is = either (ltb side 2) (from_turn ways) (stays (AwaitingStun server client)) (turn_begun ways) tt
+    either (eqb side 0) (agreed true client) (cond (eqb side 1) (agreed server true) here) (agreed_begun true client)
+    (either (eqb side 1) (agreed server true) here (agreed_begun server true) tt)
+step_begun ways (AwaitingStun server client) (StunResult side false) is =
+    either (ltb side 2) (from_turn ways) (stays (AwaitingStun server client)) (turn_begun ways) tt
 step_begun ways Over (StunResult side ok) is = tt
 step_begun ways stage Connected is = tt
 step_begun ways TryingDirect ServerGone is = tt

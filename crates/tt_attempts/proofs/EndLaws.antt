@@ -18,7 +18,8 @@ over_silent ways (StunResult side ok ∷ ks) = ap (λ (ts : List Told). Nothing 
 over_silent ways (Connected ∷ ks) = ap (λ (ts : List Told). Nothing ∷ ts) (over_silent ways ks)
 over_silent ways (ServerGone ∷ ks) = ap (λ (ts : List Told). Nothing ∷ ts) (over_silent ways ks)
 
-pub connected_silent : (ways : Ways) (before after : List Heard) → told_in ways (before ++ Connected ∷ after) ≡ told_in ways before ++ Nothing ∷ replicate (length after) Nothing
+pub connected_silent : (ways : Ways) (before after : List Heard) → told_in ways (before ++ Connected ∷ after) ≡ told_in ways before
+    ++ Nothing ∷ replicate (length after) Nothing
 connected_silent ways before after =
     told_append ways before (Connected ∷ after) ∙ ap (λ (ts : List Told). told_in ways before ++ Nothing ∷ ts) (over_silent ways after)
 
@@ -30,7 +31,10 @@ ended TryingStun is = absurd cc
 ended TryingTurn is = absurd cc
 ended Over is = refl
 
-pub failed_silent : (ways : Ways) (before after : List Heard) → last_word ways before ≡ AllFailed → told_in ways (before ++ after) ≡ told_in ways before ++ replicate (length after) Nothing
+pub failed_silent : (ways : Ways) (before after : List Heard) → last_word ways before ≡ AllFailed → told_in ways (before
+    ++ after) ≡ told_in ways before ++ replicate (length after) Nothing
 failed_silent ways before after word =
-    let over : stage_in ways before ≡ Over = ended (stage_in ways before) (subst (λ (w : Told). Agrees (stage_in ways before) w) word (word_agrees ways before)) in
-    told_append ways before after ∙ ap (λ (s : Stage). told_in ways before ++ answers ways s after) over ∙ ap (λ (ts : List Told). told_in ways before ++ ts) (over_silent ways after)
+    let over : stage_in ways before ≡ Over =
+    ended (stage_in ways before) (subst (λ (w : Told). Agrees (stage_in ways before) w) word (word_agrees ways before)) in
+    told_append ways before after ∙ ap (λ (s : Stage). told_in ways before ++ answers ways s after) over
+    ∙ ap (λ (ts : List Told). told_in ways before ++ ts) (over_silent ways after)

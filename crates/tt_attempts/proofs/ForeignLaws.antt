@@ -30,11 +30,14 @@ not_second : (side : ℕ) (b : Bool) → eqb side 1 ≡ b → not (ltb side 2) �
 not_second side true e test = absurd (contradiction (ap (λ (s : ℕ). not (ltb s 2)) (sym (eqb-true side 1 e)) ∙ test))
 not_second side false e test = refl
 
-neither : (ways : Ways) (server client : Bool) (side : ℕ) (a b : Bool) → eqb side 0 ≡ a → eqb side 1 ≡ b → a ≡ false → b ≡ false → stepped ways (AwaitingStun server client) (StunResult side true) ≡ stays (AwaitingStun server client)
+neither : (ways : Ways) (server client : Bool) (side : ℕ) (a b : Bool) → eqb side 0 ≡ a → eqb side 1 ≡ b → a ≡ false → b ≡ false
+    → stepped ways (AwaitingStun server client) (StunResult side true) ≡ stays (AwaitingStun server client)
 neither ways server client side a b ea eb fa fb = rw (ea, fa, eb, fb) refl
 
-foreign_side : (ways : Ways) (server client : Bool) (side : ℕ) (ok : Bool) → not (ltb side 2) ≡ true → stepped ways (AwaitingStun server client) (StunResult side ok) ≡ stays (AwaitingStun server client)
-foreign_side ways server client side true test = neither ways server client side (eqb side 0) (eqb side 1) refl refl (not_first side (eqb side 0) refl test) (not_second side (eqb side 1) refl test)
+foreign_side : (ways : Ways) (server client : Bool) (side : ℕ) (ok : Bool) → not (ltb side 2) ≡ true
+    → stepped ways (AwaitingStun server client) (StunResult side ok) ≡ stays (AwaitingStun server client)
+foreign_side ways server client side true test = neither ways server client side (eqb side 0) (eqb side 1) refl refl
+    (not_first side (eqb side 0) refl test) (not_second side (eqb side 1) refl test)
 foreign_side ways server client side false test = unless (ltb side 2) (from_turn ways) (AwaitingStun server client) test
 
 at_word : (v w : Told) (h : Heard) → v ≡ w → is_foreign v h ≡ true → is_foreign w h ≡ true
@@ -56,7 +59,8 @@ gone_counts Stun e = contradiction e
 gone_counts Turn e = contradiction e
 gone_counts AllFailed e = contradiction e
 
-step_foreign : (w : Told) (ways : Ways) (stage : Stage) (h : Heard) → Agrees stage w → is_foreign w h ≡ true → stepped ways stage h ≡ stays stage
+step_foreign : (w : Told) (ways : Ways) (stage : Stage) (h : Heard) → Agrees stage w → is_foreign w h ≡ true
+    → stepped ways stage h ≡ stays stage
 step_foreign w ways Fresh h is test = absurd is
 step_foreign w ways stage Connected is test = absurd (connected_counts w test)
 step_foreign w ways stage ServerGone is test = absurd (gone_counts w test)
@@ -68,20 +72,25 @@ step_foreign w ways Over (Failed n) is test = refl
 step_foreign w ways TryingDirect (StunResult side ok) is test = refl
 step_foreign w ways TryingStun (StunResult side ok) is test = refl
 step_foreign w ways TryingTurn (StunResult side ok) is test = refl
-step_foreign w ways (AwaitingStun server client) (StunResult side ok) is test = foreign_side ways server client side ok (at_word w AskStun (StunResult side ok) is test)
+step_foreign w ways (AwaitingStun server client) (StunResult side ok) is test =
+    foreign_side ways server client side ok (at_word w AskStun (StunResult side ok) is test)
 step_foreign w ways Over (StunResult side ok) is test = refl
 
 -- an event at which nothing is told and nothing changes can be left out
-left_out : (ways : Ways) (before after : List Heard) (h : Heard) → stepped ways (stage_in ways before) h ≡ stays (stage_in ways before) → ChangesNothing ways before h after
+left_out : (ways : Ways) (before after : List Heard) (h : Heard) → stepped ways (stage_in ways before) h ≡ stays (stage_in ways before)
+    → ChangesNothing ways before h after
 left_out ways before after h same later is =
     let stage = stage_in ways before in
-    let rest : answers ways stage after ≡ later = append_cancel_left (told_in ways before) (answers ways stage after) later (sym (told_append ways before after) ∙ is) in
+    let rest : answers ways stage after ≡ later =
+    append_cancel_left (told_in ways before) (answers ways stage after) later (sym (told_append ways before after) ∙ is) in
     told_append ways before (h ∷ after)
     ∙ ap (λ (r : Step). told_in ways before ++ r.told ∷ answers ways r.stage after) same
     ∙ ap (λ (ts : List Told). told_in ways before ++ Nothing ∷ ts) rest
 
-pub foreign_left_out : (ways : Ways) (before after : List Heard) (h : Heard) → is_foreign (last_word ways before) h ≡ true → ChangesNothing ways before h after
-foreign_left_out ways before after h test = left_out ways before after h (step_foreign (last_word ways before) ways (stage_in ways before) h (word_agrees ways before) test)
+pub foreign_left_out : (ways : Ways) (before after : List Heard) (h : Heard) → is_foreign (last_word ways before) h ≡ true
+    → ChangesNothing ways before h after
+foreign_left_out ways before after h test =
+    left_out ways before after h (step_foreign (last_word ways before) ways (stage_in ways before) h (word_agrees ways before) test)
 
 -- while results are awaited, not both sides have said ok
 abbrev NotBoth : Stage → Type 0
@@ -127,8 +136,10 @@ step_not_both ways TryingTurn (StunResult side ok) is = tt
 step_not_both ways Over (StunResult side ok) is = tt
 step_not_both ways (AwaitingStun server client) (StunResult side true) is =
     let here = stays (AwaitingStun server client) in
-    not_both (eqb side 0) (agreed true client) (cond (eqb side 1) (agreed server true) here) (agreed_not_both true client) (not_both (eqb side 1) (agreed server true) here (agreed_not_both server true) is)
-step_not_both ways (AwaitingStun server client) (StunResult side false) is = not_both (ltb side 2) (from_turn ways) (stays (AwaitingStun server client)) (turn_not_both ways.turn) is
+    not_both (eqb side 0) (agreed true client) (cond (eqb side 1) (agreed server true) here) (agreed_not_both true client)
+    (not_both (eqb side 1) (agreed server true) here (agreed_not_both server true) is)
+step_not_both ways (AwaitingStun server client) (StunResult side false) is =
+    not_both (ltb side 2) (from_turn ways) (stays (AwaitingStun server client)) (turn_not_both ways.turn) is
 step_not_both ways stage Connected is = tt
 step_not_both ways Over ServerGone is = tt
 step_not_both ways Fresh ServerGone is = tt
@@ -143,7 +154,8 @@ run_not_both ways stage (h ∷ hs) is = run_not_both ways (stepped ways stage h)
 
 -- this side's ok was taken, or results are no longer awaited
 abbrev Taken : ℕ → Stage → Type 0
-Taken side (AwaitingStun server client) = (eqb side 0 ≡ true → server ≡ true) × (eqb side 1 ≡ true → client ≡ true) × ((server && client) ≡ false)
+Taken side (AwaitingStun server client) =
+    (eqb side 0 ≡ true → server ≡ true) × (eqb side 1 ≡ true → client ≡ true) × ((server && client) ≡ false)
 Taken side Fresh = ⊥
 Taken side TryingDirect = ⊥
 Taken side TryingStun = Unit {0}
@@ -178,8 +190,10 @@ step_taken side ways TryingTurn (StunResult other ok) is = tt
 step_taken side ways Over (StunResult other ok) is = tt
 step_taken side ways (AwaitingStun server client) (StunResult other true) is =
     let here = stays (AwaitingStun server client) in
-    taken_by side (eqb other 0) (agreed true client) (cond (eqb other 1) (agreed server true) here) (server_taken side client is.1) (taken_by side (eqb other 1) (agreed server true) here (client_taken side server is.0) is)
-step_taken side ways (AwaitingStun server client) (StunResult other false) is = taken_by side (ltb other 2) (from_turn ways) (stays (AwaitingStun server client)) (turn_taken side ways.turn) is
+    taken_by side (eqb other 0) (agreed true client) (cond (eqb other 1) (agreed server true) here) (server_taken side client is.1)
+    (taken_by side (eqb other 1) (agreed server true) here (client_taken side server is.0) is)
+step_taken side ways (AwaitingStun server client) (StunResult other false) is =
+    taken_by side (ltb other 2) (from_turn ways) (stays (AwaitingStun server client)) (turn_taken side ways.turn) is
 step_taken side ways TryingStun Connected is = tt
 step_taken side ways TryingTurn Connected is = tt
 step_taken side ways (AwaitingStun server client) Connected is = tt
@@ -194,12 +208,16 @@ run_taken side ways stage [] is = is
 run_taken side ways stage (h ∷ hs) is = run_taken side ways (stepped ways stage h).stage hs (step_taken side ways stage h is)
 
 -- the ok itself is taken
-ok_taken : (ways : Ways) (server client : Bool) (side : ℕ) (a b : Bool) → eqb side 0 ≡ a → eqb side 1 ≡ b → (server && client) ≡ false → Taken side (cond a (agreed true client) (cond b (agreed server true) (stays (AwaitingStun server client)))).stage
-ok_taken ways server client side true b ea eb few = server_taken side client (λ e. absurd (contradiction (sym (ap (λ (s : ℕ). eqb s 1) (eqb-true side 0 ea)) ∙ e)))
+ok_taken : (ways : Ways) (server client : Bool) (side : ℕ) (a b : Bool) → eqb side 0 ≡ a → eqb side 1 ≡ b → (server && client) ≡ false
+    → Taken side (cond a (agreed true client) (cond b (agreed server true) (stays (AwaitingStun server client)))).stage
+ok_taken ways server client side true b ea eb few =
+    server_taken side client (λ e. absurd (contradiction (sym (ap (λ (s : ℕ). eqb s 1) (eqb-true side 0 ea)) ∙ e)))
 ok_taken ways server client side false true ea eb few = client_taken side server (λ e. absurd (contradiction (sym ea ∙ e)))
-ok_taken ways server client side false false ea eb few = ((λ e. absurd (contradiction (sym ea ∙ e))), (λ e. absurd (contradiction (sym eb ∙ e))), few)
+ok_taken ways server client side false false ea eb few =
+    ((λ e. absurd (contradiction (sym ea ∙ e))), (λ e. absurd (contradiction (sym eb ∙ e))), few)
 
-asked_taken : (w : Told) (ways : Ways) (stage : Stage) (side : ℕ) → Agrees stage w → w ≡ AskStun → NotBoth stage → Taken side (stepped ways stage (StunResult side true)).stage
+asked_taken : (w : Told) (ways : Ways) (stage : Stage) (side : ℕ) → Agrees stage w → w ≡ AskStun → NotBoth stage
+    → Taken side (stepped ways stage (StunResult side true)).stage
 asked_taken w ways Fresh side is asked few = absurd is
 asked_taken w ways TryingDirect side is asked few = absurd (let e : Direct ≡ AskStun = sym is ∙ asked in cc)
 asked_taken w ways (AwaitingStun server client) side is asked few = ok_taken ways server client side (eqb side 0) (eqb side 1) refl refl few
@@ -213,10 +231,12 @@ agreed_again true false few = refl
 agreed_again false client few = refl
 
 -- said again, it changes nothing
-again : (ways : Ways) (server client : Bool) (side : ℕ) (a b : Bool) → (a ≡ true → server ≡ true) → (b ≡ true → client ≡ true) → (server && client) ≡ false
+again : (ways : Ways) (server client : Bool) (side : ℕ) (a b : Bool) → (a ≡ true → server ≡ true) → (b ≡ true → client ≡ true)
+    → (server && client) ≡ false
     → cond a (agreed true client) (cond b (agreed server true) (stays (AwaitingStun server client))) ≡ stays (AwaitingStun server client)
 again ways server client side true b said also few = ap (λ (s : Bool). agreed s client) (sym (said refl)) ∙ agreed_again server client few
-again ways server client side false true said also few = ap (λ (s : Bool). agreed server s) (sym (also refl)) ∙ agreed_again server client few
+again ways server client side false true said also few =
+    ap (λ (s : Bool). agreed server s) (sym (also refl)) ∙ agreed_again server client few
 again ways server client side false false said also few = refl
 
 taken_again : (ways : Ways) (stage : Stage) (side : ℕ) → Taken side stage → stepped ways stage (StunResult side true) ≡ stays stage
@@ -227,11 +247,15 @@ taken_again ways TryingStun side is = refl
 taken_again ways TryingTurn side is = refl
 taken_again ways Over side is = refl
 
-pub repeated_left_out : (ways : Ways) (early late after : List Heard) (side : ℕ) → last_word ways early ≡ AskStun → ChangesNothing ways (early ++ StunResult side true ∷ late) (StunResult side true) after
+pub repeated_left_out : (ways : Ways) (early late after : List Heard) (side : ℕ) → last_word ways early ≡ AskStun
+    → ChangesNothing ways (early ++ StunResult side true ∷ late) (StunResult side true) after
 repeated_left_out ways early late after side asked =
     let stage = stage_in ways early in
     let said = StunResult side true in
     let few = run_not_both ways (from_direct ways).stage early (direct_not_both ways ways.direct) in
-    let here = run_taken side ways (stepped ways stage said).stage late (asked_taken (last_word ways early) ways stage side (word_agrees ways early) asked few) in
-    let there : stage_in ways (early ++ said ∷ late) ≡ stage_after ways (stepped ways stage said).stage late = stage_append ways (from_direct ways).stage early (said ∷ late) in
-    left_out ways (early ++ said ∷ late) after said (taken_again ways (stage_in ways (early ++ said ∷ late)) side (subst (λ (s : Stage). Taken side s) (sym there) here))
+    let here = run_taken side ways (stepped ways stage said).stage late (asked_taken (last_word ways early) ways stage side
+    (word_agrees ways early) asked few) in
+    let there : stage_in ways (early ++ said ∷ late) ≡ stage_after ways (stepped ways stage said).stage late =
+    stage_append ways (from_direct ways).stage early (said ∷ late) in
+    left_out ways (early ++ said ∷ late) after said (taken_again ways (stage_in ways (early ++ said ∷ late)) side
+    (subst (λ (s : Stage). Taken side s) (sym there) here))

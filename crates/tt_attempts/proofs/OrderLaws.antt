@@ -27,7 +27,8 @@ InOrder ways before r = (later : List Told) × (before ≡ ways_in (r.told ∷ [
 keeps : (ways : Ways) (stage : Stage) → InOrder ways (left ways stage) (stays stage)
 keeps ways stage = ([], sym (append-nil (left ways stage)))
 
-either : (ways : Ways) (before : List Told) (b : Bool) (one other : Step) → InOrder ways before one → InOrder ways before other → InOrder ways before (cond b one other)
+either : (ways : Ways) (before : List Told) (b : Bool) (one other : Step) → InOrder ways before one → InOrder ways before other
+    → InOrder ways before (cond b one other)
 either ways before true one other y n = y
 either ways before false one other y n = n
 
@@ -35,11 +36,13 @@ turn_by : (ways : Ways) (t : Bool) → InOrder ways (cond t (Turn ∷ []) []) (c
 turn_by ways true = ([], refl)
 turn_by ways false = ([], refl)
 
-stun_by : (ways : Ways) (b : Bool) → InOrder ways (cond b (AskStun ∷ turn_applies ways) (turn_applies ways)) (cond b (tells AskStun (AwaitingStun false false)) (from_turn ways))
+stun_by : (ways : Ways) (b : Bool) → InOrder ways (cond b (AskStun ∷ turn_applies ways) (turn_applies ways))
+    (cond b (tells AskStun (AwaitingStun false false)) (from_turn ways))
 stun_by ways true = ([], ap (λ (ts : List Told). AskStun ∷ ts) (sym (append-nil (turn_applies ways))))
 stun_by ways false = turn_by ways ways.turn
 
-direct_by : (ways : Ways) (b : Bool) → InOrder ways (cond b (Direct ∷ stun_applies ways) (stun_applies ways)) (cond b (tells Direct TryingDirect) (from_stun ways))
+direct_by : (ways : Ways) (b : Bool) → InOrder ways (cond b (Direct ∷ stun_applies ways) (stun_applies ways))
+    (cond b (tells Direct TryingDirect) (from_stun ways))
 direct_by ways true = ([], ap (λ (ts : List Told). Direct ∷ ts) (sym (append-nil (stun_applies ways))))
 direct_by ways false = stun_by ways ways.stun
 
@@ -48,16 +51,22 @@ agreed_by ways true true = keeps ways TryingStun
 agreed_by ways true false = keeps ways (AwaitingStun true false)
 agreed_by ways false client = keeps ways (AwaitingStun false client)
 
-answer_by : (ways : Ways) (server client : Bool) (side : ℕ) (ok : Bool) → InOrder ways (turn_applies ways) (stepped ways (AwaitingStun server client) (StunResult side ok))
+answer_by : (ways : Ways) (server client : Bool) (side : ℕ) (ok : Bool)
+    → InOrder ways (turn_applies ways) (stepped ways (AwaitingStun server client) (StunResult side ok))
 answer_by ways server client side true =
     let here = stays (AwaitingStun server client) in
-    either ways (turn_applies ways) (eqb side 0) (agreed true client) (cond (eqb side 1) (agreed server true) here) (agreed_by ways true client) (either ways (turn_applies ways) (eqb side 1) (agreed server true) here (agreed_by ways server true) (keeps ways (AwaitingStun server client)))
-answer_by ways server client side false = either ways (turn_applies ways) (ltb side 2) (from_turn ways) (stays (AwaitingStun server client)) (turn_by ways ways.turn) (keeps ways (AwaitingStun server client))
+    either ways (turn_applies ways) (eqb side 0) (agreed true client) (cond (eqb side 1) (agreed server true) here)
+    (agreed_by ways true client) (either ways (turn_applies ways) (eqb side 1) (agreed server true) here (agreed_by ways server true)
+    (keeps ways (AwaitingStun server client)))
+answer_by ways server client side false = either ways (turn_applies ways) (ltb side 2) (from_turn ways)
+    (stays (AwaitingStun server client)) (turn_by ways ways.turn) (keeps ways (AwaitingStun server client))
 
 step_by : (ways : Ways) (stage : Stage) (h : Heard) → InOrder ways (left ways stage) (stepped ways stage h)
 step_by ways Fresh (Failed n) = keeps ways Fresh
-step_by ways TryingDirect (Failed n) = either ways (stun_applies ways) (eqb n 1) (from_stun ways) (stays TryingDirect) (stun_by ways ways.stun) (keeps ways TryingDirect)
-step_by ways TryingStun (Failed n) = either ways (turn_applies ways) (eqb n 2) (from_turn ways) (stays TryingStun) (turn_by ways ways.turn) (keeps ways TryingStun)
+step_by ways TryingDirect (Failed n) =
+    either ways (stun_applies ways) (eqb n 1) (from_stun ways) (stays TryingDirect) (stun_by ways ways.stun) (keeps ways TryingDirect)
+step_by ways TryingStun (Failed n) =
+    either ways (turn_applies ways) (eqb n 2) (from_turn ways) (stays TryingStun) (turn_by ways ways.turn) (keeps ways TryingStun)
 step_by ways TryingTurn (Failed n) = either ways [] (eqb n 3) (tells AllFailed Over) (stays TryingTurn) ([], refl) (keeps ways TryingTurn)
 step_by ways (AwaitingStun server client) (Failed n) = keeps ways (AwaitingStun server client)
 step_by ways Over (Failed n) = keeps ways Over
@@ -84,7 +93,8 @@ ways_step Turn ts = refl
 ways_step AllFailed ts = refl
 
 -- a step, and then others
-joined : (t : Told) (ts before between late later : List Told) → before ≡ ways_in (t ∷ []) ++ (between ++ late) → between ≡ ways_in ts ++ later → before ≡ ways_in (t ∷ ts) ++ (later ++ late)
+joined : (t : Told) (ts before between late later : List Told) → before ≡ ways_in (t ∷ []) ++ (between ++ late) → between ≡ ways_in ts
+    ++ later → before ≡ ways_in (t ∷ ts) ++ (later ++ late)
 joined t ts before between late later one others =
     one
     ∙ ap (λ (l : List Told). ways_in (t ∷ []) ++ (l ++ late)) others
@@ -92,7 +102,8 @@ joined t ts before between late later one others =
     ∙ sym (append_assoc (ways_in (t ∷ [])) (ways_in ts) (later ++ late))
     ∙ ap (λ (l : List Told). l ++ (later ++ late)) (sym (ways_step t ts))
 
-run_by : (ways : Ways) (stage : Stage) (hs : List Heard) → (later : List Told) × (left ways stage ≡ ways_in (answers ways stage hs) ++ later)
+run_by : (ways : Ways) (stage : Stage) (hs : List Heard) → (later : List Told) × (left ways stage ≡ ways_in (answers ways stage hs)
+    ++ later)
 run_by ways stage [] = (left ways stage, refl)
 run_by ways stage (h ∷ hs) =
     let r = stepped ways stage h in

@@ -95,7 +95,8 @@ is_foreign w ServerGone = false
 -- an event that is heard behind the first ones and before the others is answered by nothing, and the others as without it
 abbrev pub ChangesNothing : Ways → List Heard → Heard → List Heard → Type 0
 ChangesNothing ways before h after =
-    (later : List Told) → told_in ways (before ++ after) ≡ told_in ways before ++ later → told_in ways (before ++ h ∷ after) ≡ told_in ways before ++ Nothing ∷ later
+    (later : List Told) → told_in ways (before ++ after) ≡ told_in ways before ++ later → told_in ways (before ++ h ∷ after) ≡ told_in ways
+    before ++ Nothing ∷ later
 
 -- Behind the word that asked for results, these events say that both sides are ok.
 pub record BothOk (ways : Ways) (heard : List Heard) : Type 0 where

@@ -7,12 +7,38 @@ use Rattle.tt_frame.specs.Apart.{Parted, part}
 use Rattle.tt_frame.specs.Families.{Family, family_kind, family_body}
 use Rattle.tt_coord.specs.Items.{listed, file}
 use Rattle.tt_coord.specs.declared.coord.CoordMsg.{CoordMsg}
-use Rattle.tt_coord.specs.declared.coord.CoordMsg.TheVariants.{GcError, ServerRegister, GcRegisterAck, ServerUpdate, ClientListing, GcListing, ClientConnect, GcConnecting, SercliConnectFailed, GcConnectFailed, ClientConnected, GcDirectConnect, GcStunRequest, SercliStunResult, GcStunConnect, GcNewgrfLookup, GcTurnConnect}
+use Rattle.tt_coord.specs.declared.coord.CoordMsg.TheVariants.{
+  GcError,
+  ServerRegister,
+  GcRegisterAck,
+  ServerUpdate,
+  ClientListing,
+  GcListing,
+  ClientConnect,
+  GcConnecting,
+  SercliConnectFailed,
+  GcConnectFailed,
+  ClientConnected,
+  GcDirectConnect,
+  GcStunRequest,
+  SercliStunResult,
+  GcStunConnect,
+  GcNewgrfLookup,
+  GcTurnConnect,
+}
 
 -- the message that takes the fields of a game
 abbrev pub server_update : List ℕ → List ℕ → ℕ → ℕ → ℕ → Bool → ℕ → CoordMsg
 server_update name revision clients max companies password frame =
-    ServerUpdate (record { name = name; revision = revision; clients = clients; max = max; companies = companies; password = password; frame = frame })
+    ServerUpdate (record {
+      name = name;
+      revision = revision;
+      clients = clients;
+      max = max;
+      companies = companies;
+      password = password;
+      frame = frame;
+    })
 
 -- One line for each message: its number, its name, its fields in order with their names, and the variant that takes their
 -- values in that order.
@@ -21,7 +47,8 @@ coord_messages =
     row 0 "GC_ERROR" ("code" ⦂ up_to 2 ▸ "detail" ⦂ text 31 ▸ end) GcError
     ∷ row 1 "SERVER_REGISTER" (fixed 1 ("kind" ⦂ u8 ▸ "port" ⦂ u16 ▸ "code" ⦂ text 31 ▸ "secret" ⦂ text 32 ▸ end)) ServerRegister
     ∷ row 2 "GC_REGISTER_ACK" ("code" ⦂ text 31 ▸ "secret" ⦂ text 32 ▸ "way" ⦂ up_to 4 ▸ end) GcRegisterAck
-    ∷ row 3 "SERVER_UPDATE" (fixed 1 ("name" ⦂ text 31 ▸ "revision" ⦂ text 31 ▸ "clients" ⦂ u8 ▸ "max" ⦂ u8 ▸ "companies" ⦂ u8 ▸ "password" ⦂ truth ▸ "frame" ⦂ u32 ▸ end)) server_update
+    ∷ row 3 "SERVER_UPDATE" (fixed 1 ("name" ⦂ text 31 ▸ "revision" ⦂ text 31 ▸ "clients" ⦂ u8 ▸ "max" ⦂ u8 ▸ "companies" ⦂ u8 ▸ "password"
+    ⦂ truth ▸ "frame" ⦂ u32 ▸ end)) server_update
     ∷ row 4 "CLIENT_LISTING" (fixed 1 ("revision" ⦂ text 31 ▸ end)) ClientListing
     ∷ row 5 "GC_LISTING" (counted word 255 listed end) GcListing
     ∷ row 6 "CLIENT_CONNECT" (fixed 1 ("code" ⦂ text 31 ▸ end)) ClientConnect
@@ -32,7 +59,8 @@ coord_messages =
     ∷ row 11 "GC_DIRECT_CONNECT" ("token" ⦂ text 31 ▸ "tracking" ⦂ u8 ▸ "host" ⦂ text 31 ▸ "port" ⦂ u16 ▸ end) GcDirectConnect
     ∷ row 12 "GC_STUN_REQUEST" ("token" ⦂ text 31 ▸ end) GcStunRequest
     ∷ row 13 "SERCLI_STUN_RESULT" (fixed 1 ("token" ⦂ text 31 ▸ "side" ⦂ up_to 1 ▸ "ok" ⦂ truth ▸ end)) SercliStunResult
-    ∷ row 14 "GC_STUN_CONNECT" ("token" ⦂ text 31 ▸ "tracking" ⦂ u8 ▸ "side" ⦂ up_to 1 ▸ "host" ⦂ text 31 ▸ "port" ⦂ u16 ▸ end) GcStunConnect
+    ∷ row 14 "GC_STUN_CONNECT" ("token" ⦂ text 31 ▸ "tracking" ⦂ u8 ▸ "side" ⦂ up_to 1 ▸ "host" ⦂ text 31 ▸ "port" ⦂ u16 ▸ end)
+    GcStunConnect
     ∷ row 15 "GC_NEWGRF_LOOKUP" (counted byte 62 file end) GcNewgrfLookup
     ∷ row 16 "GC_TURN_CONNECT" ("token" ⦂ text 31 ▸ "tracking" ⦂ u8 ▸ "ticket" ⦂ text 31 ▸ "host" ⦂ text 31 ▸ end) GcTurnConnect
     ∷ []
@@ -46,7 +74,8 @@ abbrev pub coord_apart : CoordMsg → Parted coord_messages
 coord_apart (GcError code detail) = part coord_messages 0 (code, (detail, tt))
 coord_apart (ServerRegister kind port code secret) = part coord_messages 1 (kind, (port, (code, (secret, tt))))
 coord_apart (GcRegisterAck code secret way) = part coord_messages 2 (code, (secret, (way, tt)))
-coord_apart (ServerUpdate info) = part coord_messages 3 (info.name, (info.revision, (info.clients, (info.max, (info.companies, (info.password, (info.frame, tt)))))))
+coord_apart (ServerUpdate info) =
+    part coord_messages 3 (info.name, (info.revision, (info.clients, (info.max, (info.companies, (info.password, (info.frame, tt)))))))
 coord_apart (ClientListing revision) = part coord_messages 4 (revision, tt)
 coord_apart (GcListing items) = part coord_messages 5 (items, tt)
 coord_apart (ClientConnect code) = part coord_messages 6 (code, tt)

@@ -78,7 +78,9 @@ impl<R: Clock + Drop> TcpLink<R> {
     fn is_ready(&mut self) -> bool
         ensures { tcp_counts_of self.new ≡ tcp_counts_of self.old }
     {
-        let wait = self.rhythm.wait(self.clock.monotonic().unwrap_or(Duration::ZERO));
+        let wait = self
+            .rhythm
+            .wait(self.clock.monotonic().unwrap_or(Duration::ZERO));
         let mut asked = [pollfd {
             fd: self.stream.as_raw_fd(),
             events: POLLIN,
@@ -93,7 +95,8 @@ impl<R: Clock + Drop> TcpLink<R> {
     fn note_write(&mut self)
         ensures { tcp_counts_of self.new ≡ tcp_counts_of self.old }
     {
-        self.rhythm.note_write(self.clock.monotonic().unwrap_or(Duration::ZERO));
+        self.rhythm
+            .note_write(self.clock.monotonic().unwrap_or(Duration::ZERO));
     }
 }
 

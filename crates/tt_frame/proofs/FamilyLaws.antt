@@ -1,6 +1,28 @@
 -- The laws of a family of messages, from three facts that its table computes to: a message taken apart and made again is
 -- itself; what a line makes, taken apart, is that line's values; and no body is longer than a packet has room for.
-use Rattle.std.proofs.Common.{◌≡◌, ℕ, ◌+◌, ◌≤◌, List, ◌∷◌, ◌++◌, length, take, true, Result, Ok, Err, OnOk, OnErr, refl, sym, ap, subst, ◌∙◌, arith}
+use Rattle.std.proofs.Common.{
+  ◌≡◌,
+  ℕ,
+  ◌+◌,
+  ◌≤◌,
+  List,
+  ◌∷◌,
+  ◌++◌,
+  length,
+  take,
+  true,
+  Result,
+  Ok,
+  Err,
+  OnOk,
+  OnErr,
+  refl,
+  sym,
+  ap,
+  subst,
+  ◌∙◌,
+  arith,
+}
 use Rattle.std.proofs.lemmas.List.{length-append}
 use Rattle.std.proofs.lemmas.Result.{on_ok_weaker}
 use Rattle.tt_frame.specs.Packet.{packet}
@@ -27,18 +49,24 @@ pub record Lawful {M : Type 0} (family : Family M) : Type 0 where
   pub apart : AllApart (spelling family) family.table
   pub short : is_short 32764 family.table ≡ true
 
-pub family_spells : (M : Type 0) (family : Family M) → Lawful family → (m : M) → PartedFits family.table (family.apart m) → SpelledBy family.table m (family_kind family m) (family_body family m)
+pub family_spells : (M : Type 0) (family : Family M) → Lawful family → (m : M) → PartedFits family.table (family.apart m)
+    → SpelledBy family.table m (family_kind family m) (family_body family m)
 family_spells M family lawful m fits =
     let l = rule_of family.table (family_kind family m) in
-    subst (λ (n : M). SpelledBy family.table n (family_kind family m) (family_body family m)) (lawful.same m) (values_spell M l.fields l.make (family.apart m).values fits)
+    subst (λ (n : M). SpelledBy family.table n (family_kind family m) (family_body family m)) (lawful.same m) (values_spell M l.fields
+    l.make (family.apart m).values fits)
 
-pub spelled_size : (M : Type 0) (family : Family M) → Lawful family → (m : M) (kind : ℕ) (body : List ℕ) → SpelledBy family.table m kind body → length body + 3 ≤ 32767
+pub spelled_size : (M : Type 0) (family : Family M) → Lawful family → (m : M) (kind : ℕ) (body : List ℕ)
+    → SpelledBy family.table m kind body → length body + 3 ≤ 32767
 spelled_size M family lawful m kind body spelled = omega (arith, body_size M 32764 family.table m kind body lawful.short spelled)
 
-pub family_size : (M : Type 0) (family : Family M) → Lawful family → (m : M) → PartedFits family.table (family.apart m) → length (family_body family m) + 3 ≤ 32767
-family_size M family lawful m fits = spelled_size M family lawful m (family_kind family m) (family_body family m) (family_spells M family lawful m fits)
+pub family_size : (M : Type 0) (family : Family M) → Lawful family → (m : M) → PartedFits family.table (family.apart m)
+    → length (family_body family m) + 3 ≤ 32767
+family_size M family lawful m fits =
+    spelled_size M family lawful m (family_kind family m) (family_body family m) (family_spells M family lawful m fits)
 
-pub same_spelling : (M : Type 0) (family : Family M) → Lawful family → (m : M) (kind other : ℕ) (body bytes : List ℕ) → SpelledBy family.table m kind body → SpelledBy family.table m other bytes → (kind ≡ other) × (body ≡ bytes)
+pub same_spelling : (M : Type 0) (family : Family M) → Lawful family → (m : M) (kind other : ℕ) (body bytes : List ℕ)
+    → SpelledBy family.table m kind body → SpelledBy family.table m other bytes → (kind ≡ other) × (body ≡ bytes)
 same_spelling M family lawful m kind other body bytes one two =
     let a = one_spelling M (spelling family) family.table m kind body lawful.apart one in
     let b = one_spelling M (spelling family) family.table m other bytes lawful.apart two in
@@ -46,11 +74,14 @@ same_spelling M family lawful m kind other body bytes one two =
     (ap (λ (p : ℕ × List ℕ). p.0) same, ap (λ (p : ℕ × List ℕ). p.1) same)
 
 -- what a message tells, as bytes
-pub family_bytes : (M : Type 0) (family : Family M) (m : M) → each_said said_bytes (family_said family m) ≡ 0 ∷ 0 ∷ family_kind family m ∷ family_body family m
-family_bytes M family m = ap (λ (s : List ℕ). 0 ∷ 0 ∷ family_kind family m ∷ s) (row_bytes (rule_of family.table (family.apart m).kind).fields (family.apart m).values)
+pub family_bytes : (M : Type 0) (family : Family M) (m : M) → each_said said_bytes (family_said family m) ≡ 0 ∷ 0 ∷ family_kind family m ∷
+    family_body family m
+family_bytes M family m = ap (λ (s : List ℕ). 0 ∷ 0 ∷ family_kind family m ∷ s)
+    (row_bytes (rule_of family.table (family.apart m).kind).fields (family.apart m).values)
 
 -- the parts of what stays shut
-pub told_fits : (M : Type 0) (family : Family M) (word : Said → List ℕ) (m : M) (r : Result (Unit {0}) OutOfMemory) (before after : List ℕ) → Tells family word m r before after → PartedFits family.table (family.apart m)
+pub told_fits : (M : Type 0) (family : Family M) (word : Said → List ℕ) (m : M) (r : Result (Unit {0}) OutOfMemory) (before after : List ℕ)
+    → Tells family word m r before after → PartedFits family.table (family.apart m)
 unfolding Tells
 told_fits M family word m r before after told = told.0
 
@@ -64,47 +95,67 @@ unfolding if_done
 is_if_done (Ok done) x y is = is
 is_if_done (Err e) x y is = tt
 
-pub told_ok : (M : Type 0) (family : Family M) (word : Said → List ℕ) (m : M) (r : Result (Unit {0}) OutOfMemory) (before after : List ℕ) → Tells family word m r before after → OnOk r (after ≡ before ++ each_said word (family_said family m))
+pub told_ok : (M : Type 0) (family : Family M) (word : Said → List ℕ) (m : M) (r : Result (Unit {0}) OutOfMemory) (before after : List ℕ)
+    → Tells family word m r before after → OnOk r (after ≡ before ++ each_said word (family_said family m))
 unfolding Tells
 told_ok M family word m r before after told = is_if_done r after (before ++ each_said word (family_said family m)) told.1
 
-pub told_err : (M : Type 0) (family : Family M) (word : Said → List ℕ) (m : M) (r : Result (Unit {0}) OutOfMemory) (before after : List ℕ) → Tells family word m r before after → OnErr r (take (length before) after ≡ before)
+pub told_err : (M : Type 0) (family : Family M) (word : Said → List ℕ) (m : M) (r : Result (Unit {0}) OutOfMemory) (before after : List ℕ)
+    → Tells family word m r before after → OnErr r (take (length before) after ≡ before)
 unfolding Tells
 told_err M family word m r before after told = told.2
 
 -- the bytes that were written, with zeros for the size
-pub told_bytes : (M : Type 0) (family : Family M) (m : M) (r : Result (Unit {0}) OutOfMemory) (before after : List ℕ) → Tells family said_bytes m r before after → OnOk r (after ≡ before ++ 0 ∷ 0 ∷ family_kind family m ∷ family_body family m)
-told_bytes M family m r before after told = on_ok_weaker r (λ is. is ∙ ap (λ (s : List ℕ). before ++ s) (family_bytes M family m)) (told_ok M family said_bytes m r before after told)
+pub told_bytes : (M : Type 0) (family : Family M) (m : M) (r : Result (Unit {0}) OutOfMemory) (before after : List ℕ)
+    → Tells family said_bytes m r before after → OnOk r (after ≡ before ++ 0 ∷ 0 ∷ family_kind family m ∷ family_body family m)
+told_bytes M family m r before after told = on_ok_weaker r (λ is. is ∙ ap (λ (s : List ℕ). before ++ s) (family_bytes M family m))
+    (told_ok M family said_bytes m r before after told)
 
 -- so they are no more than a packet has room for, and no less than its head
-pub told_room : (M : Type 0) (family : Family M) → Lawful family → (m : M) (r : Result (Unit {0}) OutOfMemory) (before after : List ℕ) → Tells family said_bytes m r before after
+pub told_room : (M : Type 0) (family : Family M) → Lawful family → (m : M) (r : Result (Unit {0}) OutOfMemory) (before after : List ℕ)
+    → Tells family said_bytes m r before after
     → OnOk r ((length before + 3 ≤ length after) × (length after ≤ length before + 32767))
 told_room M family lawful m r before after told =
     let size = family_size M family lawful m (told_fits M family said_bytes m r before after told) in
     on_ok_weaker r
-    (λ is. let n : length after ≡ length before + (length (family_body family m) + 3) = omega (arith, ap length is, length-append before (0 ∷ 0 ∷ family_kind family m ∷ family_body family m)) in (omega arith, omega arith))
+    (λ is. let n : length after ≡ length before + (length (family_body family m) + 3) = omega (
+      arith,
+      ap length is,
+      length-append before (0 ∷ 0 ∷ family_kind family m ∷ family_body family m),
+    ) in (omega arith, omega arith))
     (told_bytes M family m r before after told)
 
 -- ---- the size is written last
 
 -- where all was written, the packet stands behind what stood before
-pub sealed_ok : (M : Type 0) (family : Family M) (m : M) (r q : Result (Unit {0}) OutOfMemory) (start : ℕ) (before written after : List ℕ) → start ≡ length before → q ≡ r → Tells family said_bytes m r before written → OnOk q (after ≡ sealed start written)
+pub sealed_ok : (M : Type 0) (family : Family M) (m : M) (r q : Result (Unit {0}) OutOfMemory) (start : ℕ) (before written after : List ℕ)
+    → start ≡ length before → q ≡ r → Tells family said_bytes m r before written → OnOk q (after ≡ sealed start written)
     → OnOk q (after ≡ before ++ packet (family_kind family m) (family_body family m))
-sealed_ok M family m r q start before written after here same told sealing = both q (subst (λ (p : Result (Unit {0}) OutOfMemory). OnOk p (written ≡ before ++ 0 ∷ 0 ∷ family_kind family m ∷ family_body family m)) (sym same) (told_bytes M family m r before written told)) sealing
+sealed_ok M family m r q start before written after here same told sealing =
+    both q (subst (λ (p : Result (Unit {0}) OutOfMemory). OnOk p (written ≡ before ++ 0 ∷ 0 ∷ family_kind family m ∷ family_body family m))
+    (sym same) (told_bytes M family m r before written told)) sealing
   where
-    both : (p : Result (Unit {0}) OutOfMemory) → OnOk p (written ≡ before ++ 0 ∷ 0 ∷ family_kind family m ∷ family_body family m) → OnOk p (after ≡ sealed start written) → OnOk p (after ≡ before ++ packet (family_kind family m) (family_body family m))
-    both (Ok done) is end = end ∙ ap (λ (n : ℕ). sealed n written) here ∙ sealed_is before (family_kind family m) (family_body family m) written is
+    both : (p : Result (Unit {0}) OutOfMemory) → OnOk p (written ≡ before ++ 0 ∷ 0 ∷ family_kind family m ∷ family_body family m)
+        → OnOk p (after ≡ sealed start written) → OnOk p (after ≡ before ++ packet (family_kind family m) (family_body family m))
+    both (Ok done) is end =
+        end ∙ ap (λ (n : ℕ). sealed n written) here ∙ sealed_is before (family_kind family m) (family_body family m) written is
     both (Err e) is end = tt
 
 -- where memory ran out, all that was written is gone
-pub sealed_err : (M : Type 0) (family : Family M) (m : M) (r q : Result (Unit {0}) OutOfMemory) (start : ℕ) (before written after : List ℕ) → start ≡ length before → q ≡ r → Tells family said_bytes m r before written → OnErr q (after ≡ take start written)
+pub sealed_err : (M : Type 0) (family : Family M) (m : M) (r q : Result (Unit {0}) OutOfMemory) (start : ℕ) (before written after : List ℕ)
+    → start ≡ length before → q ≡ r → Tells family said_bytes m r before written → OnErr q (after ≡ take start written)
     → OnErr q (after ≡ before)
-sealed_err M family m r q start before written after here same told cut = both q (subst (λ (p : Result (Unit {0}) OutOfMemory). OnErr p (take (length before) written ≡ before)) (sym same) (told_err M family said_bytes m r before written told)) cut
+sealed_err M family m r q start before written after here same told cut =
+    both q (subst (λ (p : Result (Unit {0}) OutOfMemory). OnErr p (take (length before) written ≡ before)) (sym same)
+    (told_err M family said_bytes m r before written told)) cut
   where
-    both : (p : Result (Unit {0}) OutOfMemory) → OnErr p (take (length before) written ≡ before) → OnErr p (after ≡ take start written) → OnErr p (after ≡ before)
+    both : (p : Result (Unit {0}) OutOfMemory) → OnErr p (take (length before) written ≡ before) → OnErr p (after ≡ take start written)
+        → OnErr p (after ≡ before)
     both (Ok done) kept end = tt
     both (Err e) kept end = end ∙ ap (λ (n : ℕ). take n written) here ∙ kept
 
 -- the number under which a message is spelled is its number
-pub kind_is : (M : Type 0) (family : Family M) → Lawful family → (m : M) (kind : ℕ) (body : List ℕ) → SpelledBy family.table m kind body → family_kind family m ≡ kind
-kind_is M family lawful m kind body spelled = ap (λ (p : ℕ × List ℕ). p.0) (one_spelling M (spelling family) family.table m kind body lawful.apart spelled)
+pub kind_is : (M : Type 0) (family : Family M) → Lawful family → (m : M) (kind : ℕ) (body : List ℕ) → SpelledBy family.table m kind body
+    → family_kind family m ≡ kind
+kind_is M family lawful m kind body spelled =
+    ap (λ (p : ℕ × List ℕ). p.0) (one_spelling M (spelling family) family.table m kind body lawful.apart spelled)

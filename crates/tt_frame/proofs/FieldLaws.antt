@@ -1,18 +1,99 @@
 -- A field that is read is the field that was spelled, and what is spelled is read again, whatever follows.
-use Rattle.std.proofs.Common.{◌≡◌, ℕ, zero, suc, ◌+◌, ◌^◌, ◌<◌, ◌≤◌, Bool, true, false, cond, ltb, eqb, eq-eqb, List, [], ◌∷◌, ◌++◌, length, take, drop, Option, Some, None, Result, Ok, Err, refl, sym, ap, subst, ◌∙◌, append_assoc, arith, inl, inr}
+use Rattle.std.proofs.Common.{
+  ◌≡◌,
+  ℕ,
+  zero,
+  suc,
+  ◌+◌,
+  ◌^◌,
+  ◌<◌,
+  ◌≤◌,
+  Bool,
+  true,
+  false,
+  cond,
+  ltb,
+  eqb,
+  eq-eqb,
+  List,
+  [],
+  ◌∷◌,
+  ◌++◌,
+  length,
+  take,
+  drop,
+  Option,
+  Some,
+  None,
+  Result,
+  Ok,
+  Err,
+  refl,
+  sym,
+  ap,
+  subst,
+  ◌∙◌,
+  append_assoc,
+  arith,
+  inl,
+  inr,
+}
 use Rattle.std.specs.Prelude.{◌&&◌, option_map, nat_le, ◌==◌}
 use Rattle.std.specs.List.{list_all}
 use Rattle.std.specs.Str.{is_utf8}
 use Rattle.std.specs.Int.{Width, w8, w16, w32, w64, byte_len, from_le_bytes, to_le_bytes}
 use Rattle.std.proofs.lemmas.Bool.{cases_lt, ltb-false, le-ltb, eqb-true}
 use Rattle.std.proofs.lemmas.List.{take_at, drop_at, take-append-drop, length-append, length-take, get_or-drop, get_or-take, get_or_past}
-use Rattle.std.proofs.lemmas.Nat.{le_bytes_2, le_bytes_4, le_bytes_8, from_le_bytes-to_le_bytes_2, from_le_bytes-to_le_bytes_4, from_le_bytes-to_le_bytes_8}
+use Rattle.std.proofs.lemmas.Nat.{
+  le_bytes_2,
+  le_bytes_4,
+  le_bytes_8,
+  from_le_bytes-to_le_bytes_2,
+  from_le_bytes-to_le_bytes_4,
+  from_le_bytes-to_le_bytes_8,
+}
 use Rattle.std.proofs.Math.Nat.{mod-eq_of_lt}
 use Rattle.tt_frame.specs.Packet.{IsBytes}
 use Rattle.tt_frame.specs.Unread.{Unread, skip}
 use Rattle.tt_frame.specs.Text.{is_text, is_digest, is_shown, is_hex_digit}
-use Rattle.tt_frame.specs.Reading.{◌>>=◌, number_at, within_at, truth_at, fixed_at, before_zero, kept, kept_or_none, text_at, digest_at, optional_digest_at, raw_at}
-use Rattle.tt_frame.specs.FieldForms.{CountWidth, byte, word, count_width, count_limit, Field, u8, u16, u32, u64, within, truth, text, digest, optional_digest, raw, Value, spelled, Fits, field_at, optional_bytes, truth_number}
+use Rattle.tt_frame.specs.Reading.{
+  ◌>>=◌,
+  number_at,
+  within_at,
+  truth_at,
+  fixed_at,
+  before_zero,
+  kept,
+  kept_or_none,
+  text_at,
+  digest_at,
+  optional_digest_at,
+  raw_at,
+}
+use Rattle.tt_frame.specs.FieldForms.{
+  CountWidth,
+  byte,
+  word,
+  count_width,
+  count_limit,
+  Field,
+  u8,
+  u16,
+  u32,
+  u64,
+  within,
+  truth,
+  text,
+  digest,
+  optional_digest,
+  raw,
+  Value,
+  spelled,
+  Fits,
+  field_at,
+  optional_bytes,
+  truth_number,
+}
 use Rattle.tt_frame.proofs.TestLaws.{and_both}
 use Rattle.tt_frame.proofs.TextLaws.{length_of_text, length_of_digest}
 
@@ -115,7 +196,8 @@ wide64 = record {
   below = λ bytes fits. omega (arith, fits 0, fits 1, fits 2, fits 3, fits 4, fits 5, fits 6, fits 7);
 }
 
-number_takes : (w : Width) (limit : ℕ) (wide : IsWide w limit) (s : Unread) (n : ℕ) (t : Unread) → IsBytes s.rest → number_at w s ≡ Ok (n, t) → Takes s (to_le_bytes w n) t × (n < limit)
+number_takes : (w : Width) (limit : ℕ) (wide : IsWide w limit) (s : Unread) (n : ℕ) (t : Unread) → IsBytes s.rest
+    → number_at w s ≡ Ok (n, t) → Takes s (to_le_bytes w n) t × (n < limit)
 unfolding number_at
 number_takes w limit wide s n t fits e =
     let k = byte_len w in
@@ -124,13 +206,18 @@ number_takes w limit wide s n t fits e =
     let long : k ≤ length s.rest = ltb-false _ _ g.0 in
     let front_fits = IsBytes-take k s.rest fits in
     let same : to_le_bytes w (from_le_bytes w front) ≡ front = wide.back front (omega (arith, length-take k s.rest)) front_fits in
-    subst (λ (p : ℕ × Unread). Takes s (to_le_bytes w p.0) p.1 × (p.0 < limit)) g.1 (rw same (Takes-skip k s long fits), wide.below front front_fits)
+    subst (λ (p : ℕ × Unread). Takes s (to_le_bytes w p.0) p.1 × (p.0 < limit)) g.1 (
+      rw same (Takes-skip k s long fits),
+      wide.below front front_fits,
+    )
 
-number_again : (w : Width) (limit : ℕ) (wide : IsWide w limit) (n at : ℕ) (after : List ℕ) → n < limit → number_at w (unread at (to_le_bytes w n ++ after)) ≡ Ok (n, unread (at + length (to_le_bytes w n)) after)
+number_again : (w : Width) (limit : ℕ) (wide : IsWide w limit) (n at : ℕ) (after : List ℕ) → n < limit
+    → number_at w (unread at (to_le_bytes w n ++ after)) ≡ Ok (n, unread (at + length (to_le_bytes w n)) after)
 unfolding number_at
 number_again w limit wide n at after lt =
     let len = wide.len n in
-    let long : ltb (length (to_le_bytes w n ++ after)) (byte_len w) ≡ false = le-ltb _ _ (omega (arith, length-append (to_le_bytes w n) after)) in
+    let long : ltb (length (to_le_bytes w n ++ after)) (byte_len w) ≡ false =
+    le-ltb _ _ (omega (arith, length-append (to_le_bytes w n) after)) in
     rw (long, take_at (to_le_bytes w n) after (byte_len w) len, drop_at (to_le_bytes w n) after (byte_len w) len, wide.again n lt, len) refl
 
 -- the widths of counts
@@ -138,7 +225,8 @@ pub wide_count : (w : CountWidth) → IsWide (count_width w) (count_limit w)
 wide_count byte = wide8
 wide_count word = wide16
 
-within_takes : (w : Width) (limit : ℕ) (wide : IsWide w limit) (max : ℕ) (s : Unread) (n : ℕ) (t : Unread) → IsBytes s.rest → within_at w max s ≡ Ok (n, t) → Takes s (to_le_bytes w n) t × ((n ≤ max) × (n < limit))
+within_takes : (w : Width) (limit : ℕ) (wide : IsWide w limit) (max : ℕ) (s : Unread) (n : ℕ) (t : Unread) → IsBytes s.rest
+    → within_at w max s ≡ Ok (n, t) → Takes s (to_le_bytes w n) t × ((n ≤ max) × (n < limit))
 unfolding within_at
 within_takes w limit wide max s n t fits e =
     let b = bind_ok (number_at w s) (λ x. cond (ltb max x.0) (Err s.at) (Ok x)) (n, t) e in
@@ -147,11 +235,13 @@ within_takes w limit wide max s n t fits e =
     let taken = number_takes w limit wide s b.0.0 b.0.1 fits b.1 in
     subst (λ (p : ℕ × Unread). Takes s (to_le_bytes w p.0) p.1 × ((p.0 ≤ max) × (p.0 < limit))) g.1 (taken.0, (le, taken.1))
 
-within_again : (w : Width) (limit : ℕ) (wide : IsWide w limit) (max n at : ℕ) (after : List ℕ) → n ≤ max → n < limit → within_at w max (unread at (to_le_bytes w n ++ after)) ≡ Ok (n, unread (at + length (to_le_bytes w n)) after)
+within_again : (w : Width) (limit : ℕ) (wide : IsWide w limit) (max n at : ℕ) (after : List ℕ) → n ≤ max → n < limit
+    → within_at w max (unread at (to_le_bytes w n ++ after)) ≡ Ok (n, unread (at + length (to_le_bytes w n)) after)
 unfolding within_at
 within_again w limit wide max n at after le lt =
     let small : ltb max n ≡ false = le-ltb _ _ le in
-    ap (λ (r : Result (ℕ × Unread) ℕ). r >>= λ x. cond (ltb max x.0) (Err at) (Ok x)) (number_again w limit wide n at after lt) ∙ rw small refl
+    ap (λ (r : Result (ℕ × Unread) ℕ). r >>= λ x. cond (ltb max x.0) (Err at) (Ok x)) (number_again w limit wide n at after lt)
+    ∙ rw small refl
 
 pub fixed_takes : (b : ℕ) (s t : Unread) → IsBytes s.rest → fixed_at b s ≡ Ok t → Takes s (b ∷ []) t
 unfolding fixed_at
@@ -179,21 +269,29 @@ unfolding truth_at
 truth_takes s b t fits e =
     let x = bind_ok (within_at w8 1 s) (λ x. Ok (x.0 == 1, x.1)) (b, t) e in
     let taken = within_takes w8 (2 ^ 8) wide8 1 s x.0.0 x.0.1 fits x.1 in
-    subst (λ (p : Bool × Unread). Takes s (to_le_bytes w8 (truth_number p.0)) p.1) (ok_is (x.0.0 == 1, x.0.1) (b, t) x.2) (rw (truth_is x.0.0 taken.1.0) taken.0)
+    subst (λ (p : Bool × Unread). Takes s (to_le_bytes w8 (truth_number p.0)) p.1) (ok_is (x.0.0 == 1, x.0.1) (b, t) x.2)
+    (rw (truth_is x.0.0 taken.1.0) taken.0)
 
-truth_again : (b : Bool) (at : ℕ) (after : List ℕ) → truth_at (unread at (to_le_bytes w8 (truth_number b) ++ after)) ≡ Ok (b, unread (at + length (to_le_bytes w8 (truth_number b))) after)
+truth_again : (b : Bool) (at : ℕ) (after : List ℕ) → truth_at (unread at (to_le_bytes w8 (truth_number b) ++ after)) ≡ Ok (
+  b,
+  unread (at + length (to_le_bytes w8 (truth_number b))) after,
+)
 unfolding truth_at
-truth_again true at after = ap (λ (r : Result (ℕ × Unread) ℕ). r >>= λ x. Ok (x.0 == 1, x.1)) (within_again w8 (2 ^ 8) wide8 1 1 at after (omega arith) (omega arith))
-truth_again false at after = ap (λ (r : Result (ℕ × Unread) ℕ). r >>= λ x. Ok (x.0 == 1, x.1)) (within_again w8 (2 ^ 8) wide8 1 0 at after (omega arith) (omega arith))
+truth_again true at after = ap (λ (r : Result (ℕ × Unread) ℕ). r >>= λ x. Ok (x.0 == 1, x.1)) (within_again w8 (2 ^ 8) wide8 1 1 at after
+    (omega arith) (omega arith))
+truth_again false at after = ap (λ (r : Result (ℕ × Unread) ℕ). r >>= λ x. Ok (x.0 == 1, x.1)) (within_again w8 (2 ^ 8) wide8 1 0 at after
+    (omega arith) (omega arith))
 
 -- ---- texts
 
-behind_parts : (b : ℕ) (o : Option (List ℕ)) (x : List ℕ) → option_map (λ (s : List ℕ). b ∷ s) o ≡ Some x → (y : List ℕ) × (o ≡ Some y) × (b ∷ y ≡ x)
+behind_parts : (b : ℕ) (o : Option (List ℕ)) (x : List ℕ) → option_map (λ (s : List ℕ). b ∷ s) o ≡ Some x → (y : List ℕ) × (o ≡ Some y)
+    × (b ∷ y ≡ x)
 behind_parts b None x e = absurd cc
 behind_parts b (Some y) x e = (y, refl, cc)
 
 -- what is before the zero, and behind it
-before_zero_takes : (max : ℕ) (bs x : List ℕ) → before_zero max bs ≡ Some x → (bs ≡ x ++ 0 ∷ drop (length x + 1) bs) × (length x + 1 ≤ length bs)
+before_zero_takes : (max : ℕ) (bs x : List ℕ) → before_zero max bs ≡ Some x → (bs ≡ x ++ 0 ∷ drop (length x + 1) bs)
+    × (length x + 1 ≤ length bs)
 unfolding before_zero
 before_zero_takes max [] x e = absurd cc
 before_zero_takes max (zero ∷ bs) x e =
@@ -204,9 +302,11 @@ before_zero_takes (suc max) (suc b ∷ bs) x e =
     let o = behind_parts (suc b) (before_zero max bs) x e in
     let ih = before_zero_takes max bs o.0 o.1 in
     let k : length (suc b ∷ o.0) + 1 ≡ suc (length o.0 + 1) = omega arith in
-    subst (λ (y : List ℕ). (suc b ∷ bs ≡ y ++ 0 ∷ drop (length y + 1) (suc b ∷ bs)) × (length y + 1 ≤ length (suc b ∷ bs))) o.2 (ap (λ (r : List ℕ). suc b ∷ r) ih.0 ∙ ap (λ (n : ℕ). suc b ∷ (o.0 ++ 0 ∷ drop n (suc b ∷ bs))) (sym k), omega (arith, ih.1))
+    subst (λ (y : List ℕ). (suc b ∷ bs ≡ y ++ 0 ∷ drop (length y + 1) (suc b ∷ bs)) × (length y + 1 ≤ length (suc b ∷ bs))) o.2
+    (ap (λ (r : List ℕ). suc b ∷ r) ih.0 ∙ ap (λ (n : ℕ). suc b ∷ (o.0 ++ 0 ∷ drop n (suc b ∷ bs))) (sym k), omega (arith, ih.1))
 
-before_zero_again : (p : ℕ → Bool) (max : ℕ) (x after : List ℕ) → p 0 ≡ false → list_all p x ≡ true → length x ≤ max → before_zero max ((x ++ 0 ∷ []) ++ after) ≡ Some x
+before_zero_again : (p : ℕ → Bool) (max : ℕ) (x after : List ℕ) → p 0 ≡ false → list_all p x ≡ true → length x ≤ max
+    → before_zero max ((x ++ 0 ∷ []) ++ after) ≡ Some x
 unfolding before_zero
 before_zero_again p max [] after z ok le = refl
 before_zero_again p max (zero ∷ x) after z ok le = absurd (let both = (and_both (p 0) (list_all p x) ok).0 in cc)
@@ -214,7 +314,8 @@ before_zero_again p zero (suc b ∷ x) after z ok le = absurd (omega arith)
 before_zero_again p (suc max) (suc b ∷ x) after z ok le =
     ap (option_map (λ (s : List ℕ). suc b ∷ s)) (before_zero_again p max x after z (and_both (p (suc b)) (list_all p x) ok).1 (omega arith))
 
-kept_takes : (good : List ℕ → Bool) (max : ℕ) (s : Unread) (x : List ℕ) (t : Unread) → IsBytes s.rest → kept good (before_zero max s.rest) s ≡ Ok (x, t) → Takes s (x ++ 0 ∷ []) t × (good x ≡ true)
+kept_takes : (good : List ℕ → Bool) (max : ℕ) (s : Unread) (x : List ℕ) (t : Unread) → IsBytes s.rest
+    → kept good (before_zero max s.rest) s ≡ Ok (x, t) → Takes s (x ++ 0 ∷ []) t × (good x ≡ true)
 kept_takes good max s x t fits e = found (before_zero max s.rest) refl e
   where
     found : (o : Option (List ℕ)) → before_zero max s.rest ≡ o → kept good o s ≡ Ok (x, t) → Takes s (x ++ 0 ∷ []) t × (good x ≡ true)
@@ -229,21 +330,28 @@ kept_takes good max s x t fits e = found (before_zero max s.rest) refl e
         } in
         subst (λ (p : List ℕ × Unread). Takes s (p.0 ++ 0 ∷ []) p.1 × (good p.0 ≡ true)) g.1 (taken, g.0)
 
-skip_text : (x : List ℕ) (at : ℕ) (after : List ℕ) → skip (length x + 1) (unread at ((x ++ 0 ∷ []) ++ after)) ≡ unread (at + length (x ++ 0 ∷ [])) after
+skip_text : (x : List ℕ) (at : ℕ) (after : List ℕ) → skip (length x + 1) (unread at ((x ++ 0 ∷ []) ++ after)) ≡ unread (at + length (x
+    ++ 0 ∷ [])) after
 skip_text x at after =
     let n : length (x ++ 0 ∷ []) ≡ length x + 1 = omega (arith, length-append x (0 ∷ [])) in
     rw (n, drop_at (x ++ 0 ∷ []) after (length x + 1) n) refl
 
-kept_again : (good : List ℕ → Bool) (max : ℕ) (x : List ℕ) (at : ℕ) (after : List ℕ) → before_zero max ((x ++ 0 ∷ []) ++ after) ≡ Some x → good x ≡ true → kept good (before_zero max ((x ++ 0 ∷ []) ++ after)) (unread at ((x ++ 0 ∷ []) ++ after)) ≡ Ok (x, unread (at + length (x ++ 0 ∷ [])) after)
+kept_again : (good : List ℕ → Bool) (max : ℕ) (x : List ℕ) (at : ℕ) (after : List ℕ) → before_zero max ((x ++ 0 ∷ []) ++ after) ≡ Some x
+    → good x ≡ true → kept good (before_zero max ((x ++ 0 ∷ []) ++ after)) (unread at ((x ++ 0 ∷ []) ++ after)) ≡ Ok (
+      x,
+      unread (at + length (x ++ 0 ∷ [])) after,
+    )
 kept_again good max x at after is ok = rw (is, ok, skip_text x at after) refl
 
 text_before : (m : ℕ) (x after : List ℕ) → is_text m x ≡ true → before_zero m ((x ++ 0 ∷ []) ++ after) ≡ Some x
 unfolding is_text
-text_before m x after ok = before_zero_again is_shown m x after refl (and_both (nat_le (length x) m) (list_all is_shown x) (and_both (nat_le (length x) m && list_all is_shown x) (is_utf8 x) ok).0).1 (length_of_text m x ok)
+text_before m x after ok = before_zero_again is_shown m x after refl (and_both (nat_le (length x) m) (list_all is_shown x)
+    (and_both (nat_le (length x) m && list_all is_shown x) (is_utf8 x) ok).0).1 (length_of_text m x ok)
 
 digest_before : (x after : List ℕ) → is_digest x ≡ true → before_zero 32 ((x ++ 0 ∷ []) ++ after) ≡ Some x
 unfolding is_digest
-digest_before x after ok = before_zero_again is_hex_digit 32 x after refl (and_both (length x == 32) (list_all is_hex_digit x) ok).1 (omega (arith, length_of_digest x ok))
+digest_before x after ok = before_zero_again is_hex_digit 32 x after refl (and_both (length x == 32) (list_all is_hex_digit x) ok).1
+    (omega (arith, length_of_digest x ok))
 
 -- ---- bytes as they are
 
@@ -254,7 +362,8 @@ raw_takes n s x t fits e =
     let long : n ≤ length s.rest = ltb-false _ _ g.0 in
     subst (λ (p : List ℕ × Unread). Takes s p.0 p.1 × (length p.0 ≡ n)) g.1 (Takes-skip n s long fits, omega (arith, length-take n s.rest))
 
-raw_again : (n : ℕ) (x : List ℕ) (at : ℕ) (after : List ℕ) → length x ≡ n → raw_at n (unread at (x ++ after)) ≡ Ok (x, unread (at + length x) after)
+raw_again : (n : ℕ) (x : List ℕ) (at : ℕ) (after : List ℕ) → length x ≡ n
+    → raw_at n (unread at (x ++ after)) ≡ Ok (x, unread (at + length x) after)
 unfolding raw_at
 raw_again n x at after len =
     let long : ltb (length (x ++ after)) n ≡ false = le-ltb _ _ (omega (arith, length-append x after)) in
@@ -262,7 +371,8 @@ raw_again n x at after len =
 
 -- ---- a digest or none
 
-optional_takes : (s : Unread) (x : Option (List ℕ)) (t : Unread) → IsBytes s.rest → optional_digest_at s ≡ Ok (x, t) → Takes s (optional_bytes x ++ 0 ∷ []) t × Fits optional_digest x
+optional_takes : (s : Unread) (x : Option (List ℕ)) (t : Unread) → IsBytes s.rest → optional_digest_at s ≡ Ok (x, t)
+    → Takes s (optional_bytes x ++ 0 ∷ []) t × Fits optional_digest x
 unfolding optional_digest_at
 optional_takes s x t fits e = found (before_zero 32 s.rest) refl e
   where
@@ -275,15 +385,23 @@ optional_takes s x t fits e = found (before_zero 32 s.rest) refl e
           rest_fits = IsBytes-drop (length y + 1) s.rest fits;
         }
 
-    found : (o : Option (List ℕ)) → before_zero 32 s.rest ≡ o → kept_or_none o s ≡ Ok (x, t) → Takes s (optional_bytes x ++ 0 ∷ []) t × Fits optional_digest x
+    found : (o : Option (List ℕ)) → before_zero 32 s.rest ≡ o → kept_or_none o s ≡ Ok (x, t) → Takes s (optional_bytes x ++ 0 ∷ []) t
+        × Fits optional_digest x
     found None is e = absurd cc
     found (Some []) is e =
-        subst (λ (p : Option (List ℕ) × Unread). Takes s (optional_bytes p.0 ++ 0 ∷ []) p.1 × Fits optional_digest p.0) (ok_is (None, skip 1 s) (x, t) e) (taken_text [] is, tt)
+        subst (λ (p : Option (List ℕ) × Unread). Takes s (optional_bytes p.0 ++ 0 ∷ []) p.1 × Fits optional_digest p.0)
+        (ok_is (None, skip 1 s) (x, t) e) (taken_text [] is, tt)
     found (Some (b ∷ bs)) is e =
         let g = passed_ok (is_digest (b ∷ bs)) s.at (Some (b ∷ bs), skip (length (b ∷ bs) + 1) s) (x, t) e in
-        subst (λ (p : Option (List ℕ) × Unread). Takes s (optional_bytes p.0 ++ 0 ∷ []) p.1 × Fits optional_digest p.0) g.1 (taken_text (b ∷ bs) is, g.0)
+        subst (λ (p : Option (List ℕ) × Unread). Takes s (optional_bytes p.0 ++ 0 ∷ []) p.1 × Fits optional_digest p.0) g.1
+        (taken_text (b ∷ bs) is, g.0)
 
-optional_again : (x : Option (List ℕ)) (at : ℕ) (after : List ℕ) → Fits optional_digest x → optional_digest_at (unread at ((optional_bytes x ++ 0 ∷ []) ++ after)) ≡ Ok (x, unread (at + length (optional_bytes x ++ 0 ∷ [])) after)
+optional_again : (x : Option (List ℕ)) (at : ℕ) (after : List ℕ) → Fits optional_digest x
+    → optional_digest_at (unread at ((optional_bytes x ++ 0 ∷ []) ++ after)) ≡ Ok (
+      x,
+      unread (at + length (optional_bytes x ++ 0 ∷ []))
+          after,
+    )
 unfolding optional_digest_at before_zero
 optional_again None at after fits = refl
 optional_again (Some []) at after fits = absurd (let l = length_of_digest [] fits in omega (arith, l))
@@ -292,7 +410,8 @@ optional_again (Some (b ∷ bs)) at after fits =
 
 -- ---- any field
 
-pub field_takes : (f : Field) (s : Unread) (x : Value f) (t : Unread) → IsBytes s.rest → field_at f s ≡ Ok (x, t) → Takes s (spelled f x) t × Fits f x
+pub field_takes : (f : Field) (s : Unread) (x : Value f) (t : Unread) → IsBytes s.rest → field_at f s ≡ Ok (x, t) → Takes s (spelled f x) t
+    × Fits f x
 unfolding text_at digest_at
 field_takes u8 s x t fits e = number_takes w8 (2 ^ 8) wide8 s x t fits e
 field_takes u16 s x t fits e = number_takes w16 (2 ^ 16) wide16 s x t fits e
@@ -305,7 +424,10 @@ field_takes digest s x t fits e = kept_takes is_digest 32 s x t fits e
 field_takes optional_digest s x t fits e = optional_takes s x t fits e
 field_takes (raw n) s x t fits e = raw_takes n s x t fits e
 
-pub field_again : (f : Field) (x : Value f) (at : ℕ) (after : List ℕ) → Fits f x → field_at f (unread at (spelled f x ++ after)) ≡ Ok (x, unread (at + length (spelled f x)) after)
+pub field_again : (f : Field) (x : Value f) (at : ℕ) (after : List ℕ) → Fits f x → field_at f (unread at (spelled f x ++ after)) ≡ Ok (
+  x,
+  unread (at + length (spelled f x)) after,
+)
 unfolding text_at digest_at
 field_again u8 x at after fits = number_again w8 (2 ^ 8) wide8 x at after fits
 field_again u16 x at after fits = number_again w16 (2 ^ 16) wide16 x at after fits

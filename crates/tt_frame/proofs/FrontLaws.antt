@@ -1,7 +1,37 @@
 -- Proper fronts of packets.
-use Rattle.std.proofs.Common.{◌≡◌, ℕ, ◌+◌, ◌-◌, ◌^◌, ◌<◌, ◌≤◌, List, [], ◌++◌, length, get_or, replicate, refl, sym, ap, ◌∙◌, inl, inr, arith}
+use Rattle.std.proofs.Common.{
+  ◌≡◌,
+  ℕ,
+  ◌+◌,
+  ◌-◌,
+  ◌^◌,
+  ◌<◌,
+  ◌≤◌,
+  List,
+  [],
+  ◌++◌,
+  length,
+  get_or,
+  replicate,
+  refl,
+  sym,
+  ap,
+  ◌∙◌,
+  inl,
+  inr,
+  arith,
+}
 use Rattle.std.proofs.lemmas.Bool.{cases_lt}
-use Rattle.std.proofs.lemmas.List.{append-nil, drop_all, length-append, length-replicate, get_or_append_left, get_or-append_right, get_or-replicate, get_or_past}
+use Rattle.std.proofs.lemmas.List.{
+  append-nil,
+  drop_all,
+  length-append,
+  length-replicate,
+  get_or_append_left,
+  get_or-append_right,
+  get_or-replicate,
+  get_or_past,
+}
 use Rattle.tt_frame.specs.Packet.{IsBytes, packet_bytes, size_of}
 use Rattle.tt_frame.specs.Stream.{told_size, IsPartial, IsProperFront}
 use Rattle.tt_frame.specs.Framing.{BeginsWith}
@@ -37,12 +67,14 @@ proper_front limit rest fits two partial =
     let short : length rest < size = partial.short two in
     let long : length (rest ++ more) ≡ size = omega (arith, length-append rest more, length_zeros (size - length rest)) in
     let told : told_size (rest ++ more) ≡ size = told_size-append rest more two in
-    let first = begins_with_packet (rest ++ more) limit size (IsBytes-filled rest (size - length rest) fits) (omega arith) (partial.least two) (partial.most two) (omega arith) in (
+    let first = begins_with_packet (rest ++ more) limit size (IsBytes-filled rest (size - length rest) fits) (omega arith)
+    (partial.least two) (partial.most two) (omega arith) in (
       packet_in (rest ++ more) size,
       more,
       first.fits,
       omega (arith, length_zeros (size - length rest)),
-      sym (first.whole ∙ ap (λ (xs : List ℕ). packet_bytes (packet_in (rest ++ more) size) ++ xs) (drop_all size (rest ++ more) (omega arith)) ∙ append-nil (packet_bytes (packet_in (rest ++ more) size))),
+      sym (first.whole ∙ ap (λ (xs : List ℕ). packet_bytes (packet_in (rest ++ more) size) ++ xs) (drop_all size (rest
+          ++ more) (omega arith)) ∙ append-nil (packet_bytes (packet_in (rest ++ more) size))),
     )
 
 pub front_is_partial : (limit : ℕ) (rest : List ℕ) → limit < 2 ^ 16 → 2 ≤ length rest → IsProperFront limit rest → IsPartial limit rest

@@ -1,5 +1,34 @@
 -- Items read and written one behind the other in a loop.
-use Rattle.std.proofs.Common.{◌≡◌, ℕ, Bool, true, false, cond, subst, suc, ◌+◌, ◌-◌, ◌<◌, ◌≤◌, List, [], ◌∷◌, ◌++◌, length, get_or, take, Result, Ok, Err, refl, sym, ap, ◌∙◌, append_assoc, arith}
+use Rattle.std.proofs.Common.{
+  ◌≡◌,
+  ℕ,
+  Bool,
+  true,
+  false,
+  cond,
+  subst,
+  suc,
+  ◌+◌,
+  ◌-◌,
+  ◌<◌,
+  ◌≤◌,
+  List,
+  [],
+  ◌∷◌,
+  ◌++◌,
+  length,
+  get_or,
+  take,
+  Result,
+  Ok,
+  Err,
+  refl,
+  sym,
+  ap,
+  ◌∙◌,
+  append_assoc,
+  arith,
+}
 use Rattle.std.proofs.lemmas.List.{length-append, append-nil, take_more, take_all}
 use Rattle.tt_frame.specs.Unread.{Unread}
 use Rattle.tt_frame.specs.Reading.{◌>>=◌, FieldRead, FieldReadOrMemory}
@@ -17,19 +46,23 @@ pub with_none : (fs : List Named) (front : List (Item fs)) (r : Result (List (It
 with_none fs front (Ok x) is = ap (λ (xs : List (Item fs)). Ok (xs ++ x.0, x.1)) is
 with_none fs front (Err e) is = refl
 
-pub regroup : (fs : List Named) (front : List (Item fs)) (x : Item fs) (r : Result (List (Item fs) × Unread) ℕ) → with_front fs front (r >>= λ xs. Ok (x ∷ xs.0, xs.1)) ≡ with_front fs (front ++ x ∷ []) r
+pub regroup : (fs : List Named) (front : List (Item fs)) (x : Item fs) (r : Result (List (Item fs) × Unread) ℕ)
+    → with_front fs front (r >>= λ xs. Ok (x ∷ xs.0, xs.1)) ≡ with_front fs (front ++ x ∷ []) r
 regroup fs front x (Ok y) = ap (λ (xs : List (Item fs)). Ok (xs, y.1)) (sym (append_assoc front (x ∷ []) y.0))
 regroup fs front x (Err e) = refl
 
-pub goes_on : (fs : List Named) (front : List (Item fs)) (n i : ℕ) (s : Unread) (x : Item fs) (t : Unread) (total : Result (List (Item fs) × Unread) ℕ) → i < n → item_at fs s ≡ Ok (x, t)
+pub goes_on : (fs : List Named) (front : List (Item fs)) (n i : ℕ) (s : Unread) (x : Item fs) (t : Unread) (total : Result (List (Item fs)
+    × Unread) ℕ) → i < n → item_at fs s ≡ Ok (x, t)
     → with_front fs front (items_at fs (n - i) s) ≡ total → with_front fs (front ++ x ∷ []) (items_at fs (n - (i + 1)) t) ≡ total
 unfolding items_at
 goes_on fs front n i s x t total lt h so_far =
     let k : n - i ≡ suc (n - (i + 1)) = omega arith in
-    let one : with_front fs front (items_at fs (n - i) s) ≡ with_front fs (front ++ x ∷ []) (items_at fs (n - (i + 1)) t) = rw (k, h) (regroup fs front x (items_at fs (n - (i + 1)) t)) in
+    let one : with_front fs front (items_at fs (n - i) s) ≡ with_front fs (front ++ x ∷ []) (items_at fs (n - (i + 1)) t) =
+    rw (k, h) (regroup fs front x (items_at fs (n - (i + 1)) t)) in
     sym one ∙ so_far
 
-pub fails : (fs : List Named) (front : List (Item fs)) (n i : ℕ) (s : Unread) (at : ℕ) (total : Result (List (Item fs) × Unread) ℕ) → i < n → item_at fs s ≡ Err at
+pub fails : (fs : List Named) (front : List (Item fs)) (n i : ℕ) (s : Unread) (at : ℕ) (total : Result (List (Item fs) × Unread) ℕ) → i < n
+    → item_at fs s ≡ Err at
     → with_front fs front (items_at fs (n - i) s) ≡ total → total ≡ Err at
 unfolding items_at
 fails fs front n i s at total lt h so_far =
@@ -37,36 +70,43 @@ fails fs front n i s at total lt h so_far =
     let one : with_front fs front (items_at fs (n - i) s) ≡ Err at = rw (k, h) refl in
     sym so_far ∙ one
 
-pub is_done : (fs : List Named) (front : List (Item fs)) (n i : ℕ) (s : Unread) (total : Result (List (Item fs) × Unread) ℕ) → n ≤ i → with_front fs front (items_at fs (n - i) s) ≡ total → total ≡ Ok (front, s)
+pub is_done : (fs : List Named) (front : List (Item fs)) (n i : ℕ) (s : Unread) (total : Result (List (Item fs) × Unread) ℕ) → n ≤ i
+    → with_front fs front (items_at fs (n - i) s) ≡ total → total ≡ Ok (front, s)
 unfolding items_at
 is_done fs front n i s total le so_far =
     let k : n - i ≡ 0 = omega arith in
-    let one : with_front fs front (items_at fs (n - i) s) ≡ Ok (front, s) = rw k (ap (λ (xs : List (Item fs)). Ok (xs, s)) (append-nil front)) in
+    let one : with_front fs front (items_at fs (n - i) s) ≡ Ok (front, s) =
+    rw k (ap (λ (xs : List (Item fs)). Ok (xs, s)) (append-nil front)) in
     sym so_far ∙ one
 
 -- where memory may run out, an error of a call that takes none is right too
-pub error_or_memory : (X Y : Type 0) (view : X → Y) (e : Bad) (new : Unread) (reading : Result (Y × Unread) ℕ) → FieldRead view (Err e) new reading → FieldReadOrMemory view (Err e) new reading
+pub error_or_memory : (X Y : Type 0) (view : X → Y) (e : Bad) (new : Unread) (reading : Result (Y × Unread) ℕ)
+    → FieldRead view (Err e) new reading → FieldReadOrMemory view (Err e) new reading
 error_or_memory X Y view Memory new reading read = tt
 error_or_memory X Y view (Malformed at) new reading read = read
 
-pub fails_as : (X Z : Type 0) (fs : List Named) (view : X → List (Item fs)) (one : Z → Item fs) (e : Bad) (front : List (Item fs)) (n i : ℕ) (s t u : Unread) (total : Result (List (Item fs) × Unread) ℕ) → i < n → FieldRead one (Err e) t (item_at fs s)
+pub fails_as : (X Z : Type 0) (fs : List Named) (view : X → List (Item fs)) (one : Z → Item fs) (e : Bad) (front : List (Item fs))
+    (n i : ℕ) (s t u : Unread) (total : Result (List (Item fs) × Unread) ℕ) → i < n → FieldRead one (Err e) t (item_at fs s)
     → with_front fs front (items_at fs (n - i) s) ≡ total → FieldRead view (Err e) u total
 fails_as X Z fs view one Memory front n i s t u total lt h so_far = h
 fails_as X Z fs view one (Malformed at) front n i s t u total lt h so_far = fails fs front n i s at total lt h so_far
 
 items_spelled-append : (fs : List Named) (xs ys : List (Item fs)) → items_spelled fs (xs ++ ys) ≡ items_spelled fs xs ++ items_spelled fs ys
 items_spelled-append fs [] ys = refl
-items_spelled-append fs (x ∷ xs) ys = ap (λ (r : List ℕ). item_spelled fs x ++ r) (items_spelled-append fs xs ys) ∙ sym (append_assoc (item_spelled fs x) (items_spelled fs xs) (items_spelled fs ys))
+items_spelled-append fs (x ∷ xs) ys = ap (λ (r : List ℕ). item_spelled fs x ++ r) (items_spelled-append fs xs ys)
+    ∙ sym (append_assoc (item_spelled fs x) (items_spelled fs xs) (items_spelled fs ys))
 
 -- the items so far, and one more
-pub items_more : (fs : List Named) (xs : List (Item fs)) (i : ℕ) (x : Item fs) → i < length xs → items_spelled fs (take (i + 1) xs) ≡ items_spelled fs (take i xs) ++ item_spelled fs (get_or xs i x)
+pub items_more : (fs : List Named) (xs : List (Item fs)) (i : ℕ) (x : Item fs) → i < length xs
+    → items_spelled fs (take (i + 1) xs) ≡ items_spelled fs (take i xs) ++ item_spelled fs (get_or xs i x)
 items_more fs xs i x lt =
     ap (λ (ys : List (Item fs)). items_spelled fs ys) (take_more xs i x lt)
     ∙ items_spelled-append fs (take i xs) (get_or xs i x ∷ [])
     ∙ ap (λ (r : List ℕ). items_spelled fs (take i xs) ++ r) (append-nil (item_spelled fs (get_or xs i x)))
 
 -- one item more is written behind the others
-pub one_item : (fs : List Named) (old mid new : List ℕ) (xs : List (Item fs)) (i : ℕ) (x : Item fs) → i < length xs → x ≡ get_or xs i x → mid ≡ old ++ items_spelled fs (take i xs)
+pub one_item : (fs : List Named) (old mid new : List ℕ) (xs : List (Item fs)) (i : ℕ) (x : Item fs) → i < length xs → x ≡ get_or xs i x
+    → mid ≡ old ++ items_spelled fs (take i xs)
     → new ≡ mid ++ item_spelled fs x → new ≡ old ++ items_spelled fs (take (i + 1) xs)
 one_item fs old mid new xs i x lt is so_far step =
     step
@@ -76,7 +116,8 @@ one_item fs old mid new xs i x lt is so_far step =
     ∙ ap (λ (r : List ℕ). old ++ r) (sym (items_more fs xs i x lt))
 
 -- all of them are written
-pub all_items : (fs : List Named) (old new : List ℕ) (xs : List (Item fs)) (i : ℕ) → length xs ≤ i → new ≡ old ++ items_spelled fs (take i xs) → new ≡ old ++ items_spelled fs xs
+pub all_items : (fs : List Named) (old new : List ℕ) (xs : List (Item fs)) (i : ℕ) → length xs ≤ i → new ≡ old
+    ++ items_spelled fs (take i xs) → new ≡ old ++ items_spelled fs xs
 all_items fs old new xs i le so_far = so_far ∙ ap (λ (ys : List (Item fs)). old ++ items_spelled fs ys) (take_all i xs le)
 
 -- a part, and then what stands behind it
@@ -89,11 +130,14 @@ ItemsFit-push fs [] x fit one = (one, tt)
 ItemsFit-push fs (y ∷ xs) x fit one = (fit.0, ItemsFit-push fs xs x fit.1 one)
 
 -- with one item more, or with none
-pub one_more : (X : Type 0) (fs : List Named) (listed : List X → List (Item fs)) (values : X → Item fs) → ((xs : List X) (x : X) → listed (xs ++ x ∷ []) ≡ listed xs ++ values x ∷ [])
-    → (max : ℕ) (b : Bool) (old new : List X) (x : X) → new ≡ cond b (old ++ x ∷ []) old → length old < max → ItemsFit fs (listed old) → ItemFits fs (values x)
+pub one_more : (X : Type 0) (fs : List Named) (listed : List X → List (Item fs)) (values : X → Item fs) → ((xs : List X) (x : X)
+    → listed (xs ++ x ∷ []) ≡ listed xs ++ values x ∷ [])
+    → (max : ℕ) (b : Bool) (old new : List X) (x : X) → new ≡ cond b (old ++ x ∷ []) old → length old < max → ItemsFit fs (listed old)
+    → ItemFits fs (values x)
     → (length new ≤ max) × ItemsFit fs (listed new)
 one_more X fs listed values more max true old new x is few fit one = (
   omega (arith, ap (λ (xs : List X). length xs) is, length-append old (x ∷ [])),
   subst (λ (ys : List (Item fs)). ItemsFit fs ys) (sym (ap listed is ∙ more old x)) (ItemsFit-push fs (listed old) (values x) fit one),
 )
-one_more X fs listed values more max false old new x is few fit one = (omega (arith, ap (λ (xs : List X). length xs) is), subst (λ (ys : List X). ItemsFit fs (listed ys)) (sym is) fit)
+one_more X fs listed values more max false old new x is few fit one =
+    (omega (arith, ap (λ (xs : List X). length xs) is), subst (λ (ys : List X). ItemsFit fs (listed ys)) (sym is) fit)

@@ -15,7 +15,14 @@ front_of_front old mid new more is kept =
     rw parts (take_at old (more ++ behind) (length old) refl)
 
 -- the body of a row has room in a packet
-pub fits_a_packet : (M : Type 0) (r : Row) (make : Maker r M) (v : Values r) (kind : ℕ) (old bytes : List ℕ) → ValuesFit r v → longest r ≤ 32764
+pub fits_a_packet : (M : Type 0) (r : Row) (make : Maker r M) (v : Values r) (kind : ℕ) (old bytes : List ℕ) → ValuesFit r v
+    → longest r ≤ 32764
     → bytes ≡ old ++ 0 ∷ 0 ∷ kind ∷ body_of r v → length bytes ≤ length old + 32767
 fits_a_packet M r make v kind old bytes fits short is =
-    omega (arith, ap length is, length-append old (0 ∷ 0 ∷ kind ∷ body_of r v), row_size M r make (made_of r make v) (body_of r v) (values_spell M r make v fits))
+    omega (
+      arith,
+      ap length is,
+      length-append old (0 ∷ 0 ∷ kind ∷ body_of r v),
+      row_size M r make (made_of r make v) (body_of r v)
+          (values_spell M r make v fits),
+    )

@@ -1,12 +1,52 @@
 -- How long a body can be: a number for each row, which is computed from the table.
-use Rattle.std.proofs.Common.{◌≡◌, refl, sym, ◌∙◌, ℕ, ◌+◌, ◌*◌, ◌≤◌, Bool, true, false, cond, eqb, List, [], ◌∷◌, ◌++◌, length, Some, None, ap, arith}
+use Rattle.std.proofs.Common.{
+  ◌≡◌,
+  refl,
+  sym,
+  ◌∙◌,
+  ℕ,
+  ◌+◌,
+  ◌*◌,
+  ◌≤◌,
+  Bool,
+  true,
+  false,
+  cond,
+  eqb,
+  List,
+  [],
+  ◌∷◌,
+  ◌++◌,
+  length,
+  Some,
+  None,
+  ap,
+  arith,
+}
 use Rattle.std.specs.Prelude.{nat_le, ◌==◌, ◌||◌}
 use Rattle.std.proofs.lemmas.Bool.{eqb-true}
 use Rattle.std.specs.List.{list_all}
 use Rattle.std.specs.Int.{byte_len}
 use Rattle.std.proofs.lemmas.List.{length-append}
 use Rattle.std.proofs.Math.Nat.{mul-le-mul_right}
-use Rattle.tt_frame.specs.FieldForms.{Named, count_width, Field, u8, u16, u32, u64, within, truth, text, digest, optional_digest, raw, Value, spelled, Fits}
+use Rattle.tt_frame.specs.FieldForms.{
+  Named,
+  count_width,
+  Field,
+  u8,
+  u16,
+  u32,
+  u64,
+  within,
+  truth,
+  text,
+  digest,
+  optional_digest,
+  raw,
+  Value,
+  spelled,
+  Fits,
+}
 use Rattle.tt_frame.specs.ItemForms.{Item, item_spelled, ItemFits, items_spelled, ItemsFit, marked_spelled}
 use Rattle.tt_frame.specs.Rows.{Row, unknown, end, rest, ◌▸◌, fixed, counted, marked, Maker, RowSpells}
 use Rattle.tt_frame.specs.Tables.{Rule, rule_of, SpelledBy}
@@ -56,43 +96,67 @@ field_size (raw n) x fits = omega (arith, fits)
 
 item_size : (fs : List Named) (x : Item fs) → ItemFits fs x → length (item_spelled fs x) ≤ longest_item fs
 item_size [] x fits = omega arith
-item_size (f ∷ fs) x fits = omega (arith, length-append (spelled f.field x.0) (item_spelled fs x.1), field_size f.field x.0 fits.0, item_size fs x.1 fits.1)
+item_size (f ∷ fs) x fits =
+    omega (arith, length-append (spelled f.field x.0) (item_spelled fs x.1), field_size f.field x.0 fits.0, item_size fs x.1 fits.1)
 
 items_size : (fs : List Named) (xs : List (Item fs)) → ItemsFit fs xs → length (items_spelled fs xs) ≤ length xs * longest_item fs
 items_size fs [] fits = omega arith
-items_size fs (x ∷ xs) fits = omega (arith, length-append (item_spelled fs x) (items_spelled fs xs), item_size fs x fits.0, items_size fs xs fits.1)
+items_size fs (x ∷ xs) fits =
+    omega (arith, length-append (item_spelled fs x) (items_spelled fs xs), item_size fs x fits.0, items_size fs xs fits.1)
 
-marked_size : (fs : List Named) (xs : List (Item fs)) → ItemsFit fs xs → length (marked_spelled fs xs) ≤ length xs * (1 + longest_item fs) + 1
+marked_size : (fs : List Named) (xs : List (Item fs)) → ItemsFit fs xs → length (marked_spelled fs xs) ≤ length xs * (1 + longest_item fs)
+    + 1
 marked_size fs [] fits = omega arith
-marked_size fs (x ∷ xs) fits = omega (arith, length-append (item_spelled fs x) (marked_spelled fs xs), item_size fs x fits.0, marked_size fs xs fits.1)
+marked_size fs (x ∷ xs) fits =
+    omega (arith, length-append (item_spelled fs x) (marked_spelled fs xs), item_size fs x fits.0, marked_size fs xs fits.1)
 
 pub row_size : (M : Type 0) (r : Row) (make : Maker r M) (m : M) (body : List ℕ) → RowSpells r make m body → length body ≤ longest r
 row_size M unknown make m body h = absurd h
 row_size M end make m body h = omega (arith, ap length h.1)
 row_size M (rest low high) make m body h = h.2
-row_size M (f ▸ r) make m body (x, (after, (fits, parts, more))) = omega (arith, ap length parts, length-append (spelled f.field x) after, field_size f.field x fits, row_size M r (make x) m after more)
+row_size M (f ▸ r) make m body (x, (after, (fits, parts, more))) =
+    omega (arith, ap length parts, length-append (spelled f.field x) after, field_size f.field x fits, row_size M r (make x) m after more)
 row_size M (fixed b r) make m body (after, (parts, more)) = omega (arith, ap length parts, row_size M r make m after more)
 row_size M (counted w max fs r) make m body (xs, (after, (fits, items_fit, parts, more))) =
     let count = spelled (within w max) (length xs) in
     let some : length xs * longest_item fs ≤ max * longest_item fs = mul-le-mul_right (longest_item fs) fits.0 in
-    omega (arith, ap length parts, length-append (count ++ items_spelled fs xs) after, length-append count (items_spelled fs xs), (wide_count w).len (length xs), items_size fs xs items_fit, row_size M r (make xs) m after more)
+    omega (
+      arith,
+      ap length parts,
+      length-append (count ++ items_spelled fs xs) after,
+      length-append count (items_spelled fs xs),
+      (wide_count w).len (length xs),
+      items_size fs xs items_fit,
+      row_size M r (make xs) m after more,
+    )
 row_size M (marked max fs r) make m body (xs, (after, (few, items_fit, parts, more))) =
     let some : length xs * (1 + longest_item fs) ≤ max * (1 + longest_item fs) = mul-le-mul_right (1 + longest_item fs) few in
-    omega (arith, ap length parts, length-append (marked_spelled fs xs) after, marked_size fs xs items_fit, row_size M r (make xs) m after more)
+    omega (
+      arith,
+      ap length parts,
+      length-append (marked_spelled fs xs) after,
+      marked_size fs xs items_fit,
+      row_size M r (make xs) m after
+          more,
+    )
 
 -- a table whose bodies have at most that many bytes
 abbrev pub is_short : {M : Type 0} → ℕ → List (Rule M) → Bool
 is_short most table = list_all (λ l. nat_le (longest l.fields) most) table
 
-by_test : (M : Type 0) (most : ℕ) (l k : Rule M) (m : M) (body : List ℕ) → longest l.fields ≤ most → (b : Bool) → (RowSpells k.fields k.make m body → length body ≤ most) → (let j = cond b l k in RowSpells j.fields j.make m body) → length body ≤ most
+by_test : (M : Type 0) (most : ℕ) (l k : Rule M) (m : M) (body : List ℕ) → longest l.fields ≤ most → (b : Bool)
+    → (RowSpells k.fields k.make m body → length body ≤ most) → (let j = cond b l k in RowSpells j.fields j.make m body)
+    → length body ≤ most
 by_test M most l k m body short true others h = omega (arith, row_size M l.fields l.make m body h)
 by_test M most l k m body short false others h = others h
 
-pub body_size : (M : Type 0) (most : ℕ) (table : List (Rule M)) (m : M) (kind : ℕ) (body : List ℕ) → is_short most table ≡ true → SpelledBy table m kind body → length body ≤ most
+pub body_size : (M : Type 0) (most : ℕ) (table : List (Rule M)) (m : M) (kind : ℕ) (body : List ℕ) → is_short most table ≡ true
+    → SpelledBy table m kind body → length body ≤ most
 body_size M most [] m kind body short h = absurd h
 body_size M most (l ∷ ls) m kind body short h =
     let both = and_both (nat_le (longest l.fields) most) (is_short most ls) short in
-    by_test M most l (rule_of ls kind) m body (le_of_test (longest l.fields) most both.0) (eqb kind l.kind) (body_size M most ls m kind body both.1) h
+    by_test M most l (rule_of ls kind) m body (le_of_test (longest l.fields) most both.0) (eqb kind l.kind) (body_size M most ls m kind
+    body both.1) h
 
 -- ---- tables of which some messages are longer
 
@@ -108,15 +172,19 @@ short_of : (b : Bool) (n most : ℕ) → b ≡ false → (b || nat_le n most) �
 short_of true n most off e = absurd cc
 short_of false n most off e = le_of_test n most e
 
-by_test_but : (M : Type 0) (ks : List ℕ) (most : ℕ) (l k : Rule M) (m : M) (kind : ℕ) (body : List ℕ) → (is_one_of ks l.kind || nat_le (longest l.fields) most) ≡ true → is_one_of ks kind ≡ false → (b : Bool) → eqb kind l.kind ≡ b
-    → (RowSpells k.fields k.make m body → length body ≤ most) → (let j = cond b l k in RowSpells j.fields j.make m body) → length body ≤ most
+by_test_but : (M : Type 0) (ks : List ℕ) (most : ℕ) (l k : Rule M) (m : M) (kind : ℕ) (body : List ℕ)
+    → (is_one_of ks l.kind || nat_le (longest l.fields) most) ≡ true → is_one_of ks kind ≡ false → (b : Bool) → eqb kind l.kind ≡ b
+    → (RowSpells k.fields k.make m body → length body ≤ most) → (let j = cond b l k in RowSpells j.fields j.make m body)
+    → length body ≤ most
 by_test_but M ks most l k m kind body short other true same others h =
     let here : is_one_of ks l.kind ≡ false = ap (λ (n : ℕ). is_one_of ks n) (sym (eqb-true kind l.kind same)) ∙ other in
     omega (arith, row_size M l.fields l.make m body h, short_of (is_one_of ks l.kind) (longest l.fields) most here short)
 by_test_but M ks most l k m kind body short other false same others h = others h
 
-pub body_size_but : (M : Type 0) (ks : List ℕ) (most : ℕ) (table : List (Rule M)) (m : M) (kind : ℕ) (body : List ℕ) → is_short_but ks most table ≡ true → is_one_of ks kind ≡ false → SpelledBy table m kind body → length body ≤ most
+pub body_size_but : (M : Type 0) (ks : List ℕ) (most : ℕ) (table : List (Rule M)) (m : M) (kind : ℕ) (body : List ℕ)
+    → is_short_but ks most table ≡ true → is_one_of ks kind ≡ false → SpelledBy table m kind body → length body ≤ most
 body_size_but M ks most [] m kind body short other h = absurd h
 body_size_but M ks most (l ∷ ls) m kind body short other h =
     let both = and_both (is_one_of ks l.kind || nat_le (longest l.fields) most) (is_short_but ks most ls) short in
-    by_test_but M ks most l (rule_of ls kind) m kind body both.0 other (eqb kind l.kind) refl (body_size_but M ks most ls m kind body both.1 other) h
+    by_test_but M ks most l (rule_of ls kind) m kind body both.0 other (eqb kind l.kind) refl (body_size_but M ks most ls m kind body
+    both.1 other) h

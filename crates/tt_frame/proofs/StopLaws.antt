@@ -1,13 +1,78 @@
 -- Where reading fails, the row stops: up to there the fields stand, and there the next one doesn't.
-use Rattle.std.proofs.Common.{◌≡◌, ℕ, zero, suc, ◌+◌, Bool, true, false, cond, ltb, eqb, List, [], ◌∷◌, length, take, Option, Some, None, Result, Ok, Err, refl, sym, ap, subst, ◌∙◌, arith, ◌⊎◌, ◌↔◌, inl, inr}
+use Rattle.std.proofs.Common.{
+  ◌≡◌,
+  ℕ,
+  zero,
+  suc,
+  ◌+◌,
+  Bool,
+  true,
+  false,
+  cond,
+  ltb,
+  eqb,
+  List,
+  [],
+  ◌∷◌,
+  length,
+  take,
+  Option,
+  Some,
+  None,
+  Result,
+  Ok,
+  Err,
+  refl,
+  sym,
+  ap,
+  subst,
+  ◌∙◌,
+  arith,
+  ◌⊎◌,
+  ◌↔◌,
+  inl,
+  inr,
+}
 use Rattle.std.specs.Prelude.{◌||◌, ◌==◌}
 use Rattle.std.specs.Int.{w8, w16, w32, w64, byte_len, from_le_bytes, to_le_bytes, Width}
 use borrow.Author.Tests.{ltb-true}
 use Rattle.tt_frame.specs.Packet.{IsBytes}
 use Rattle.tt_frame.specs.Unread.{Unread, skip, GoesOver}
 use Rattle.tt_frame.specs.Text.{is_text, is_digest}
-use Rattle.tt_frame.specs.Reading.{◌>>=◌, number_at, within_at, truth_at, fixed_at, before_zero, kept, kept_or_none, text_at, digest_at, optional_digest_at, raw_at}
-use Rattle.tt_frame.specs.FieldForms.{Named, count_width, Field, u8, u16, u32, u64, within, up_to, truth, text, digest, optional_digest, raw, Value, spelled, Fits, field_at}
+use Rattle.tt_frame.specs.Reading.{
+  ◌>>=◌,
+  number_at,
+  within_at,
+  truth_at,
+  fixed_at,
+  before_zero,
+  kept,
+  kept_or_none,
+  text_at,
+  digest_at,
+  optional_digest_at,
+  raw_at,
+}
+use Rattle.tt_frame.specs.FieldForms.{
+  Named,
+  count_width,
+  Field,
+  u8,
+  u16,
+  u32,
+  u64,
+  within,
+  up_to,
+  truth,
+  text,
+  digest,
+  optional_digest,
+  raw,
+  Value,
+  spelled,
+  Fits,
+  field_at,
+}
 use Rattle.tt_frame.specs.ItemForms.{item_spelled, item_at, items_spelled, items_at, marked_spelled, marked_at}
 use Rattle.tt_frame.specs.Rows.{Row, unknown, end, rest, ◌▸◌, fixed, counted, marked, Maker, row_at}
 use Rattle.tt_frame.specs.Stops.{FieldStops, FixedStops, ItemStops, ItemsStop, MarkedStops, RowStops}
@@ -20,7 +85,8 @@ same_err d e r o a b c =
     let same : d ≡ e = cc in
     a ∙ ap Err same
 
-bind_err : {A B : Type 0} (r : Result A ℕ) (f : A → Result B ℕ) (e : ℕ) → (r >>= f) ≡ Err e → (r ≡ Err e) ⊎ ((x : A) × ((r ≡ Ok x) × (f x ≡ Err e)))
+bind_err : {A B : Type 0} (r : Result A ℕ) (f : A → Result B ℕ) (e : ℕ) → (r >>= f) ≡ Err e → (r ≡ Err e)
+    ⊎ ((x : A) × ((r ≡ Ok x) × (f x ≡ Err e)))
 bind_err (Ok x) f e h = inr (x, (refl, h))
 bind_err {A} {B} (Err d) f e h = inl (same_err d e (Err d) ((Err d) >>= f) refl refl h)
 
@@ -34,7 +100,8 @@ passed_err false d e x h = (refl, cc)
 
 number_place : (w : Width) (s : Unread) (at : ℕ) → number_at w s ≡ Err at → at ≡ s.at
 unfolding number_at
-number_place w s at e = (guard_err (ltb (length s.rest) (byte_len w)) s.at at (from_le_bytes w (take (byte_len w) s.rest), skip (byte_len w) s) e).1
+number_place w s at e =
+    (guard_err (ltb (length s.rest) (byte_len w)) s.at at (from_le_bytes w (take (byte_len w) s.rest), skip (byte_len w) s) e).1
 
 within_place : (w : Width) (max : ℕ) (s : Unread) (at : ℕ) → within_at w max s ≡ Err at → at ≡ s.at
 unfolding within_at
@@ -92,13 +159,15 @@ never x at r e o = let h : Err at ≡ Ok x = sym e ∙ o in cc
 field_stops : (f : Field) (s : Unread) (at : ℕ) → field_at f s ≡ Err at → FieldStops f s at
 field_stops f s at e = (
   field_place f s at e,
-  λ x after fits parts. never (x, unread (s.at + length (spelled f x)) after) at (field_at f s) e (ap (λ (bs : List ℕ). field_at f (unread s.at bs)) parts ∙ field_again f x s.at after fits),
+  λ x after fits parts. never (x, unread (s.at + length (spelled f x)) after) at (field_at f s) e
+      (ap (λ (bs : List ℕ). field_at f (unread s.at bs)) parts ∙ field_again f x s.at after fits),
 )
 
 fixed_stops : (b : ℕ) (s : Unread) (at : ℕ) → fixed_at b s ≡ Err at → FixedStops b s at
 fixed_stops b s at e = (
   fixed_place b s at e,
-  λ after parts. never (unread (s.at + 1) after) at (fixed_at b s) e (ap (λ (bs : List ℕ). fixed_at b (unread s.at bs)) parts ∙ fixed_again b s.at after),
+  λ after parts. never (unread (s.at + 1) after) at (fixed_at b s) e (ap (λ (bs : List ℕ). fixed_at b (unread s.at bs)) parts
+      ∙ fixed_again b s.at after),
 )
 
 goes : (s : Unread) (bytes : List ℕ) (t : Unread) → Takes s bytes t → GoesOver s bytes t
@@ -106,7 +175,8 @@ goes s bytes t taken = record { parts = taken.parts; place = taken.place }
 
 -- ---- reading a field is exact, both ways
 
-pub field_there : (f : Field) (s t : Unread) (x : Value f) → IsBytes s.rest → (field_at f s ≡ Ok (x, t)) ↔ (Fits f x × GoesOver s (spelled f x) t)
+pub field_there : (f : Field) (s t : Unread) (x : Value f) → IsBytes s.rest → (field_at f s ≡ Ok (x, t)) ↔ (Fits f x
+    × GoesOver s (spelled f x) t)
 field_there f s t x fits = (
   λ e. let taken = field_takes f s x t fits e in (taken.1, goes s (spelled f x) t taken.0),
   λ there.
@@ -115,7 +185,8 @@ field_there f s t x fits = (
       ∙ ap (λ (n : ℕ). Ok (x, unread n t.rest)) (sym there.1.place),
 )
 
-absent_is : (f : Field) (s : Unread) (at : ℕ) (r : Result (Value f × Unread) ℕ) → IsBytes s.rest → field_at f s ≡ r → FieldStops f s at → r ≡ Err at
+absent_is : (f : Field) (s : Unread) (at : ℕ) (r : Result (Value f × Unread) ℕ) → IsBytes s.rest → field_at f s ≡ r → FieldStops f s at
+    → r ≡ Err at
 absent_is f s at (Ok x) fits e stops =
     let taken = field_takes f s x.0 x.1 fits e in
     absurd (stops.1 x.0 x.1.rest taken.1 taken.0.parts)
@@ -134,7 +205,18 @@ item_stops (f ∷ fs) s at fits e =
       | inr p ↦
           let taken = field_takes f.field s p.0.0 p.0.1 fits p.1.0 in
           elim (bind_err (item_at fs p.0.1) (λ y. Ok ((p.0.0, y.0), y.1)) at p.1.1) [
-            | inl h ↦ inr (p.0.0, (p.0.1, (taken.1, goes s (spelled f.field p.0.0) p.0.1 taken.0, item_stops fs p.0.1 at taken.0.rest_fits h)))
+            | inl h ↦ inr (
+              p.0.0,
+              (
+                p.0.1,
+                (
+                  taken.1,
+                  goes s (spelled f.field p.0.0) p.0.1 taken.0,
+                  item_stops fs p.0.1 at taken.0.rest_fits
+                      h,
+                ),
+              ),
+            )
             | inr q ↦ absurd (let h = q.1.1 in cc)
           ]
     ]
@@ -148,7 +230,18 @@ items_stop fs (suc n) s at fits e =
       | inr p ↦
           let taken = item_takes fs s p.0.0 p.0.1 fits p.1.0 in
           elim (bind_err (items_at fs n p.0.1) (λ y. Ok (p.0.0 ∷ y.0, y.1)) at p.1.1) [
-            | inl h ↦ inr (p.0.0, (p.0.1, (taken.1, goes s (item_spelled fs p.0.0) p.0.1 taken.0, items_stop fs n p.0.1 at taken.0.rest_fits h)))
+            | inl h ↦ inr (
+              p.0.0,
+              (
+                p.0.1,
+                (
+                  taken.1,
+                  goes s (item_spelled fs p.0.0) p.0.1 taken.0,
+                  items_stop fs n p.0.1 at
+                      taken.0.rest_fits h,
+                ),
+              ),
+            )
             | inr q ↦ absurd (let h = q.1.1 in cc)
           ]
     ]
@@ -161,14 +254,17 @@ marked_stops fs zero s at fits e =
       | inr p ↦ absurd (let h = p.1.1 in cc)
     ]
 marked_stops fs (suc n) s at fits e =
-    elim (bind_err (within_at w8 1 s) (λ m. cond (eqb m.0 0) (Ok ([], m.1)) (item_at fs m.1 >>= λ x. marked_at fs n x.1 >>= λ ys. Ok (x.0 ∷ ys.0, ys.1))) at e) [
+    elim (bind_err (within_at w8 1 s) (λ m. cond (eqb m.0 0) (Ok ([], m.1)) (item_at fs m.1 >>= λ x. marked_at fs n x.1 >>= λ ys. Ok
+    (x.0 ∷ ys.0, ys.1))) at e) [
       | inl h ↦ inl (field_stops (up_to 1) s at h)
       | inr p ↦
-          elim (chosen (eqb p.0.0 0) (Ok ([], p.0.1)) (item_at fs p.0.1 >>= λ x. marked_at fs n x.1 >>= λ ys. Ok (x.0 ∷ ys.0, ys.1)) (Err at) p.1.1) [
+          elim (chosen (eqb p.0.0 0) (Ok ([], p.0.1)) (item_at fs p.0.1 >>= λ x. marked_at fs n x.1 >>= λ ys. Ok (x.0 ∷ ys.0, ys.1))
+          (Err at) p.1.1) [
             | inl h ↦ absurd (let g = h.1 in cc)
             | inr h ↦
                 let count = field_takes (up_to 1) s p.0.0 p.0.1 fits p.1.0 in
-                let mark : Takes s (1 ∷ []) p.0.1 = subst (λ (k : ℕ). Takes s (to_le_bytes w8 k) p.0.1) (is_one p.0.0 count.1.0 h.0) count.0 in
+                let mark : Takes s (1 ∷ []) p.0.1 =
+                subst (λ (k : ℕ). Takes s (to_le_bytes w8 k) p.0.1) (is_one p.0.0 count.1.0 h.0) count.0 in
                 inr (
                   p.0.1,
                   (
@@ -178,7 +274,17 @@ marked_stops fs (suc n) s at fits e =
                       | inr q ↦
                           let taken = item_takes fs p.0.1 q.0.0 q.0.1 mark.rest_fits q.1.0 in
                           elim (bind_err (marked_at fs n q.0.1) (λ ys. Ok (q.0.0 ∷ ys.0, ys.1)) at q.1.1) [
-                            | inl g ↦ inr (q.0.0, (q.0.1, (taken.1, goes p.0.1 (item_spelled fs q.0.0) q.0.1 taken.0, marked_stops fs n q.0.1 at taken.0.rest_fits g)))
+                            | inl g ↦ inr (
+                              q.0.0,
+                              (
+                                q.0.1,
+                                (
+                                  taken.1,
+                                  goes p.0.1 (item_spelled fs q.0.0) q.0.1 taken.0,
+                                  marked_stops fs n q.0.1 at taken.0.rest_fits g,
+                                ),
+                              ),
+                            )
                             | inr z ↦ absurd (let g = z.1.1 in cc)
                           ]
                     ],
@@ -191,20 +297,37 @@ either_over : (a b : Bool) → (a || b) ≡ true → (a ≡ true) ⊎ (b ≡ tru
 either_over true b e = inl refl
 either_over false b e = inr e
 
-pub row_stops : (M : Type 0) (r : Row) (make : Maker r M) (s : Unread) (at : ℕ) → IsBytes s.rest → row_at r make s ≡ Err at → RowStops r s at
+pub row_stops : (M : Type 0) (r : Row) (make : Maker r M) (s : Unread) (at : ℕ) → IsBytes s.rest → row_at r make s ≡ Err at
+    → RowStops r s at
 row_stops M unknown make s at fits e = cc
 row_stops M end make s at fits e =
     let g = passed_err (eqb (length s.rest) 0) s.at at make e in
     (g.1, grind (arith, g.0))
 row_stops M (rest low high) make s at fits e =
-    let g = guard_err (ltb (length s.rest) low || ltb high (length s.rest)) s.at at (make s.rest) e in
-    (g.1, elim (either_over (ltb (length s.rest) low) (ltb high (length s.rest)) g.0) [ inl h ↦ inl (ltb-true _ _ h) | inr h ↦ inr (ltb-true _ _ h) ])
+    let g = guard_err (ltb (length s.rest) low || ltb high (length s.rest)) s.at at (make s.rest) e in (
+      g.1,
+      elim (either_over (ltb (length s.rest) low) (ltb high (length s.rest)) g.0) [
+        | inl h ↦ inl (ltb-true _ _ h)
+        | inr h ↦ inr (ltb-true _ _ h)
+      ],
+    )
 row_stops M (f ▸ r) make s at fits e =
     elim (bind_err (field_at f.field s) (λ x. row_at r (make x.0) x.1) at e) [
       | inl h ↦ inl (field_stops f.field s at h)
       | inr p ↦
           let taken = field_takes f.field s p.0.0 p.0.1 fits p.1.0 in
-          inr (p.0.0, (p.0.1, (taken.1, goes s (spelled f.field p.0.0) p.0.1 taken.0, row_stops M r (make p.0.0) p.0.1 at taken.0.rest_fits p.1.1)))
+          inr (
+            p.0.0,
+            (
+              p.0.1,
+              (
+                taken.1,
+                goes s (spelled f.field p.0.0) p.0.1 taken.0,
+                row_stops M r (make p.0.0) p.0.1 at taken.0.rest_fits
+                    p.1.1,
+              ),
+            ),
+          )
     ]
 row_stops M (fixed b r) make s at fits e =
     elim (bind_err (fixed_at b s) (λ t. row_at r make t) at e) [
@@ -229,7 +352,18 @@ row_stops M (counted w max fs r) make s at fits e =
                   | inl h ↦ inl (items_stop fs p.0.0 p.0.1 at count.0.rest_fits h)
                   | inr q ↦
                       let taken = items_take fs p.0.0 p.0.1 q.0.0 q.0.1 count.0.rest_fits q.1.0 in
-                      inr (q.0.0, (q.0.1, (taken.1, goes p.0.1 (items_spelled fs q.0.0) q.0.1 taken.0, row_stops M r (make q.0.0) q.0.1 at taken.0.rest_fits q.1.1)))
+                      inr (
+                        q.0.0,
+                        (
+                          q.0.1,
+                          (
+                            taken.1,
+                            goes p.0.1 (items_spelled fs q.0.0) q.0.1 taken.0,
+                            row_stops M r (make q.0.0) q.0.1 at
+                                taken.0.rest_fits q.1.1,
+                          ),
+                        ),
+                      )
                 ],
               ),
             ),
@@ -240,5 +374,16 @@ row_stops M (marked max fs r) make s at fits e =
       | inl h ↦ inl (marked_stops fs max s at fits h)
       | inr p ↦
           let taken = marked_take fs max s p.0.0 p.0.1 fits p.1.0 in
-          inr (p.0.0, (p.0.1, (taken.1, goes s (marked_spelled fs p.0.0) p.0.1 taken.0, row_stops M r (make p.0.0) p.0.1 at taken.0.rest_fits p.1.1)))
+          inr (
+            p.0.0,
+            (
+              p.0.1,
+              (
+                taken.1,
+                goes s (marked_spelled fs p.0.0) p.0.1 taken.0,
+                row_stops M r (make p.0.0) p.0.1 at
+                    taken.0.rest_fits p.1.1,
+              ),
+            ),
+          )
     ]

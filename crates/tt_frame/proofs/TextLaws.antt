@@ -12,7 +12,8 @@ use Rattle.tt_frame.proofs.TestLaws.{and_both, both_and, or_either, le_of_test, 
 use Rattle.tt_frame.specs.Text.{IsText, is_text, is_shown, is_plain, is_digest, is_hex_digit}
 
 -- the three parts of the test
-parts_of : (max : ℕ) (bytes : List ℕ) → is_text max bytes ≡ true → (length bytes ≤ max) × (list_all is_shown bytes ≡ true) × (is_utf8 bytes ≡ true)
+parts_of : (max : ℕ) (bytes : List ℕ) → is_text max bytes ≡ true → (length bytes ≤ max) × (list_all is_shown bytes ≡ true)
+    × (is_utf8 bytes ≡ true)
 unfolding is_text
 parts_of max bytes e =
     let all = and_both (nat_le (length bytes) max && list_all is_shown bytes) (is_utf8 bytes) e in
@@ -39,7 +40,8 @@ is_text-from_IsText max bytes t le =
     (is_utf8-from_IsUtf8 bytes t.utf8)
 
 pub text_test_is : (max : ℕ) (bytes : List ℕ) → (is_text max bytes ≡ true) ↔ (IsText bytes × (length bytes ≤ max))
-text_test_is max bytes = ((λ e. (IsText-from_is_text max bytes e, length_of_text max bytes e)), (λ t. is_text-from_IsText max bytes t.0 t.1))
+text_test_is max bytes =
+    ((λ e. (IsText-from_is_text max bytes e, length_of_text max bytes e)), (λ t. is_text-from_IsText max bytes t.0 t.1))
 
 -- where the test is false there is no such text
 pub no_text : (max : ℕ) (bytes : List ℕ) → is_text max bytes ≡ false → IsText bytes × (length bytes ≤ max) → ⊥
@@ -59,7 +61,8 @@ pub IsText-from_is_plain : (bytes : List ℕ) → is_plain bytes ≡ true → Is
 IsText-from_is_plain bytes e =
     let each = AllPass-from_list_all (λ b. nat_le 32 b && nat_le b 126) bytes e in
     record {
-      utf8 = IsUtf8-from_ascii bytes (IsAscii-from_all bytes (All-weaker (λ b. nat_le 32 b && nat_le b 126 ≡ true) (λ b. b < 128) (λ b p. let le = (plain_byte b p).1 in omega arith) bytes each));
+      utf8 = IsUtf8-from_ascii bytes (IsAscii-from_all bytes (All-weaker (λ b. nat_le 32 b && nat_le b 126 ≡ true) (λ b. b < 128)
+          (λ b p. let le = (plain_byte b p).1 in omega arith) bytes each));
       shown = All-weaker (λ b. nat_le 32 b && nat_le b 126 ≡ true) (λ b. 32 ≤ b) (λ b p. (plain_byte b p).0) bytes each;
     }
 
@@ -70,8 +73,10 @@ length_of_digest bytes e = eq_of_test (length bytes) 32 (and_both (length bytes 
 -- a hexadecimal digit is a printable character
 plain_digit : (b : ℕ) → is_hex_digit b ≡ true → nat_le 32 b && nat_le b 126 ≡ true
 plain_digit b e = elim (or_either (nat_le 48 b && nat_le b 57) (nat_le 97 b && nat_le b 102) e) [
-  | inl low ↦ let both = and_both (nat_le 48 b) (nat_le b 57) low in both_and (nat_le 32 b) (nat_le b 126) (test_of_le 32 b (let le = le_of_test 48 b both.0 in omega arith)) (test_of_le b 126 (let le = le_of_test b 57 both.1 in omega arith))
-  | inr high ↦ let both = and_both (nat_le 97 b) (nat_le b 102) high in both_and (nat_le 32 b) (nat_le b 126) (test_of_le 32 b (let le = le_of_test 97 b both.0 in omega arith)) (test_of_le b 126 (let le = le_of_test b 102 both.1 in omega arith))
+  | inl low ↦ let both = and_both (nat_le 48 b) (nat_le b 57) low in both_and (nat_le 32 b) (nat_le b 126) (test_of_le 32 b (let le =
+      le_of_test 48 b both.0 in omega arith)) (test_of_le b 126 (let le = le_of_test b 57 both.1 in omega arith))
+  | inr high ↦ let both = and_both (nat_le 97 b) (nat_le b 102) high in both_and (nat_le 32 b) (nat_le b 126) (test_of_le 32 b (let le =
+      le_of_test 97 b both.0 in omega arith)) (test_of_le b 126 (let le = le_of_test b 102 both.1 in omega arith))
 ]
 
 digits_of : (bytes : List ℕ) → is_digest bytes ≡ true → list_all is_hex_digit bytes ≡ true
@@ -80,7 +85,9 @@ digits_of bytes e = (and_both (length bytes == 32) (list_all is_hex_digit bytes)
 
 -- a digest is a text
 pub IsText-from_is_digest : (bytes : List ℕ) → is_digest bytes ≡ true → IsText bytes
-IsText-from_is_digest bytes e = IsText-from_is_plain bytes (list_all-from_AllPass (λ b. nat_le 32 b && nat_le b 126) bytes (All-weaker (λ b. is_hex_digit b ≡ true) (λ b. nat_le 32 b && nat_le b 126 ≡ true) plain_digit bytes (AllPass-from_list_all is_hex_digit bytes (digits_of bytes e))))
+IsText-from_is_digest bytes e = IsText-from_is_plain bytes (list_all-from_AllPass (λ b. nat_le 32 b && nat_le b 126) bytes
+    (All-weaker (λ b. is_hex_digit b ≡ true) (λ b. nat_le 32 b && nat_le b 126 ≡ true) plain_digit bytes (AllPass-from_list_all
+    is_hex_digit bytes (digits_of bytes e))))
 
 -- of bytes that are few enough only the test of a text of any length is left
 pub is_text-short : (max : ℕ) (bytes : List ℕ) → length bytes ≤ max → is_text max bytes ≡ (list_all is_shown bytes && is_utf8 bytes)

@@ -3,10 +3,11 @@
 //! - `Text`, `Name`, `Digest` and `UpTo` are values within their limits: each is made by one tested constructor.
 //! - `Fields` reads a body field by field and `Put` writes fields; `one_field` is the law of reading.
 //! - `Framer` gives the packets of a stream that comes in pieces; `one_reading` and `every_run` are its laws.
-//! - The message crates stand on `text`, `number32`, `ended` and the like for decoding, and for encoding on `append`, or
-//!   on `put_head` and `finish` where a body is written item by item. What a table of messages means is in specs/:
-//!   FieldForms, ItemForms, Rows, Stops, Tables, Apart.
-//! - `OutOfMemory` and `Bad` are the errors. Only `Framer::new` and what writes take memory, and nothing waits.
+//! - The message crates stand on `text`, `number32`, `ended` and the like for decoding; a message tells its parts to a
+//!   `PartWriter` by `tell`, and `finish` ends its packet. `Items` is a list within its limit, `LongText` a text behind an
+//!   allocation. What a table of messages means is in specs/: FieldForms, ItemForms, Rows, Stops, Tables, Apart, Families.
+//! - `OutOfMemory` and `Bad` are the errors. Only `Framer::new`, lists, long texts and what writes take memory, and nothing
+//!   waits.
 #![tactic(auto)]
 
 mod bad;
@@ -40,5 +41,5 @@ pub use memory::OutOfMemory;
 pub use parts::{Part, PartWriter, tell};
 pub use put::Put;
 pub use ranges::UpTo;
-pub use sealing::{finish, put_head};
+pub use sealing::finish;
 pub use texts::{Line, Name, Short, Text};

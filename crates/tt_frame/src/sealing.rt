@@ -1,21 +1,13 @@
-//! A packet that is written in steps: its head, then its body field by field, and at last its size.
+//! The end of a packet that is written part by part: its size.
 //!
-//! `put_head(out, kind)` begins it and `finish(out, start, written)` ends it, where `start` is the length that `out` had
-//! before the head and `written` is what the steps answered: the packet stands whole, or nothing of it stands.
+//! A message tells its head and its parts to a vector (`Part::Head` stands for two bytes of size and the number), and then
+//! `finish(out, start, written)` ends the packet, where `start` is the length that `out` had before the head and `written` is
+//! what the parts answered: the packet stands whole, or nothing of it stands.
 ghost use Rattle.std.specs.Prelude.{◌≡◌, ℕ, List, ◌≤◌, ◌+◌, [], ◌∷◌, ◌++◌, length, take, vec_len, OnOk, OnErr};
 ghost use Rattle.tt_frame.specs.Packet.{packet};
 ghost use Rattle.tt_frame.specs.Parts.{sealed};
 
 use crate::memory::OutOfMemory;
-use crate::put::Put;
-
-/// Two bytes for the size, which `finish` writes, and the number.
-pub fn put_head(out: &mut Vec<u8>, kind: u8) -> Result<(), OutOfMemory>
-    ensures ok { OnOk result (out.new.items ≡ out.old.items ++ 0 ∷ 0 ∷ kind ∷ []) }
-    ensures err { OnErr result (out.new.items ≡ out.old.items) }
-{
-    Put::raw(out, &[0, 0, kind])
-}
 
 /// Writes the size of the packet that begins at `start` over its first two bytes.
 #[tactic(auto, unfolding(crate::specs::Parts::sealed))]

@@ -3,7 +3,47 @@ use Rattle.std.specs.Prelude.{ℕ, List}
 use Rattle.tt_frame.specs.Apart.{Parted, part}
 use Rattle.tt_frame.specs.Families.{Family, family_kind, family_body}
 use Rattle.tt_game.specs.declared.message.GameMsg.{GameMsg}
-use Rattle.tt_game.specs.declared.message.GameMsg.TheVariants.{ServerFull, ServerBanned, ClientJoin, ServerError, ClientGameInfo, ServerGameInfo, ServerCheckNewgrfs, ClientNewgrfsChecked, ServerNeedGamePassword, ClientGamePassword, ServerNeedCompanyPassword, ClientCompanyPassword, ServerWelcome, ClientGetmap, ServerWait, ServerMapBegin, ServerMapSize, ServerMapData, ServerMapDone, ClientMapOk, ServerJoin, ServerFrame, ServerSync, ClientAck, ClientCommand, ServerCommand, ClientChat, ServerChat, ClientSetName, ServerClientInfo, ClientSetPassword, ClientMove, ServerMove, ClientError, ServerErrorQuit, ClientQuit, ServerQuit, ServerShutdown, ServerNewgame}
+use Rattle.tt_game.specs.declared.message.GameMsg.TheVariants.{
+  ServerFull,
+  ServerBanned,
+  ClientJoin,
+  ServerError,
+  ClientGameInfo,
+  ServerGameInfo,
+  ServerCheckNewgrfs,
+  ClientNewgrfsChecked,
+  ServerNeedGamePassword,
+  ClientGamePassword,
+  ServerNeedCompanyPassword,
+  ClientCompanyPassword,
+  ServerWelcome,
+  ClientGetmap,
+  ServerWait,
+  ServerMapBegin,
+  ServerMapSize,
+  ServerMapData,
+  ServerMapDone,
+  ClientMapOk,
+  ServerJoin,
+  ServerFrame,
+  ServerSync,
+  ClientAck,
+  ClientCommand,
+  ServerCommand,
+  ClientChat,
+  ServerChat,
+  ClientSetName,
+  ServerClientInfo,
+  ClientSetPassword,
+  ClientMove,
+  ServerMove,
+  ClientError,
+  ServerErrorQuit,
+  ClientQuit,
+  ServerQuit,
+  ServerShutdown,
+  ServerNewgame,
+}
 use Rattle.tt_game.specs.Messages.{messages}
 
 -- its number, and the values of its fields in order
@@ -13,7 +53,8 @@ apart ServerBanned = part messages 1 tt
 apart (ClientJoin revision grf name company) = part messages 2 (revision, (grf, (name, (company, tt))))
 apart (ServerError code) = part messages 3 (code, tt)
 apart ClientGameInfo = part messages 4 tt
-apart (ServerGameInfo name frame clients companies max password) = part messages 5 (name, (frame, (clients, (companies, (max, (password, tt))))))
+apart (ServerGameInfo name frame clients companies max password) =
+    part messages 5 (name, (frame, (clients, (companies, (max, (password, tt))))))
 apart (ServerCheckNewgrfs items) = part messages 6 (items, tt)
 apart ClientNewgrfsChecked = part messages 7 tt
 apart (ServerNeedGamePassword seed id) = part messages 8 (seed, (id, tt))
@@ -33,7 +74,8 @@ apart (ServerFrame frame max token) = part messages 21 (frame, (max, (token, tt)
 apart (ServerSync frame word) = part messages 22 (frame, (word, tt))
 apart (ClientAck frame token) = part messages 23 (frame, (token, tt))
 apart (ClientCommand company code number to text) = part messages 24 (company, (code, (number, (to, (text, tt)))))
-apart (ServerCommand company code number to text frame sender) = part messages 25 (company, (code, (number, (to, (text, (frame, (sender, tt)))))))
+apart (ServerCommand company code number to text frame sender) =
+    part messages 25 (company, (code, (number, (to, (text, (frame, (sender, tt)))))))
 apart (ClientChat scope to text) = part messages 26 (scope, (to, (text, tt)))
 apart (ServerChat client scope text) = part messages 27 (client, (scope, (text, tt)))
 apart (ClientSetName name) = part messages 28 (name, tt)

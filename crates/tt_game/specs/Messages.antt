@@ -5,7 +5,47 @@ use Rattle.tt_frame.specs.Rows.{end, rest, ◌▸◌, counted}
 use Rattle.tt_frame.specs.Tables.{Rule, row, SpelledBy}
 use Rattle.tt_game.specs.Items.{file}
 use Rattle.tt_game.specs.declared.message.GameMsg.{GameMsg}
-use Rattle.tt_game.specs.declared.message.GameMsg.TheVariants.{ServerFull, ServerBanned, ClientJoin, ServerError, ClientGameInfo, ServerGameInfo, ServerCheckNewgrfs, ClientNewgrfsChecked, ServerNeedGamePassword, ClientGamePassword, ServerNeedCompanyPassword, ClientCompanyPassword, ServerWelcome, ClientGetmap, ServerWait, ServerMapBegin, ServerMapSize, ServerMapData, ServerMapDone, ClientMapOk, ServerJoin, ServerFrame, ServerSync, ClientAck, ClientCommand, ServerCommand, ClientChat, ServerChat, ClientSetName, ServerClientInfo, ClientSetPassword, ClientMove, ServerMove, ClientError, ServerErrorQuit, ClientQuit, ServerQuit, ServerShutdown, ServerNewgame}
+use Rattle.tt_game.specs.declared.message.GameMsg.TheVariants.{
+  ServerFull,
+  ServerBanned,
+  ClientJoin,
+  ServerError,
+  ClientGameInfo,
+  ServerGameInfo,
+  ServerCheckNewgrfs,
+  ClientNewgrfsChecked,
+  ServerNeedGamePassword,
+  ClientGamePassword,
+  ServerNeedCompanyPassword,
+  ClientCompanyPassword,
+  ServerWelcome,
+  ClientGetmap,
+  ServerWait,
+  ServerMapBegin,
+  ServerMapSize,
+  ServerMapData,
+  ServerMapDone,
+  ClientMapOk,
+  ServerJoin,
+  ServerFrame,
+  ServerSync,
+  ClientAck,
+  ClientCommand,
+  ServerCommand,
+  ClientChat,
+  ServerChat,
+  ClientSetName,
+  ServerClientInfo,
+  ClientSetPassword,
+  ClientMove,
+  ServerMove,
+  ClientError,
+  ServerErrorQuit,
+  ClientQuit,
+  ServerQuit,
+  ServerShutdown,
+  ServerNewgame,
+}
 
 -- One line for each message: its number, its name, its fields in order with their names, and the variant that takes their
 -- values in that order.
@@ -16,7 +56,8 @@ messages =
     ∷ row 2 "CLIENT_JOIN" ("revision" ⦂ text 31 ▸ "grf" ⦂ u32 ▸ "name" ⦂ text 24 ▸ "company" ⦂ u8 ▸ end) ClientJoin
     ∷ row 3 "SERVER_ERROR" ("code" ⦂ up_to 20 ▸ end) ServerError
     ∷ row 4 "CLIENT_GAME_INFO" end ClientGameInfo
-    ∷ row 5 "SERVER_GAME_INFO" ("name" ⦂ text 31 ▸ "frame" ⦂ u32 ▸ "clients" ⦂ u8 ▸ "companies" ⦂ u8 ▸ "max" ⦂ u8 ▸ "password" ⦂ truth ▸ end) ServerGameInfo
+    ∷ row 5 "SERVER_GAME_INFO" ("name" ⦂ text 31 ▸ "frame" ⦂ u32 ▸ "clients" ⦂ u8 ▸ "companies" ⦂ u8 ▸ "max" ⦂ u8 ▸ "password" ⦂ truth ▸
+    end) ServerGameInfo
     ∷ row 6 "SERVER_CHECK_NEWGRFS" (counted byte 62 file end) ServerCheckNewgrfs
     ∷ row 7 "CLIENT_NEWGRFS_CHECKED" end ClientNewgrfsChecked
     ∷ row 8 "SERVER_NEED_GAME_PASSWORD" ("seed" ⦂ u32 ▸ "id" ⦂ text 31 ▸ end) ServerNeedGamePassword
@@ -36,7 +77,8 @@ messages =
     ∷ row 22 "SERVER_SYNC" ("frame" ⦂ u32 ▸ "word" ⦂ u32 ▸ end) ServerSync
     ∷ row 23 "CLIENT_ACK" ("frame" ⦂ u32 ▸ "token" ⦂ u8 ▸ end) ClientAck
     ∷ row 24 "CLIENT_COMMAND" ("company" ⦂ u8 ▸ "code" ⦂ u16 ▸ "number" ⦂ u32 ▸ "to" ⦂ u8 ▸ "text" ⦂ text 31 ▸ end) ClientCommand
-    ∷ row 25 "SERVER_COMMAND" ("company" ⦂ u8 ▸ "code" ⦂ u16 ▸ "number" ⦂ u32 ▸ "to" ⦂ u8 ▸ "text" ⦂ text 31 ▸ "frame" ⦂ u32 ▸ "sender" ⦂ u32 ▸ end) ServerCommand
+    ∷ row 25 "SERVER_COMMAND" ("company" ⦂ u8 ▸ "code" ⦂ u16 ▸ "number" ⦂ u32 ▸ "to" ⦂ u8 ▸ "text" ⦂ text 31 ▸ "frame" ⦂ u32 ▸ "sender" ⦂
+    u32 ▸ end) ServerCommand
     ∷ row 26 "CLIENT_CHAT" ("scope" ⦂ up_to 2 ▸ "to" ⦂ u32 ▸ "text" ⦂ text 899 ▸ end) ClientChat
     ∷ row 27 "SERVER_CHAT" ("client" ⦂ u32 ▸ "scope" ⦂ up_to 2 ▸ "text" ⦂ text 899 ▸ end) ServerChat
     ∷ row 28 "CLIENT_SET_NAME" ("name" ⦂ text 24 ▸ end) ClientSetName

@@ -9,7 +9,8 @@ use Rattle.tt_hub.specs.World.{world_at}
 use Rattle.tt_hub.specs.Table.{last_frame, is_unopened}
 use Rattle.tt_hub.specs.Stepped.{table_of, sent_of}
 
-pub record IsRunning (start : WorldState) (setup : Setup) (events : List Event) (table : Table) (world : WorldState) (out : List ℕ) : Type 0 where
+pub record IsRunning (start : WorldState) (setup : Setup) (events : List Event) (table : Table) (world : WorldState) (out : List ℕ) : Type
+    0 where
   pub table_is : table ≡ table_of setup events
   pub world_is : world ≡ world_at start table.frame
   pub out_is : out ≡ sent_of setup events 1

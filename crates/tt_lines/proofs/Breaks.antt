@@ -1,5 +1,31 @@
 -- Texts that a byte does not stand in: a line feed, or a blank.
-use Rattle.std.proofs.Common.{◌≡◌, ◌≢◌, ℕ, zero, suc, ◌+◌, ◌-◌, ◌<◌, ◌≤◌, ◌^◌, List, [], ◌∷◌, ◌++◌, length, get_or, take, drop, true, not, refl, sym, ap, ◌∙◌, arith}
+use Rattle.std.proofs.Common.{
+  ◌≡◌,
+  ◌≢◌,
+  ℕ,
+  zero,
+  suc,
+  ◌+◌,
+  ◌-◌,
+  ◌<◌,
+  ◌≤◌,
+  ◌^◌,
+  List,
+  [],
+  ◌∷◌,
+  ◌++◌,
+  length,
+  get_or,
+  take,
+  drop,
+  true,
+  not,
+  refl,
+  sym,
+  ap,
+  ◌∙◌,
+  arith,
+}
 use Rattle.std.specs.Prelude.{◌==◌}
 use Rattle.std.specs.List.{list_all}
 use Rattle.std.specs.Fmt.{decimal}
@@ -19,7 +45,8 @@ has_no-cons byte b text other none (suc i) lt = none i (omega (arith, lt))
 
 pub has_no-append : (byte : ℕ) (a b : List ℕ) → HasNo byte a → HasNo byte b → HasNo byte (a ++ b)
 has_no-append byte [] b one other = other
-has_no-append byte (x ∷ a) b one other = has_no-cons byte x (a ++ b) (one 0 (omega arith)) (has_no-append byte a b (has_no-rest byte x a one) other)
+has_no-append byte (x ∷ a) b one other =
+    has_no-cons byte x (a ++ b) (one 0 (omega arith)) (has_no-append byte a b (has_no-rest byte x a one) other)
 
 -- a text whose bytes are tested one by one
 pub has_no-test : (byte : ℕ) (text : List ℕ) → list_all (λ b. not (b == byte)) text ≡ true → HasNo byte text
@@ -44,7 +71,8 @@ pub decimal_one : (byte n : ℕ) → byte < 48 → n < 2 ^ 64 → HasNo byte (de
 decimal_one byte n low lt i within e = let range = digit_at (decimal n) i (digits_decimal own n lt) within in omega (arith, range, e, low)
 
 -- a text at such a byte
-pub cut_at : (byte : ℕ) (text : List ℕ) (i : ℕ) → i < length text → get_or text i 0 ≡ byte → text ≡ take i text ++ byte ∷ take (length text - (i + 1)) (drop (i + 1) text)
+pub cut_at : (byte : ℕ) (text : List ℕ) (i : ℕ) → i < length text → get_or text i 0 ≡ byte → text ≡ take i text
+    ++ byte ∷ take (length text - (i + 1)) (drop (i + 1) text)
 cut_at byte text i within is =
     let rest : drop i text ≡ byte ∷ drop (i + 1) text = drop_more text i 0 within ∙ ap (λ (b : ℕ). b ∷ drop (i + 1) text) is in
     rw take_rest (sym (take-append-drop i text) ∙ ap (λ (t : List ℕ). take i text ++ t) rest)
@@ -58,7 +86,8 @@ pub no_sides : (byte : ℕ) (text a x : List ℕ) → HasNo byte text → text �
 no_sides byte text a x one e = within_text byte a x (rw e at one)
 
 -- what stands before a place, where such a byte stood at none so far
-pub has_no-take : (byte : ℕ) (text : List ℕ) (i : ℕ) → i ≤ length text → ((k : ℕ) → k < i → get_or text k 0 ≡ byte → ⊥) → HasNo byte (take i text)
+pub has_no-take : (byte : ℕ) (text : List ℕ) (i : ℕ) → i ≤ length text → ((k : ℕ) → k < i → get_or text k 0 ≡ byte → ⊥)
+    → HasNo byte (take i text)
 has_no-take byte text i within none k lt is =
     let less : k < i = omega (arith, lt, length-take-le i text within) in
     none k less (sym (get_or-take i text k 0 less) ∙ is)

@@ -1,9 +1,55 @@
 -- Bytes in hexadecimal digits: what spells some spells no others.
-use Rattle.std.proofs.Common.{◌≡◌, ◌≢◌, ℕ, zero, suc, ◌+◌, ◌-◌, ◌*◌, ◌/◌, ◌%◌, ◌<◌, ◌≤◌, ◌⊎◌, inl, inr, List, [], ◌∷◌, length, Bool, true, false, ◌&&◌, Result, Ok, Err, Option, Some, None, refl, sym, ap, ◌∙◌, arith}
+use Rattle.std.proofs.Common.{
+  ◌≡◌,
+  ◌≢◌,
+  ℕ,
+  zero,
+  suc,
+  ◌+◌,
+  ◌-◌,
+  ◌*◌,
+  ◌/◌,
+  ◌%◌,
+  ◌<◌,
+  ◌≤◌,
+  ◌⊎◌,
+  inl,
+  inr,
+  List,
+  [],
+  ◌∷◌,
+  length,
+  Bool,
+  true,
+  false,
+  ◌&&◌,
+  Result,
+  Ok,
+  Err,
+  Option,
+  Some,
+  None,
+  refl,
+  sym,
+  ap,
+  ◌∙◌,
+  arith,
+}
 use Rattle.std.specs.Prelude.{slice_index, nat_le, ◌==◌}
 use Rattle.std.specs.List.{list_all}
 use Rattle.std.proofs.lemmas.Bool.{and_parts, cases_lt, eqb-true}
-use Rattle.hex.specs.Hex.{encode_lower, encode_with, lower_digits, decode_of, decode_pairs, hex_digit_value, digit_or_error, value_at, pair_value, ◌>>=◌}
+use Rattle.hex.specs.Hex.{
+  encode_lower,
+  encode_with,
+  lower_digits,
+  decode_of,
+  decode_pairs,
+  hex_digit_value,
+  digit_or_error,
+  value_at,
+  pair_value,
+  ◌>>=◌,
+}
 use Rattle.hex.specs.declared.error.FromHexError.{FromHexError}
 use Rattle.hex.specs.declared.error.FromHexError.TheVariants.{OutOfMemory}
 use Rattle.hex.proofs.HexLemmas.{decode_of-encode_lower, decode_of-same, decode_of-even, decode_of-ok, length-encode_with}
@@ -22,7 +68,11 @@ all_below-at : (p : ℕ → Bool) (n k : ℕ) → all_below p n ≡ true → k <
 all_below-at p zero k e lt = absurd (omega (arith, lt))
 all_below-at p (suc n) k e lt =
     let parts = and_parts (p n) (all_below p n) e in
-    elim (cases_lt k n) [ inl less ↦ all_below-at p n k parts.1 less | inr most ↦ let same : k ≡ n = omega (arith, lt, most) in rw same parts.0 ]
+    elim (cases_lt k n) [
+      | inl less ↦ all_below-at p n k parts.1 less
+      | inr most ↦ let same : k ≡ n = omega (arith, lt, most)
+          in rw same parts.0
+    ]
 
 -- each digit of the table is a digit
 digit_in_table : (i : ℕ) → i < 16 → is_hex_digit (slice_index lower_digits i) ≡ true
@@ -41,7 +91,8 @@ lower_one byte (b ∷ piece) low bytes =
     let high = slice_index lower_digits (b / 16) in
     let low_digit = slice_index lower_digits (b % 16) in
     has_no-cons byte high (low_digit ∷ encode_lower piece) (digit_one byte high low (digit_in_table (b / 16) (omega arith)))
-    (has_no-cons byte low_digit (encode_lower piece) (digit_one byte low_digit low (digit_in_table (b % 16) (omega arith))) (lower_one byte piece low (λ i. bytes (suc i))))
+    (has_no-cons byte low_digit (encode_lower piece) (digit_one byte low_digit low (digit_in_table (b % 16) (omega arith)))
+    (lower_one byte piece low (λ i. bytes (suc i))))
 
 -- the digits of bytes are digits
 pub lower_digits_all : (piece : List ℕ) → IsBytes piece → list_all is_hex_digit (encode_lower piece) ≡ true
@@ -53,12 +104,14 @@ lower_digits_all (b ∷ piece) bytes =
 
 -- bytes are spelled in one way
 pub lower_injective : (a b : List ℕ) → IsBytes a → IsBytes b → encode_lower a ≡ encode_lower b → a ≡ b
-lower_injective a b fits other e = decode_of-same (encode_lower a) a b (decode_of-encode_lower a fits) (ap decode_of e ∙ decode_of-encode_lower b other)
+lower_injective a b fits other e =
+    decode_of-same (encode_lower a) a b (decode_of-encode_lower a fits) (ap decode_of e ∙ decode_of-encode_lower b other)
 
 -- ---- digits, decoded
 
 -- what a step that went well gave
-bind_ok : {A B : Type 0} (r : Result A FromHexError) (f : A → Result B FromHexError) (y : B) → r >>= f ≡ Ok y → (x : A) × (r ≡ Ok x) × (f x ≡ Ok y)
+bind_ok : {A B : Type 0} (r : Result A FromHexError) (f : A → Result B FromHexError) (y : B) → r >>= f ≡ Ok y → (x : A) × (r ≡ Ok x)
+    × (f x ≡ Ok y)
 bind_ok (Ok x) f y e = (x, refl, e)
 bind_ok (Err error) f y e = absurd cc
 
@@ -70,22 +123,26 @@ low_digit : (v : ℕ) → v < 10 → slice_index lower_digits v ≡ v + 48
 low_digit v lt = eqb-true (slice_index lower_digits v) (v + 48) (all_below-at (λ k. slice_index lower_digits k == k + 48) 10 v refl lt)
 
 high_digit : (v : ℕ) → v < 6 → slice_index lower_digits (v + 10) ≡ v + 97
-high_digit v lt = eqb-true (slice_index lower_digits (v + 10)) (v + 97) (all_below-at (λ k. slice_index lower_digits (k + 10) == k + 97) 6 v refl lt)
+high_digit v lt =
+    eqb-true (slice_index lower_digits (v + 10)) (v + 97) (all_below-at (λ k. slice_index lower_digits (k + 10) == k + 97) 6 v refl lt)
 
 -- a digit is one of the ten, or one of the six letters
 digit_kinds : (c : ℕ) → is_hex_digit c ≡ true → ((48 ≤ c) × (c ≤ 57)) ⊎ ((97 ≤ c) × (c ≤ 102))
 digit_kinds c e = elim (cases_lt c 58) [
   | inl low ↦ elim (cases_lt c 48) [
-    | inl less ↦ let a : nat_le 48 c ≡ false = grind arith in let b : nat_le 97 c ≡ false = grind arith in let bad = rw (a, b) at e in absurd cc
+    | inl less ↦ let a : nat_le 48 c ≡ false = grind arith in let b : nat_le 97 c ≡ false = grind arith in let bad =
+        rw (a, b) at e in absurd cc
     | inr most ↦ inl (most, omega (arith, low))
   ]
   | inr mid ↦
       let a : nat_le c 57 ≡ false = grind arith in
       elim (cases_lt c 97) [
-        | inl less ↦ let b : nat_le 97 c ≡ false = grind arith in let d : nat_le 48 c ≡ true = grind arith in let bad = rw (a, b, d) at e in absurd cc
+        | inl less ↦ let b : nat_le 97 c ≡ false = grind arith in let d : nat_le 48 c ≡ true = grind arith in let bad =
+            rw (a, b, d) at e in absurd cc
         | inr letter ↦ elim (cases_lt c 103) [
           | inl most ↦ inr (letter, omega (arith, most))
-          | inr over ↦ let b : nat_le c 102 ≡ false = grind arith in let d : nat_le 48 c ≡ true = grind arith in let f : nat_le 97 c ≡ true = grind arith in let bad = rw (a, b, d, f) at e in absurd cc
+          | inr over ↦ let b : nat_le c 102 ≡ false = grind arith in let d : nat_le 48 c ≡ true =
+              grind arith in let f : nat_le 97 c ≡ true = grind arith in let bad = rw (a, b, d, f) at e in absurd cc
         ]
       ]
 ]
@@ -110,7 +167,8 @@ some_is : (a b : ℕ) → Some a ≡ Some b → a ≡ b
 some_is a b e = cc
 
 -- a digit's value, and the digit at that place of the table
-value_of_digit : (c i v : ℕ) → is_hex_digit c ≡ true → digit_or_error c i (hex_digit_value c) ≡ Ok v → (v < 16) × (slice_index lower_digits v ≡ c)
+value_of_digit : (c i v : ℕ) → is_hex_digit c ≡ true → digit_or_error c i (hex_digit_value c) ≡ Ok v → (v < 16)
+    × (slice_index lower_digits v ≡ c)
 value_of_digit c i v digit e =
     let read = digit_read c i v (hex_digit_value c) e in
     elim (digit_kinds c digit) [
@@ -132,7 +190,8 @@ ok_number : (a b : ℕ) → ◌≡◌ {A = Result ℕ FromHexError} (Ok a) (Ok b
 ok_number a b e = cc
 
 -- digits that decode to bytes are their spelling
-pub spelled_by_digits : (i : ℕ) (digits bytes : List ℕ) → list_all is_hex_digit digits ≡ true → decode_pairs i digits ≡ Ok bytes → digits ≡ encode_lower bytes
+pub spelled_by_digits : (i : ℕ) (digits bytes : List ℕ) → list_all is_hex_digit digits ≡ true → decode_pairs i digits ≡ Ok bytes
+    → digits ≡ encode_lower bytes
 unfolding decode_pairs encode_with
 spelled_by_digits i [] bytes all e = let same : [] ≡ bytes = ok_is [] bytes e in rw (← same) refl
 spelled_by_digits i (a ∷ []) bytes all e = absurd cc
@@ -159,19 +218,23 @@ spelled_by_digits i (a ∷ b ∷ rest) bytes all e =
 pub no_digits_none : (digits : List ℕ) → length digits ≡ 0 → (piece : List ℕ) → IsPiece piece → digits ≢ encode_lower piece
 no_digits_none digits none piece is e = omega (arith, none, is.some, ap length e, length-encode_with lower_digits piece)
 
-pub other_digits_none : (digits : List ℕ) → list_all is_hex_digit digits ≡ false → (piece : List ℕ) → IsPiece piece → digits ≢ encode_lower piece
+pub other_digits_none : (digits : List ℕ) → list_all is_hex_digit digits ≡ false → (piece : List ℕ) → IsPiece piece
+    → digits ≢ encode_lower piece
 other_digits_none digits bad piece is e = let good = lower_digits_all piece is.bytes in let also = ap (list_all is_hex_digit) e in absurd cc
 
-pub undecoded_none : (digits : List ℕ) (error : FromHexError) → decode_of digits ≡ Err error → (piece : List ℕ) → IsPiece piece → digits ≢ encode_lower piece
+pub undecoded_none : (digits : List ℕ) (error : FromHexError) → decode_of digits ≡ Err error → (piece : List ℕ) → IsPiece piece
+    → digits ≢ encode_lower piece
 undecoded_none digits error bad piece is e = let good = ap decode_of e ∙ decode_of-encode_lower piece is.bytes in absurd cc
 
 -- what decoding refuses, and not for memory
-pub refused_none : (digits : List ℕ) (error : FromHexError) → error ≢ OutOfMemory → (error ≡ OutOfMemory) ⊎ (decode_of digits ≡ Err error) → (piece : List ℕ) → IsPiece piece → digits ≢ encode_lower piece
+pub refused_none : (digits : List ℕ) (error : FromHexError) → error ≢ OutOfMemory → (error ≡ OutOfMemory) ⊎ (decode_of digits ≡ Err error)
+    → (piece : List ℕ) → IsPiece piece → digits ≢ encode_lower piece
 refused_none digits error other (inl memory) = absurd (other memory)
 refused_none digits error other (inr bad) = undecoded_none digits error bad
 
 -- what was decoded is a piece, and the digits are its spelling
-pub decoded : (digits bytes : List ℕ) → 0 < length digits → list_all is_hex_digit digits ≡ true → decode_of digits ≡ Ok bytes → IsPiece bytes × (digits ≡ encode_lower bytes)
+pub decoded : (digits bytes : List ℕ) → 0 < length digits → list_all is_hex_digit digits ≡ true → decode_of digits ≡ Ok bytes
+    → IsPiece bytes × (digits ≡ encode_lower bytes)
 decoded digits bytes some all e =
     let ok = decode_of-ok digits bytes e in
     (record { bytes = ok.3; some = omega (arith, some, ok.2) }, spelled_by_digits 0 digits bytes all (sym (decode_of-even digits ok.0) ∙ e))

@@ -13,11 +13,13 @@ front-lines byte bytes other = let is : (byte == 10) ≡ false = ne_eqb byte 10 
 pub lines-within : (line after : List ℕ) → HasNo 10 line → lines_of (line ++ 10 ∷ after) ≡ line ∷ lines_of after
 lines-within [] after one = refl
 lines-within (byte ∷ line) after one =
-    front-lines byte (line ++ 10 ∷ after) (one 0 (omega arith)) ∙ ap (with_front byte) (lines-within line after (has_no-rest 10 byte line one))
+    front-lines byte (line ++ 10 ∷ after) (one 0 (omega arith))
+    ∙ ap (with_front byte) (lines-within line after (has_no-rest 10 byte line one))
 
 -- a text without a line feed is one line
 pub lines-none : (line : List ℕ) → 0 < length line → HasNo 10 line → lines_of line ≡ line ∷ []
 lines-none [] some one = absurd (omega (arith, some))
 lines-none (byte ∷ []) some one = front-lines byte [] (one 0 (omega arith))
 lines-none (byte ∷ next ∷ line) some one =
-    front-lines byte (next ∷ line) (one 0 (omega arith)) ∙ ap (with_front byte) (lines-none (next ∷ line) (omega arith) (has_no-rest 10 byte (next ∷ line) one))
+    front-lines byte (next ∷ line) (one 0 (omega arith))
+    ∙ ap (with_front byte) (lines-none (next ∷ line) (omega arith) (has_no-rest 10 byte (next ∷ line) one))

@@ -1,5 +1,32 @@
 -- Lemmas on journals alone.
-use Rattle.std.proofs.Common.{◌≡◌, ℕ, zero, suc, ◌+◌, ◌<◌, ◌≤◌, true, false, cond, List, [], ◌∷◌, ◌++◌, ◌==◌, nat_lt, refl, ap, sym, ◌∙◌, ap₂, append-nil, arith, rules, zero-add, add-zero}
+use Rattle.std.proofs.Common.{
+  ◌≡◌,
+  ℕ,
+  zero,
+  suc,
+  ◌+◌,
+  ◌<◌,
+  ◌≤◌,
+  true,
+  false,
+  cond,
+  List,
+  [],
+  ◌∷◌,
+  ◌++◌,
+  ◌==◌,
+  nat_lt,
+  refl,
+  ap,
+  sym,
+  ◌∙◌,
+  ap₂,
+  append-nil,
+  arith,
+  rules,
+  zero-add,
+  add-zero,
+}
 use Rattle.std.proofs.lemmas.Bool.{ltb-true, ltb-false, eqb-true, eqb-false, lt-ltb, cond_both}
 use Rattle.tt_lockstep.specs.Game.{Game}
 use Rattle.tt_lockstep.specs.Journal.{of_frame, above, applied_all, folded, world_at, AreAbove, AreUpTo, AreRising}
@@ -8,7 +35,8 @@ module _ {W E : Type 0} (game : Game W E) where
   pub of_frame-append : (f : ℕ) (xs ys : List E) → of_frame game f (xs ++ ys) ≡ of_frame game f xs ++ of_frame game f ys
   of_frame-append f [] ys = refl
   of_frame-append f (x ∷ xs) ys =
-      elim (game.frame_of x == f) as (λ b. cond b (x ∷ of_frame game f (xs ++ ys)) (of_frame game f (xs ++ ys)) ≡ cond b (x ∷ of_frame game f xs) (of_frame game f xs) ++ of_frame game f ys)
+      elim (game.frame_of x == f) as (λ b. cond b (x ∷ of_frame game f (xs ++ ys)) (of_frame game f (xs ++ ys)) ≡ cond b
+      (x ∷ of_frame game f xs) (of_frame game f xs) ++ of_frame game f ys)
       [ true ↦ ap (λ zs. x ∷ zs) (of_frame-append f xs ys) | false ↦ of_frame-append f xs ys ]
 
   pub none_of_frame : (f n : ℕ) (ys : List E) → AreAbove game n ys → f ≤ n → of_frame game f ys ≡ []
@@ -22,7 +50,8 @@ module _ {W E : Type 0} (game : Game W E) where
   one_more p q = ap₂ (λ w xs. game.framed (applied_all game w xs)) p q
 
   -- entries above a frame change no world up to it
-  pub stable : (w : W) (s k n : ℕ) (old more : List E) → AreAbove game n more → s + k ≤ n → folded game w s (old ++ more) k ≡ folded game w s old k
+  pub stable : (w : W) (s k n : ℕ) (old more : List E) → AreAbove game n more → s + k ≤ n → folded game w s (old ++ more) k ≡ folded game w
+      s old k
   stable w s zero n old more a h = refl
   stable w s (suc k) n old more a h =
       one_more (stable w s k n old more a (omega (arith, h))) (of_frame-stable (s + suc k) n old more a h)
@@ -38,7 +67,8 @@ module _ {W E : Type 0} (game : Game W E) where
       in rw e (one_more (goes_on w s k journal) (ap (λ f. of_frame game f journal) (zero-add (suc (s + k)) ∙ sym e)))
 
   -- only the entries of the frames that are run matter
-  pub folded-same : (w : W) (s k : ℕ) (xs ys : List E) → ((f : ℕ) → s < f → f ≤ s + k → of_frame game f xs ≡ of_frame game f ys) → folded game w s xs k ≡ folded game w s ys k
+  pub folded-same : (w : W) (s k : ℕ) (xs ys : List E) → ((f : ℕ) → s < f → f ≤ s + k → of_frame game f xs ≡ of_frame game f ys)
+      → folded game w s xs k ≡ folded game w s ys k
   folded-same w s zero xs ys same = refl
   folded-same w s (suc k) xs ys same =
       one_more (folded-same w s k xs ys (λ f l m. same f l (omega arith))) (same (s + suc k) (omega arith) (omega arith))
@@ -46,7 +76,8 @@ module _ {W E : Type 0} (game : Game W E) where
   pub above-append : (s : ℕ) (xs ys : List E) → above game s (xs ++ ys) ≡ above game s xs ++ above game s ys
   above-append s [] ys = refl
   above-append s (x ∷ xs) ys =
-      elim (nat_lt s (game.frame_of x)) as (λ b. cond b (x ∷ above game s (xs ++ ys)) (above game s (xs ++ ys)) ≡ cond b (x ∷ above game s xs) (above game s xs) ++ above game s ys)
+      elim (nat_lt s (game.frame_of x)) as (λ b. cond b (x ∷ above game s (xs ++ ys)) (above game s (xs ++ ys)) ≡ cond b
+      (x ∷ above game s xs) (above game s xs) ++ above game s ys)
       [ true ↦ ap (λ zs. x ∷ zs) (above-append s xs ys) | false ↦ above-append s xs ys ]
 
   pub above-push : (s : ℕ) (xs : List E) (e : E) → s < game.frame_of e → above game s (xs ++ e ∷ []) ≡ above game s xs ++ e ∷ []
@@ -90,7 +121,8 @@ module _ {W E : Type 0} (game : Game W E) where
   AreRising-less m n [] h l = tt
   AreRising-less m n (e ∷ es) h l = (omega (arith, h.0), h.1)
 
-  pub AreRising-push : (n : ℕ) (es : List E) (e : E) → AreRising game n es → AreUpTo game (game.frame_of e) es → n ≤ game.frame_of e → AreRising game n (es ++ e ∷ [])
+  pub AreRising-push : (n : ℕ) (es : List E) (e : E) → AreRising game n es → AreUpTo game (game.frame_of e) es → n ≤ game.frame_of e
+      → AreRising game n (es ++ e ∷ [])
   AreRising-push n [] e r u l = (l, tt)
   AreRising-push n (x ∷ xs) e r u l = (r.0, AreRising-push (game.frame_of x) xs e r.1 u.1 u.0)
 
@@ -98,7 +130,8 @@ module _ {W E : Type 0} (game : Game W E) where
   AreRising-above n s [] r = tt
   AreRising-above n s (e ∷ es) r =
       cond_both (nat_lt s (game.frame_of e)) (e ∷ above game s es) (above game s es) (λ xs. AreRising game n xs)
-      (λ _. (r.0, AreRising-above (game.frame_of e) s es r.1)) (λ _. AreRising-less n (game.frame_of e) (above game s es) (AreRising-above (game.frame_of e) s es r.1) r.0)
+      (λ _. (r.0, AreRising-above (game.frame_of e) s es r.1)) (λ _. AreRising-less n (game.frame_of e) (above game s es)
+      (AreRising-above (game.frame_of e) s es r.1) r.0)
 
   pub AreRising-from : (n s : ℕ) (es : List E) → AreRising game n es → AreAbove game s es → AreRising game s es
   AreRising-from n s [] r a = tt
@@ -113,10 +146,13 @@ module _ {W E : Type 0} (game : Game W E) where
   last_of-le n l [] u h = h
   last_of-le n l (e ∷ es) u h = last_of-le n (game.frame_of e) es u.1 u.0
 
-  pub world-goes_on : (s k : ℕ) (journal : List E) → world_at game journal (s + k) ≡ folded game (world_at game journal s) s (above game s journal) k
+  pub world-goes_on : (s k : ℕ) (journal : List E) → world_at game journal (s + k) ≡ folded game (world_at game journal s) s
+      (above game s journal) k
   world-goes_on s k journal =
-      goes_on game.start s k journal ∙ folded-same (world_at game journal s) s k journal (above game s journal) (λ f low high. sym (of_frame-above s f journal low))
+      goes_on game.start s k journal ∙ folded-same (world_at game journal s) s k journal (above game s journal)
+      (λ f low high. sym (of_frame-above s f journal low))
 
   -- one frame more, by one running world
-  pub world-next : (journal : List E) (f : ℕ) → world_at game journal (suc f) ≡ game.framed (applied_all game (world_at game journal f) (of_frame game (suc f) journal))
+  pub world-next : (journal : List E) (f : ℕ) → world_at game journal (suc f) ≡ game.framed (applied_all game (world_at game journal f)
+      (of_frame game (suc f) journal))
   world-next journal f = ap (λ k. game.framed (applied_all game (world_at game journal f) (of_frame game k journal))) (zero-add (suc f))

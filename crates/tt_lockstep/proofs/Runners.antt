@@ -1,14 +1,104 @@
 -- A running client does what the client does, call for call.
-use Rattle.std.proofs.Common.{◌≡◌, ℕ, zero, suc, ◌+◌, ◌-◌, ◌<◌, ◌≤◌, min, Bool, true, false, cond, not, ◌&&◌, List, [], ◌∷◌, ◌++◌, ◌==◌, Some, None, nat_lt, nat_le, take, refl, ap, ap₂, sym, append-nil, ◌∙◌, subst, ⊎_elim, arith}
+use Rattle.std.proofs.Common.{
+  ◌≡◌,
+  ℕ,
+  zero,
+  suc,
+  ◌+◌,
+  ◌-◌,
+  ◌<◌,
+  ◌≤◌,
+  min,
+  Bool,
+  true,
+  false,
+  cond,
+  not,
+  ◌&&◌,
+  List,
+  [],
+  ◌∷◌,
+  ◌++◌,
+  ◌==◌,
+  Some,
+  None,
+  nat_lt,
+  nat_le,
+  take,
+  refl,
+  ap,
+  ap₂,
+  sym,
+  append-nil,
+  ◌∙◌,
+  subst,
+  ⊎_elim,
+  arith,
+}
 use Rattle.std.proofs.lemmas.Bool.{and_parts, and_from, ltb-true, ltb-false, leb-true, lt-ltb, le-ltb, le-leb, ne_eqb, cases_lt}
 use Rattle.tt_lockstep.specs.Game.{Game}
 use Rattle.tt_lockstep.specs.Journal.{above, folded}
 use Rattle.tt_lockstep.specs.Told.{Told, Map, Command, Frame, Sync, Other, Stray, End}
-use Rattle.tt_lockstep.specs.Shown.{SyncPoint, View, Shown, Joining, Running, EndedJoining, Ended, WrongJoining, Wrong, with_entry, with_frame, with_sync, seen, world_of}
-use Rattle.tt_lockstep.specs.Client.{Call, Feed, Advance, fed, Client, Following, Desync, unfed, is_recent, compared, hearing, hears, run_to, one_frame, advanced, run}
+use Rattle.tt_lockstep.specs.Shown.{
+  SyncPoint,
+  View,
+  Shown,
+  Joining,
+  Running,
+  EndedJoining,
+  Ended,
+  WrongJoining,
+  Wrong,
+  with_entry,
+  with_frame,
+  with_sync,
+  seen,
+  world_of,
+}
+use Rattle.tt_lockstep.specs.Client.{
+  Call,
+  Feed,
+  Advance,
+  fed,
+  Client,
+  Following,
+  Desync,
+  unfed,
+  is_recent,
+  compared,
+  hearing,
+  hears,
+  run_to,
+  one_frame,
+  advanced,
+  run,
+}
 use Rattle.tt_lockstep.specs.Server.{Step, after, initial, stream}
 use Rattle.tt_lockstep.specs.InStep.{IsInStep}
-use Rattle.tt_lockstep.specs.Runner.{IsRunnerInStep, Kept, RunnerJoining, RunnerRunning, RunnerWrong, RunnerDesync, syncs_above, word_at, runner_entry, runner_max, runner_compared, runner_sync, runner_hears, runner_checked, kept_on, next_world, runner_frame, runner_advanced, runner_run, words_down, kept_of, runner_of}
+use Rattle.tt_lockstep.specs.Runner.{
+  IsRunnerInStep,
+  Kept,
+  RunnerJoining,
+  RunnerRunning,
+  RunnerWrong,
+  RunnerDesync,
+  syncs_above,
+  word_at,
+  runner_entry,
+  runner_max,
+  runner_compared,
+  runner_sync,
+  runner_hears,
+  runner_checked,
+  kept_on,
+  next_world,
+  runner_frame,
+  runner_advanced,
+  runner_run,
+  words_down,
+  kept_of,
+  runner_of,
+}
 use Rattle.tt_lockstep.proofs.Journals.{above-push}
 use Rattle.tt_lockstep.proofs.Streams.{lockstep_holds}
 use Rattle.tt_lockstep.proofs.Views.{view-next, view-entry}
@@ -17,7 +107,8 @@ use Rattle.tt_lockstep.proofs.Followers.{IsWithin, Has, Has-hears, Has-frame, Ha
 syncs_above-append : (f : ℕ) (xs ys : List SyncPoint) → syncs_above f (xs ++ ys) ≡ syncs_above f xs ++ syncs_above f ys
 syncs_above-append f [] ys = refl
 syncs_above-append f (x ∷ xs) ys =
-    elim (nat_lt f x.frame) as (λ b. cond b (x ∷ syncs_above f (xs ++ ys)) (syncs_above f (xs ++ ys)) ≡ cond b (x ∷ syncs_above f xs) (syncs_above f xs) ++ syncs_above f ys)
+    elim (nat_lt f x.frame) as (λ b. cond b (x ∷ syncs_above f (xs ++ ys)) (syncs_above f (xs ++ ys)) ≡ cond b (x ∷ syncs_above f xs)
+    (syncs_above f xs) ++ syncs_above f ys)
     [ true ↦ ap (λ zs. x ∷ zs) (syncs_above-append f xs ys) | false ↦ syncs_above-append f xs ys ]
 
 -- above one frame, and then above the next
@@ -39,7 +130,8 @@ word_at-out word (suc i) f (suc n) l = word_at-out word i (f - 1) n (omega (arit
 words_down-same : (p q : ℕ → ℕ) (f n : ℕ) → ((g : ℕ) → g ≤ f → f < g + n → p g ≡ q g) → words_down p f n ≡ words_down q f n
 words_down-same p q f zero same = refl
 words_down-same p q f (suc n) same =
-    ap₂ (λ x xs. x ∷ xs) (same f (omega arith) (omega arith)) (words_down-same p q (f - 1) n (λ g low high. same g (omega (arith, low)) (omega (arith, high))))
+    ap₂ (λ x xs. x ∷ xs) (same f (omega arith) (omega arith)) (words_down-same p q (f - 1) n (λ g low high. same g (omega (arith, low))
+    (omega (arith, high))))
 
 words_down-suc : (word : ℕ → ℕ) (f n : ℕ) → word (suc f) ∷ words_down word f n ≡ words_down word (suc f) (suc n)
 words_down-suc word f n = ap (λ g. word (suc f) ∷ words_down word g n) (omega arith)
@@ -85,36 +177,53 @@ module _ {W E : Type 0} (game : Game W E) where
   kept-entry v e f low high =
       let new : View W E = record v { last_entry = game.frame_of e; entries = v.entries ++ e ∷ [] }
       in let n = min 128 (f - v.map_frame)
-      in let mk : W → List E → List ℕ → Kept W E = λ w es ws. record { world = w; frame = f; permitted = v.permitted; last_entry = game.frame_of e; entries = es; words = ws; syncs = syncs_above f v.syncs }
+      in let mk : W → List E → List ℕ → Kept W E = λ w es ws. record {
+        world = w;
+        frame = f;
+        permitted = v.permitted;
+        last_entry =
+            game.frame_of e;
+        entries = es;
+        words = ws;
+        syncs = syncs_above f v.syncs;
+      }
       in ap (λ w. mk w (above game f new.entries) (words_down (own_word new) f n)) (view-entry game v e (game.frame_of e) f low high)
       ∙ ap (λ es. mk (world_of game v f) es (words_down (own_word new) f n)) (above-push game f v.entries e high)
       ∙ ap (λ ws. mk (world_of game v f) (above game f v.entries ++ e ∷ []) ws)
-      (words_down-same (own_word new) (own_word v) f n (λ g l h. ap (λ w. game.word w) (view-entry game v e (game.frame_of e) g (omega (arith, h, low)) (omega (arith, l, high)))))
+      (words_down-same (own_word new) (own_word v) f n (λ g l h. ap (λ w. game.word w) (view-entry game v e (game.frame_of e) g
+      (omega (arith, h, low)) (omega (arith, l, high)))))
 
-  entry_runs : (v : View W E) (e : E) (f : ℕ) → IsWithin game (Running v) f → runner_of game (Following (with_entry game v e) f) ≡ runner_entry game (kept_of game v f) e
+  entry_runs : (v : View W E) (e : E) (f : ℕ) → IsWithin game (Running v) f → runner_of game (Following (with_entry game v e) f) ≡
+      runner_entry game (kept_of game v f) e
   entry_runs v e f r =
       let k = kept_of game v f
       in let new : View W E = record v { last_entry = game.frame_of e; entries = v.entries ++ e ∷ [] }
       in let by : (a b : Bool) → nat_lt v.permitted (game.frame_of e) ≡ a
       → runner_of game (Following (cond a (cond b (Running new) (Wrong v)) (Wrong v)) f)
-      ≡ cond a (cond b (RunnerRunning (record k { last_entry = game.frame_of e; entries = k.entries ++ e ∷ [] })) (RunnerWrong k)) (RunnerWrong k) =
+      ≡ cond a (cond b (RunnerRunning (record k { last_entry = game.frame_of e; entries = k.entries ++ e ∷ [] })) (RunnerWrong k))
+      (RunnerWrong k) =
       λ a b. elim a as (λ a. nat_lt v.permitted (game.frame_of e) ≡ a
       → runner_of game (Following (cond a (cond b (Running new) (Wrong v)) (Wrong v)) f)
-      ≡ cond a (cond b (RunnerRunning (record k { last_entry = game.frame_of e; entries = k.entries ++ e ∷ [] })) (RunnerWrong k)) (RunnerWrong k)) [
+      ≡ cond a (cond b (RunnerRunning (record k { last_entry = game.frame_of e; entries = k.entries ++ e ∷ [] })) (RunnerWrong k))
+      (RunnerWrong k)) [
         | true ↦ λ is.
             let l : v.permitted < game.frame_of e = ltb-true v.permitted (game.frame_of e) is
-            in elim b as (λ b. runner_of game (Following (cond b (Running new) (Wrong v)) f) ≡ cond b (RunnerRunning (record k { last_entry = game.frame_of e; entries = k.entries ++ e ∷ [] })) (RunnerWrong k))
+            in elim b as (λ b. runner_of game (Following (cond b (Running new) (Wrong v)) f) ≡ cond b
+            (RunnerRunning (record k { last_entry = game.frame_of e; entries = k.entries ++ e ∷ [] })) (RunnerWrong k))
             [ true ↦ ap (λ k. RunnerRunning k) (kept-entry v e f r.0 (omega (arith, r.1, l))) | false ↦ refl ]
         | false ↦ λ is. refl
       ]
       in by (nat_lt v.permitted (game.frame_of e)) (nat_le v.last_entry (game.frame_of e)) refl
 
-  max_runs : (v : View W E) (g max f : ℕ) → runner_of game (Following (with_frame game v g max) f) ≡ runner_max game (kept_of game v f) g max
+  max_runs : (v : View W E) (g max f : ℕ) → runner_of game (Following (with_frame game v g max) f) ≡ runner_max game (kept_of game v f) g
+      max
   max_runs v g max f =
       let k = kept_of game v f
-      in elim (nat_le g max) as (λ a. runner_of game (Following (cond a (cond (nat_le v.permitted max) (Running (record v { permitted = max })) (Wrong v)) (Wrong v)) f)
+      in elim (nat_le g max) as (λ a. runner_of game
+      (Following (cond a (cond (nat_le v.permitted max) (Running (record v { permitted = max })) (Wrong v)) (Wrong v)) f)
       ≡ cond a (cond (nat_le v.permitted max) (RunnerRunning (record k { permitted = max })) (RunnerWrong k)) (RunnerWrong k)) [
-        | true ↦ elim (nat_le v.permitted max) as (λ b. runner_of game (Following (cond b (Running (record v { permitted = max })) (Wrong v)) f) ≡ cond b (RunnerRunning (record k { permitted = max })) (RunnerWrong k)) [ true ↦ refl | false ↦ refl ]
+        | true ↦ elim (nat_le v.permitted max) as (λ b. runner_of game (Following (cond b (Running (record v { permitted = max }))
+            (Wrong v)) f) ≡ cond b (RunnerRunning (record k { permitted = max })) (RunnerWrong k)) [ true ↦ refl | false ↦ refl ]
         | false ↦ refl
       ]
 
@@ -132,7 +241,8 @@ module _ {W E : Type 0} (game : Game W E) where
   sync-run v g w f l =
       let p : SyncPoint = record { frame = g; word = w; permitted = v.permitted }
       in ap (λ syncs. let k : Kept W E = record (kept_of game v f) { syncs = syncs } in k)
-      (syncs_above-append f v.syncs (p ∷ []) ∙ ap (λ b. syncs_above f v.syncs ++ cond b (p ∷ []) []) (le-ltb f g l) ∙ append-nil (syncs_above f v.syncs))
+      (syncs_above-append f v.syncs (p ∷ []) ∙ ap (λ b. syncs_above f v.syncs ++ cond b (p ∷ []) []) (le-ltb f g l)
+      ∙ append-nil (syncs_above f v.syncs))
 
   recent_is : (v : View W E) (f g : ℕ) → v.map_frame < g → g ≤ f → f < g + 128 → is_recent game v f g ≡ true
   recent_is v f g low below near =
@@ -158,7 +268,8 @@ module _ {W E : Type 0} (game : Game W E) where
       in let parts = recent_parts v f g is
       in let kept : word_at (f - g) k.words ≡ Some (own_word v g) =
       word_at-in (own_word v) (f - g) f n (omega (arith, parts.0, parts.1, parts.2)) ∙ ap (λ i. Some (own_word v i)) (omega (arith, below))
-      in elim (own_word v g == w) as (λ b. runner_of game (cond (true && not b) (Desync v f g (own_word v g) w) (Following (with_sync game v g w) f)) ≡ cond b (RunnerRunning k) (RunnerDesync k g (own_word v g) w))
+      in elim (own_word v g == w) as (λ b. runner_of game (cond (true && not b) (Desync v f g (own_word v g) w)
+      (Following (with_sync game v g w) f)) ≡ cond b (RunnerRunning k) (RunnerDesync k g (own_word v g) w))
       [ true ↦ ap (λ k. RunnerRunning k) (sync-run v g w f below) | false ↦ refl ]
       ∙ sym (ap (λ o. runner_compared game k g w o) kept)
   compared_runs v g w f false is below =
@@ -180,52 +291,76 @@ module _ {W E : Type 0} (game : Game W E) where
       let no : is_recent game v f g ≡ false = not_true (is_recent game v f g) (λ is. omega (arith, l, (recent_parts v f g is).1))
       in ap (λ b. runner_of game (cond (b && not (mine == w)) (Desync v f g mine w) (Following (with_sync game v g w) f))) no
       ∙ ap (λ k. RunnerRunning k) (sync-later v g w f l)
-      ∙ sym (ap (λ b. cond b (RunnerRunning (record k { syncs = k.syncs ++ p ∷ [] })) (runner_compared game k g w (word_at (f - g) k.words))) (lt-ltb f g l)))
+      ∙ sym (ap (λ b. cond b (RunnerRunning (record k { syncs = k.syncs ++ p ∷ [] })) (runner_compared game k g w
+      (word_at (f - g) k.words))) (lt-ltb f g l)))
       (λ below.
-      let run_before = ap (λ b. cond b (RunnerRunning (record k { syncs = k.syncs ++ p ∷ [] })) (runner_compared game k g w (word_at (f - g) k.words))) (le-ltb f g below)
+      let run_before = ap (λ b. cond b (RunnerRunning (record k { syncs = k.syncs ++ p ∷ [] })) (runner_compared game k g w
+      (word_at (f - g) k.words))) (le-ltb f g below)
       in compared_runs v g w f (is_recent game v f g) refl below ∙ sym run_before)
       (cases_lt f g)
 
   -- a frame that was run: what is kept, and what it is compared with
-  kept-next : (v : View W E) (f : ℕ) → v.map_frame ≤ f → kept_on game (kept_of game v f) (next_world game (kept_of game v f)) ≡ kept_of game v (suc f)
+  kept-next : (v : View W E) (f : ℕ) → v.map_frame ≤ f → kept_on game (kept_of game v f) (next_world game (kept_of game v f)) ≡ kept_of
+      game v (suc f)
   kept-next v f low =
       let k = kept_of game v f
-      in let mk : W → List E → List ℕ → List SyncPoint → Kept W E = λ w es ws syncs. record { world = w; frame = suc f; permitted = v.permitted; last_entry = v.last_entry; entries = es; words = ws; syncs = syncs }
+      in let mk : W → List E → List ℕ → List SyncPoint → Kept W E = λ w es ws syncs. record {
+        world = w;
+        frame = suc f;
+        permitted =
+            v.permitted;
+        last_entry = v.last_entry;
+        entries = es;
+        words = ws;
+        syncs = syncs;
+      }
       in let w : next_world game k ≡ world_of game v (suc f) = sym (view-next game v f low)
       in let n : suc (f - v.map_frame) ≡ suc f - v.map_frame = omega (arith, low)
       in let words : take 128 (game.word (next_world game k) ∷ k.words) ≡ (kept_of game v (suc f)).words =
-      ap (λ u. take 128 (game.word u ∷ k.words)) w ∙ take-next (own_word v) f (f - v.map_frame) ∙ ap (λ n. words_down (own_word v) (suc f) (min 128 n)) n
+      ap (λ u. take 128 (game.word u ∷ k.words)) w ∙ take-next (own_word v) f (f - v.map_frame)
+      ∙ ap (λ n. words_down (own_word v) (suc f) (min 128 n)) n
       in ap (λ u. mk u (above game (suc f) k.entries) (take 128 (game.word (next_world game k) ∷ k.words)) (syncs_above (suc f) k.syncs)) w
-      ∙ ap (λ es. mk (world_of game v (suc f)) es (take 128 (game.word (next_world game k) ∷ k.words)) (syncs_above (suc f) k.syncs)) (above-next f v.entries)
+      ∙ ap (λ es. mk (world_of game v (suc f)) es (take 128 (game.word (next_world game k) ∷ k.words)) (syncs_above (suc f) k.syncs))
+      (above-next f v.entries)
       ∙ ap (λ ws. mk (world_of game v (suc f)) (above game (suc f) v.entries) ws (syncs_above (suc f) k.syncs)) words
-      ∙ ap (λ syncs. mk (world_of game v (suc f)) (above game (suc f) v.entries) (kept_of game v (suc f)).words syncs) (syncs_above-next f v.syncs)
+      ∙ ap (λ syncs. mk (world_of game v (suc f)) (above game (suc f) v.entries) (kept_of game v (suc f)).words syncs)
+      (syncs_above-next f v.syncs)
 
   checked_runs : (v : View W E) (f : ℕ) (syncs : List SyncPoint)
-      → runner_of game (run_to game v (suc f) syncs) ≡ runner_checked game (kept_of game v (suc f)) (suc f) (own_word v (suc f)) (syncs_above f syncs)
+      → runner_of game (run_to game v (suc f) syncs) ≡ runner_checked game (kept_of game v (suc f)) (suc f) (own_word v (suc f))
+      (syncs_above f syncs)
   checked_runs v f [] = refl
   checked_runs v f (sync ∷ syncs) =
       let k = kept_of game v (suc f)
       in let rest = checked_runs v f syncs
       in ⊎_elim
       (λ l.
-      elim (sync.frame == suc f && not (own_word v (suc f) == sync.word)) as (λ b. runner_of game (cond b (Desync v (suc f) (suc f) (own_word v (suc f)) sync.word) (run_to game v (suc f) syncs))
-      ≡ cond b (RunnerDesync k (suc f) (own_word v (suc f)) sync.word) (runner_checked game k (suc f) (own_word v (suc f)) (syncs_above f syncs)))
+      elim (sync.frame == suc f && not (own_word v (suc f) == sync.word)) as (λ b. runner_of game
+      (cond b (Desync v (suc f) (suc f) (own_word v (suc f)) sync.word) (run_to game v (suc f) syncs))
+      ≡ cond b (RunnerDesync k (suc f) (own_word v (suc f)) sync.word) (runner_checked game k (suc f) (own_word v (suc f))
+      (syncs_above f syncs)))
       [ true ↦ refl | false ↦ rest ]
-      ∙ sym (ap (λ b. runner_checked game k (suc f) (own_word v (suc f)) (cond b (sync ∷ syncs_above f syncs) (syncs_above f syncs))) (lt-ltb f sync.frame l)))
+      ∙ sym (ap (λ b. runner_checked game k (suc f) (own_word v (suc f)) (cond b (sync ∷ syncs_above f syncs) (syncs_above f syncs)))
+      (lt-ltb f sync.frame l)))
       (λ l.
       let no : (sync.frame == suc f) ≡ false = ne_eqb sync.frame (suc f) (λ e. omega (arith, l, e))
-      in ap (λ b. runner_of game (cond (b && not (own_word v (suc f) == sync.word)) (Desync v (suc f) (suc f) (own_word v (suc f)) sync.word) (run_to game v (suc f) syncs))) no
+      in ap (λ b. runner_of game (cond (b && not (own_word v (suc f) == sync.word)) (Desync v (suc f) (suc f) (own_word v (suc f))
+      sync.word) (run_to game v (suc f) syncs))) no
       ∙ rest
-      ∙ sym (ap (λ b. runner_checked game k (suc f) (own_word v (suc f)) (cond b (sync ∷ syncs_above f syncs) (syncs_above f syncs))) (le-ltb f sync.frame l)))
+      ∙ sym (ap (λ b. runner_checked game k (suc f) (own_word v (suc f)) (cond b (sync ∷ syncs_above f syncs) (syncs_above f syncs)))
+      (le-ltb f sync.frame l)))
       (cases_lt f sync.frame)
 
-  frame_runs : (h : Shown W E) (f : ℕ) → IsWithin game h f → runner_of game (one_frame game (Following h f)) ≡ runner_frame game (runner_of game (Following h f))
+  frame_runs : (h : Shown W E) (f : ℕ) → IsWithin game h f → runner_of game (one_frame game (Following h f)) ≡ runner_frame game
+      (runner_of game (Following h f))
   frame_runs (Running v) f r =
       let k = kept_of game v f
       in elim (nat_lt f v.permitted) as (λ b. runner_of game (cond b (run_to game v (suc f) v.syncs) (Following (Running v) f))
-      ≡ cond b (runner_checked game (kept_on game k (next_world game k)) (suc f) (game.word (next_world game k)) k.syncs) (RunnerRunning k)) [
+      ≡ cond b (runner_checked game (kept_on game k (next_world game k)) (suc f) (game.word (next_world game k)) k.syncs)
+      (RunnerRunning k)) [
         | true ↦ checked_runs v f v.syncs
-            ∙ ap₂ (λ k w. runner_checked game k (suc f) (game.word w) (syncs_above f v.syncs)) (sym (kept-next v f r.0)) (view-next game v f r.0)
+            ∙ ap₂ (λ k w. runner_checked game k (suc f) (game.word w) (syncs_above f v.syncs)) (sym (kept-next v f r.0))
+            (view-next game v f r.0)
         | false ↦ refl
       ]
   frame_runs Joining f r = refl
@@ -237,9 +372,19 @@ module _ {W E : Type 0} (game : Game W E) where
   map_runs : (s : ℕ) (w : W) → runner_of game (hearing game Joining 0 (Map s w)) ≡ runner_hears game RunnerJoining (Map s w)
   map_runs s w =
       let none : s - s ≡ 0 = omega arith
-      in ap (λ n. let k : Kept W E = record { world = folded game w s [] n; frame = s; permitted = s; last_entry = s; entries = []; words = words_down (λ g. game.word (folded game w s [] (g - s))) s (min 128 n); syncs = [] } in RunnerRunning k) none
+      in ap (λ n. let k : Kept W E = record {
+        world = folded game w s [] n;
+        frame = s;
+        permitted = s;
+        last_entry = s;
+        entries = [];
+        words =
+            words_down (λ g. game.word (folded game w s [] (g - s))) s (min 128 n);
+        syncs = [];
+      } in RunnerRunning k) none
 
-  hearing_runs : (h : Shown W E) (f : ℕ) (t : Told W E) → IsWithin game h f → runner_of game (hearing game h f t) ≡ runner_hears game (runner_of game (Following h f)) t
+  hearing_runs : (h : Shown W E) (f : ℕ) (t : Told W E) → IsWithin game h f → runner_of game (hearing game h f t) ≡ runner_hears game
+      (runner_of game (Following h f)) t
   hearing_runs Joining f (Map s w) r = map_runs s w
   hearing_runs Joining f (Command e) r = refl
   hearing_runs Joining f (Frame g max) r = refl
@@ -259,7 +404,8 @@ module _ {W E : Type 0} (game : Game W E) where
   hearing_runs WrongJoining f t r = refl
   hearing_runs (Wrong v) f t r = refl
 
-  hears_runs : (h : Shown W E) (c : Client W E) (t : Told W E) → Has game h c → runner_of game (hears game c t) ≡ runner_hears game (runner_of game c) t
+  hears_runs : (h : Shown W E) (c : Client W E) (t : Told W E) → Has game h c → runner_of game (hears game c t) ≡ runner_hears game
+      (runner_of game c) t
   hears_runs h (Following k f) t a = hearing_runs k f t (subst (λ k. IsWithin game k f) (sym a.0) a.1)
   hears_runs h (Desync v f g mine theirs) t a = refl
 
@@ -267,11 +413,14 @@ module _ {W E : Type 0} (game : Game W E) where
   one_runs h (Following k f) a = frame_runs k f (subst (λ k. IsWithin game k f) (sym a.0) a.1)
   one_runs h (Desync v f g mine theirs) a = refl
 
-  advanced_runs : (n : ℕ) (h : Shown W E) (c : Client W E) → Has game h c → runner_of game (advanced game n c) ≡ runner_advanced game n (runner_of game c)
+  advanced_runs : (n : ℕ) (h : Shown W E) (c : Client W E) → Has game h c → runner_of game (advanced game n c) ≡ runner_advanced game n
+      (runner_of game c)
   advanced_runs zero h c a = refl
-  advanced_runs (suc n) h c a = advanced_runs n h (one_frame game c) (Has-frame game h c a) ∙ ap (λ r. runner_advanced game n r) (one_runs h c a)
+  advanced_runs (suc n) h c a =
+      advanced_runs n h (one_frame game c) (Has-frame game h c a) ∙ ap (λ r. runner_advanced game n r) (one_runs h c a)
 
-  all_runs : (h : Shown W E) (c : Client W E) (calls : List (Call W E)) → Has game h c → runner_of game (run game c calls) ≡ runner_run game (runner_of game c) calls
+  all_runs : (h : Shown W E) (c : Client W E) (calls : List (Call W E)) → Has game h c → runner_of game (run game c calls) ≡ runner_run
+      game (runner_of game c) calls
   all_runs h c [] a = refl
   all_runs h c (Feed t ∷ calls) a =
       all_runs (seen game h t) (hears game c t) calls (Has-hears game h c t a) ∙ ap (λ r. runner_run game r calls) (hears_runs h c t a)
@@ -291,9 +440,12 @@ module _ {W E : Type 0} (game : Game W E) where
   keeps_step journal (Following (Wrong v) f) h = h
   keeps_step journal (Desync v f g mine theirs) h = h
 
-  pub runner_carries : (journal : List E) (calls : List (Call W E)) → IsInStep game journal (run game unfed calls) → IsRunnerInStep game journal (runner_run game RunnerJoining calls)
-  runner_carries journal calls h = subst (λ r. IsRunnerInStep game journal r) (runner_is calls) (keeps_step journal (run game unfed calls) h)
+  pub runner_carries : (journal : List E) (calls : List (Call W E)) → IsInStep game journal (run game unfed calls)
+      → IsRunnerInStep game journal (runner_run game RunnerJoining calls)
+  runner_carries journal calls h =
+      subst (λ r. IsRunnerInStep game journal r) (runner_is calls) (keeps_step journal (run game unfed calls) h)
 
-  pub runner_in_step : (steps : List (Step E)) (calls : List (Call W E)) (later : List (Told W E)) → stream game initial steps ≡ fed calls ++ later
+  pub runner_in_step : (steps : List (Step E)) (calls : List (Call W E)) (later : List (Told W E)) → stream game initial steps ≡ fed calls
+      ++ later
       → IsRunnerInStep game (after game initial steps).journal (runner_run game RunnerJoining calls)
   runner_in_step steps calls later e = runner_carries (after game initial steps).journal calls (lockstep_holds game steps calls later e)

@@ -19,7 +19,8 @@ fed (Advance n ∷ calls) = fed calls
 pub data Client (W E : Type 0) : Type 0 where
   -- it follows its stream: what it was shown, and the frame that it has run
   Following : Shown W E → ℕ → Client W E
-  -- it is out of step: what it was shown, the frame that it has run, the frame that was compared, its own word there, and the one that was told
+  -- it is out of step: what it was shown, the frame that it has run, the frame that was compared, its own word there, and the one that was
+  -- told
   Desync : View W E → ℕ → ℕ → ℕ → ℕ → Client W E
 
 -- nothing was fed yet

@@ -1,4 +1,5 @@
--- From messages to things told. A client's dialogue goes from place to place with each message, and at its place each message is a thing told.
+-- From messages to things told. A client's dialogue goes from place to place with each message, and at its place each message is a thing
+-- told.
 use Rattle.std.specs.Prelude.{List, [], ◌∷◌}
 use Rattle.tt_lockstep.specs.Told.{Told}
 

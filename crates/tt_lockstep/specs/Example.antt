@@ -12,7 +12,8 @@ abbrev pub small : Game ℕ ℕ
 small = record { frame_of = λ e. e; applied = λ w e. w + e; framed = λ w. 2 * w + 1; word = λ w. w; start = 1; lead = 2 }
 
 -- A connection is given the map of frame 1 and begins to play at frame 4. Of the entries before that, the first is in its map, the second
--- was run since, and the third is still to be run. Then another client leaves; and at last an order comes, which a server may stamp for one of
+-- was run since, and the third is still to be run. Then another client leaves; and at last an order comes, which a server may stamp for one
+-- of
 -- the frames 5, 6 and 7: the true one takes the last, and the other two are no entries of its
 abbrev pub small_steps : List (Step ℕ)
 small_steps =

@@ -34,7 +34,8 @@ module _ {W E : Type 0} (game : Game W E) where
   Agrees journal permitted WrongJoining = ⊥
   Agrees journal permitted (Wrong v) = ⊥
 
-  -- of a connection that plays: it was told exactly the entries above its map frame, in order, and it may run just as far as the server permits
+  -- of a connection that plays: it was told exactly the entries above its map frame, in order, and it may run just as far as the server
+  -- permits
   pub record IsInPlay (journal : List E) (frame permitted : ℕ) (s : ℕ) (v : View W E) : Type 0 where
     pub map_frame_is : v.map_frame ≡ s
     pub reach : s ≤ frame

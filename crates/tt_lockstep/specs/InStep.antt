@@ -6,7 +6,8 @@ use Rattle.tt_lockstep.specs.Shown.{Joining, Running, EndedJoining, Ended, Wrong
 use Rattle.tt_lockstep.specs.Client.{Client, Following, Desync}
 
 module _ {W E : Type 0} (game : Game W E) where
-  -- once a client has its map, its world at its frame is that of the journal, also after it was ended; and it is neither wrong nor out of step
+  -- once a client has its map, its world at its frame is that of the journal, also after it was ended; and it is neither wrong nor out of
+  -- step
   abbrev pub IsInStep : List E → Client W E → Type 0
   IsInStep journal (Following Joining f) = Unit
   IsInStep journal (Following (Running v) f) = world_of game v f ≡ world_at game journal f

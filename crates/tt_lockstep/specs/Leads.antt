@@ -1,4 +1,5 @@
--- How a server of one's own is tied to this one: each thing that it does leads from what a connection sees of it to what the connection sees then.
+-- How a server of one's own is tied to this one: each thing that it does leads from what a connection sees of it to what the connection
+-- sees then.
 use Rattle.std.specs.Prelude.{◌≡◌, ℕ, suc, List, [], map}
 use Rattle.std.specs.List.{AllByRecursion}
 use Rattle.tt_lockstep.specs.Game.{Game}

@@ -1,5 +1,26 @@
 -- A client as a program runs it: it has one world, and of its stream it keeps no more than it still needs.
-use Rattle.std.specs.Prelude.{◌≡◌, ℕ, zero, suc, ◌-◌, min, if◌then◌else◌, not, ◌&&◌, List, [], ◌∷◌, ◌++◌, ◌==◌, Option, Some, None, nat_lt, nat_le, take}
+use Rattle.std.specs.Prelude.{
+  ◌≡◌,
+  ℕ,
+  zero,
+  suc,
+  ◌-◌,
+  min,
+  if◌then◌else◌,
+  not,
+  ◌&&◌,
+  List,
+  [],
+  ◌∷◌,
+  ◌++◌,
+  ◌==◌,
+  Option,
+  Some,
+  None,
+  nat_lt,
+  nat_le,
+  take,
+}
 use Rattle.tt_lockstep.specs.Game.{Game}
 use Rattle.tt_lockstep.specs.Journal.{of_frame, above, applied_all, world_at}
 use Rattle.tt_lockstep.specs.Told.{Told, Map, Command, Frame, Sync, Other, End}
@@ -62,7 +83,8 @@ module _ {W E : Type 0} (game : Game W E) where
 
   -- a permitted frame comes
   abbrev pub runner_max : Kept W E → ℕ → ℕ → Runner W E
-  runner_max k f max = if nat_le f max then (if nat_le k.permitted max then RunnerRunning (record k { permitted = max }) else RunnerWrong k) else RunnerWrong k
+  runner_max k f max = if nat_le f max then (if nat_le k.permitted max then RunnerRunning (record k { permitted = max }) else RunnerWrong
+      k) else RunnerWrong k
 
   -- a word of a frame that was run comes: it is compared with the word that is kept, if one is
   abbrev pub runner_compared : Kept W E → ℕ → ℕ → Option ℕ → Runner W E
@@ -78,7 +100,8 @@ module _ {W E : Type 0} (game : Game W E) where
 
   -- one more thing of its stream
   abbrev pub runner_hears : Runner W E → Told W E → Runner W E
-  runner_hears RunnerJoining (Map s w) = RunnerRunning (record { world = w; frame = s; permitted = s; last_entry = s; entries = []; words = []; syncs = [] })
+  runner_hears RunnerJoining (Map s w) =
+      RunnerRunning (record { world = w; frame = s; permitted = s; last_entry = s; entries = []; words = []; syncs = [] })
   runner_hears RunnerJoining Other = RunnerJoining
   runner_hears RunnerJoining End = RunnerEndedJoining
   runner_hears RunnerJoining t = RunnerWrongJoining
@@ -114,7 +137,8 @@ module _ {W E : Type 0} (game : Game W E) where
   -- one more frame, where it is permitted
   abbrev pub runner_frame : Runner W E → Runner W E
   runner_frame (RunnerRunning k) =
-      if nat_lt k.frame k.permitted then runner_checked (kept_on k (next_world k)) (suc k.frame) (game.word (next_world k)) k.syncs else RunnerRunning k
+      if nat_lt k.frame k.permitted then runner_checked (kept_on k (next_world k)) (suc k.frame) (game.word (next_world k)) k.syncs else
+      RunnerRunning k
   runner_frame runner = runner
 
   -- so many frames

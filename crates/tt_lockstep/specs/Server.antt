@@ -109,7 +109,8 @@ module _ {W E : Type 0} (game : Game W E) where
   abbrev pub told : Server E → Step E → List (Told W E)
   told server (Stamp e) = if game.frame_of e == suc server.permitted then if_playing server.stage (Command e) else []
   told server RunFrame =
-      if nat_lt server.permitted (suc server.frame) then if_playing server.stage (Frame (suc server.frame) (suc server.frame + game.lead)) else []
+      if nat_lt server.permitted (suc server.frame) then if_playing server.stage (Frame (suc server.frame) (suc server.frame + game.lead))
+      else []
   told server TellSync = if_playing server.stage (Sync server.frame (game.word (world_at game server.journal server.frame)))
   told server TellOther = if_there server.stage Other
   told server BeginMap = []

@@ -46,12 +46,17 @@ module _ {W E : Type 0} (game : Game W E) where
   abbrev pub with_entry : View W E → E → Shown W E
   with_entry v e =
       if nat_lt v.permitted (game.frame_of e)
-      then (if nat_le v.last_entry (game.frame_of e) then Running (record v { last_entry = game.frame_of e; entries = v.entries ++ e ∷ [] }) else Wrong v)
+      then (if nat_le v.last_entry (game.frame_of e) then Running (record v {
+        last_entry = game.frame_of e;
+        entries = v.entries
+            ++ e ∷ [];
+      }) else Wrong v)
       else Wrong v
 
   -- the permitted frame is not below the server's frame, and does not fall
   abbrev pub with_frame : View W E → ℕ → ℕ → Shown W E
-  with_frame v f max = if nat_le f max then (if nat_le v.permitted max then Running (record v { permitted = max }) else Wrong v) else Wrong v
+  with_frame v f max =
+      if nat_le f max then (if nat_le v.permitted max then Running (record v { permitted = max }) else Wrong v) else Wrong v
 
   -- a word is kept, with how far one might run when it came
   abbrev pub with_sync : View W E → ℕ → ℕ → Shown W E

@@ -4,9 +4,43 @@ use Rattle.std.specs.Prelude.{ℕ, zero, suc, ◌-◌, if◌then◌else◌, List
 use Rattle.tt_lockstep.specs.Game.{Game}
 use Rattle.tt_lockstep.specs.Journal.{above, applied_all, world_at}
 use Rattle.tt_lockstep.specs.Told.{Told, Map, Command, Frame, Sync}
-use Rattle.tt_lockstep.specs.Server.{Server, Step, Stage, Loading, Loaded, Stamp, RunFrame, TellSync, TellOther, BeginMap, EndMap, BeginPlay, if_playing, stepped, told, initial, after, stream}
+use Rattle.tt_lockstep.specs.Server.{
+  Server,
+  Step,
+  Stage,
+  Loading,
+  Loaded,
+  Stamp,
+  RunFrame,
+  TellSync,
+  TellOther,
+  BeginMap,
+  EndMap,
+  BeginPlay,
+  if_playing,
+  stepped,
+  told,
+  initial,
+  after,
+  stream,
+}
 use Rattle.tt_lockstep.specs.Client.{Call, Feed, Advance, unfed, run}
-use Rattle.tt_lockstep.specs.Runner.{Kept, Runner, RunnerJoining, RunnerRunning, RunnerEndedJoining, RunnerEnded, RunnerWrongJoining, RunnerWrong, RunnerDesync, kept_entry, kept_on, next_world, runner_hears, runner_checked}
+use Rattle.tt_lockstep.specs.Runner.{
+  Kept,
+  Runner,
+  RunnerJoining,
+  RunnerRunning,
+  RunnerEndedJoining,
+  RunnerEnded,
+  RunnerWrongJoining,
+  RunnerWrong,
+  RunnerDesync,
+  kept_entry,
+  kept_on,
+  next_world,
+  runner_hears,
+  runner_checked,
+}
 use Rattle.tt_lockstep.specs.Example.{Ending, Mapless, Ran, ToldWrong, OutOfStep, eager, ending_of, small}
 
 -- the five rules
@@ -69,7 +103,10 @@ module _ {W E : Type 0} (game : Game W E) where
 
   -- entries that were only tried have changed the world: those that are stamped and were not run
   abbrev pub keeps_test_runs : Rules W E
-  keeps_test_runs = record true_rules { sync_world = λ server. applied_all game (world_at game server.journal server.frame) (above game server.frame server.journal) }
+  keeps_test_runs = record true_rules {
+    sync_world = λ server. applied_all game (world_at game server.journal server.frame)
+        (above game server.frame server.journal);
+  }
 
   -- when a client leaves, what is stamped and was not run is dropped
   abbrev pub drops_stamped : Rules W E
@@ -129,7 +166,8 @@ module _ {W E : Type 0} (game : Game W E) where
 
   -- a client applies an entry as soon as it comes, and not at its frame
   abbrev pub applies_at_once : ClientRules W E
-  applies_at_once = record true_client_rules { entry_kept = λ k e. record k { last_entry = game.frame_of e; world = game.applied k.world e } }
+  applies_at_once =
+      record true_client_rules { entry_kept = λ k e. record k { last_entry = game.frame_of e; world = game.applied k.world e } }
 
   module _ (rules : ClientRules W E) where
     -- an entry comes to a client by these rules
@@ -172,7 +210,8 @@ ending_under game rules steps =
 abbrev pub small_by_one : Game ℕ ℕ
 small_by_one = record small { lead = 0 }
 
--- Two ticks, and a connection that plays from the first on. In the second tick an order comes: it may be stamped before FRAME is told, or behind it
+-- Two ticks, and a connection that plays from the first on. In the second tick an order comes: it may be stamped before FRAME is told, or
+-- behind it
 abbrev pub tick_steps : List (Step ℕ)
 tick_steps = RunFrame ∷ BeginMap ∷ EndMap ∷ BeginPlay ∷ Stamp 2 ∷ RunFrame ∷ Stamp 2 ∷ TellSync ∷ []
 
@@ -188,4 +227,5 @@ runner_ending game journal (RunnerDesync k g mine theirs) = OutOfStep g mine the
 
 -- where the true server's eager client by these rules comes to
 abbrev pub ending_with : Game ℕ ℕ → ClientRules ℕ ℕ → List (Step ℕ) → Ending
-ending_with game rules steps = runner_ending game (after game initial steps).journal (ruled_run game rules RunnerJoining (eager (stream game initial steps)))
+ending_with game rules steps =
+    runner_ending game (after game initial steps).journal (ruled_run game rules RunnerJoining (eager (stream game initial steps)))

@@ -5,7 +5,24 @@ use Rattle.tt_world.specs.World.{WorldState, company_at}
 use Rattle.tt_map.specs.declared.place.Place.{Place}
 use Rattle.tt_map.specs.declared.place.Place.TheVariants.{Front, CompanyAt, Between, SignAt, Back, Over}
 use Rattle.tt_map.specs.declared.version.Version.TheVariants.{Second}
-use Rattle.tt_map.specs.Layout.{u16, u32, live_from, company_bytes, sign_bytes, GAME, RAND, CMPY, SIGN, ENDC, tag_of, body_of, part_of, chunk, head, map_of}
+use Rattle.tt_map.specs.Layout.{
+  u16,
+  u32,
+  live_from,
+  company_bytes,
+  sign_bytes,
+  GAME,
+  RAND,
+  CMPY,
+  SIGN,
+  ENDC,
+  tag_of,
+  body_of,
+  part_of,
+  chunk,
+  head,
+  map_of,
+}
 
 -- the map's bytes from the signs on, and from a place on
 abbrev pub signs_on : WorldState → List ℕ

@@ -1,5 +1,27 @@
 -- What a call of the program comes to, from its parts.
-use Rattle.std.proofs.Common.{◌≡◌, ◌⊎◌, ℕ, zero, suc, ◌≤◌, List, [], ◌∷◌, length, take, Option, Some, None, IfSome, inl, inr, sym, ap, subst, ◌∙◌}
+use Rattle.std.proofs.Common.{
+  ◌≡◌,
+  ◌⊎◌,
+  ℕ,
+  zero,
+  suc,
+  ◌≤◌,
+  List,
+  [],
+  ◌∷◌,
+  length,
+  take,
+  Option,
+  Some,
+  None,
+  IfSome,
+  inl,
+  inr,
+  sym,
+  ap,
+  subst,
+  ◌∙◌,
+}
 use Rattle.std.specs.List.{AllByRecursion}
 use Rattle.std.proofs.lemmas.List.{take-map}
 use Rattle.std.specs.Io.KnownBytes.{Appends}
@@ -7,13 +29,27 @@ use Rattle.tt_lines.specs.Lines.{lines_of, IsFirstBad}
 use Rattle.tt_edge.specs.Sink.{AppendsPart}
 use Rattle.tt_replay.specs.declared.form.Form.{Form}
 use Rattle.tt_replay.specs.declared.form.Form.TheVariants.{Run, Check, Show}
-use Rattle.tt_replay.specs.Statuses.{form_of, input_limit, IsOfForm, IsAnswer, Answers, IsWritten, IsPartlyWritten, IsRefused, IsDiffering, IsOther, bad_line_text, differs_text}
+use Rattle.tt_replay.specs.Statuses.{
+  form_of,
+  input_limit,
+  IsOfForm,
+  IsAnswer,
+  Answers,
+  IsWritten,
+  IsPartlyWritten,
+  IsRefused,
+  IsDiffering,
+  IsOther,
+  bad_line_text,
+  differs_text,
+}
 use Rattle.tt_show.specs.ListLines.{ListLine}
 use Rattle.tt_show.specs.Lists as lists
 use Rattle.tt_show.specs.Lists.{IsList, line_text}
 use Rattle.tt_replay.proofs.Steps.{none_bad}
 
-answers : (words : List (List ℕ)) (form : Form) (input bytes read answer : List ℕ) → form_of words ≡ Some form → bytes ≡ input → read ≡ bytes → length bytes ≤ input_limit → IsAnswer form (lines_of read) answer → Answers words input answer
+answers : (words : List (List ℕ)) (form : Form) (input bytes read answer : List ℕ) → form_of words ≡ Some form → bytes ≡ input
+    → read ≡ bytes → length bytes ≤ input_limit → IsAnswer form (lines_of read) answer → Answers words input answer
 answers words form input bytes read answer asked whole same within is = record {
   form = form;
   asked = asked;
@@ -22,7 +58,8 @@ answers words form input bytes read answer asked whole same within is = record {
 }
 
 -- the answer was written
-pub written : (left : Option (List ℕ)) (words : List (List ℕ)) (form : Form) (bytes read answer told : List ℕ) (before after : Option (List ℕ)) → IfSome left (λ input. bytes ≡ input) → form_of words ≡ Some form → read ≡ bytes → length bytes ≤ input_limit
+pub written : (left : Option (List ℕ)) (words : List (List ℕ)) (form : Form) (bytes read answer told : List ℕ) (before after : Option
+    (List ℕ)) → IfSome left (λ input. bytes ≡ input) → form_of words ≡ Some form → read ≡ bytes → length bytes ≤ input_limit
     → IsAnswer form (lines_of read) answer → told ≡ answer → Appends before after told → IfSome left (IsWritten words before after)
 written None words form bytes read answer told before after whole asked same within is all wrote = tt
 written (Some input) words form bytes read answer told before after whole asked same within is all wrote = record {
@@ -32,8 +69,10 @@ written (Some input) words form bytes read answer told before after whole asked 
 }
 
 -- a front of it was written
-pub partly : (left : Option (List ℕ)) (words : List (List ℕ)) (form : Form) (bytes read answer told : List ℕ) (before after : Option (List ℕ)) → IfSome left (λ input. bytes ≡ input) → form_of words ≡ Some form → read ≡ bytes → length bytes ≤ input_limit
-    → IsAnswer form (lines_of read) answer → told ≡ answer → AppendsPart before after told → IfSome left (IsPartlyWritten words before after)
+pub partly : (left : Option (List ℕ)) (words : List (List ℕ)) (form : Form) (bytes read answer told : List ℕ) (before after : Option
+    (List ℕ)) → IfSome left (λ input. bytes ≡ input) → form_of words ≡ Some form → read ≡ bytes → length bytes ≤ input_limit
+    → IsAnswer form (lines_of read) answer → told ≡ answer → AppendsPart before after told
+    → IfSome left (IsPartlyWritten words before after)
 partly None words form bytes read answer told before after whole asked same within is all wrote = tt
 partly (Some input) words form bytes read answer told before after whole asked same within is all wrote = record {
   answer = answer;
@@ -42,8 +81,11 @@ partly (Some input) words form bytes read answer told before after whole asked s
 }
 
 -- the first bad line was told
-pub refused : (left : Option (List ℕ)) (words : List (List ℕ)) (form : Form) (bytes read : List ℕ) (line : ℕ) (failed : Type 0) (before after : Option (List ℕ)) → IfSome left (λ input. bytes ≡ input) → form_of words ≡ Some form → read ≡ bytes → length bytes ≤ input_limit
-    → IsFirstBad (IsOfForm form) (lines_of read) line → Appends before after (bad_line_text line) ⊎ (failed × AppendsPart before after (bad_line_text line)) → IfSome left (IsRefused words failed before after)
+pub refused : (left : Option (List ℕ)) (words : List (List ℕ)) (form : Form) (bytes read : List ℕ) (line : ℕ) (failed : Type 0)
+    (before after : Option (List ℕ)) → IfSome left (λ input. bytes ≡ input) → form_of words ≡ Some form → read ≡ bytes
+    → length bytes ≤ input_limit
+    → IsFirstBad (IsOfForm form) (lines_of read) line → Appends before after (bad_line_text line)
+    ⊎ (failed × AppendsPart before after (bad_line_text line)) → IfSome left (IsRefused words failed before after)
 refused None words form bytes read line failed before after whole asked same within bad told = tt
 refused (Some input) words form bytes read line failed before after whole asked same within bad told = record {
   form = form;
@@ -55,8 +97,11 @@ refused (Some input) words form bytes read line failed before after whole asked 
 }
 
 -- the first place that differs was told
-pub differing : (left : Option (List ℕ)) (words : List (List ℕ)) (form : Form) (bytes read : List ℕ) (place : ℕ) (failed : Type 0) (before after : Option (List ℕ)) → IfSome left (λ input. bytes ≡ input) → form_of words ≡ Some form → form ≡ Check → read ≡ bytes → length bytes ≤ input_limit
-    → IsOther (lines_of read) place → Appends before after (differs_text place) ⊎ (failed × AppendsPart before after (differs_text place)) → IfSome left (IsDiffering words failed before after)
+pub differing : (left : Option (List ℕ)) (words : List (List ℕ)) (form : Form) (bytes read : List ℕ) (place : ℕ) (failed : Type 0)
+    (before after : Option (List ℕ)) → IfSome left (λ input. bytes ≡ input) → form_of words ≡ Some form → form ≡ Check → read ≡ bytes
+    → length bytes ≤ input_limit
+    → IsOther (lines_of read) place → Appends before after (differs_text place) ⊎ (failed × AppendsPart before after (differs_text place))
+    → IfSome left (IsDiffering words failed before after)
 differing None words form bytes read place failed before after whole asked is same within other told = tt
 differing (Some input) words form bytes read place failed before after whole asked is same within other told = record {
   asked = asked ∙ ap Some is;
@@ -81,7 +126,14 @@ each_front (line ∷ lines) (suc n) each = (each.0, each_front lines n each.1)
 
 list_none_bad : (texts : List (List ℕ)) (line : ℕ) → IsList texts → IsFirstBad IsList texts line → ⊥
 list_none_bad texts line fits bad =
-    bad.bad (take line fits.0, record { each = each_front fits.0 line fits.1.each; text = ap (take line) fits.1.text ∙ take-map line_text line fits.0 })
+    bad.bad (
+      take line fits.0,
+      record {
+        each = each_front fits.0 line fits.1.each;
+        text = ap (take line) fits.1.text
+            ∙ take-map line_text line fits.0;
+      },
+    )
 
 -- an input of a form has no first bad line
 none_bad_of : (form : Form) (texts : List (List ℕ)) (line : ℕ) → IsOfForm form texts → IsFirstBad (IsOfForm form) texts line → ⊥
@@ -89,14 +141,17 @@ none_bad_of Run texts line fits bad = none_bad texts line fits bad
 none_bad_of Check texts line fits bad = none_bad texts line fits bad
 none_bad_of Show texts line fits bad = list_none_bad texts line fits bad
 
-pub never_refused : (left : Option (List ℕ)) (words : List (List ℕ)) (form other : Form) (bytes read input : List ℕ) (line : ℕ) → IfSome left (λ xs. bytes ≡ xs) → form_of words ≡ Some form → read ≡ bytes → IsFirstBad (IsOfForm form) (lines_of read) line
+pub never_refused : (left : Option (List ℕ)) (words : List (List ℕ)) (form other : Form) (bytes read input : List ℕ) (line : ℕ)
+    → IfSome left (λ xs. bytes ≡ xs) → form_of words ≡ Some form → read ≡ bytes → IsFirstBad (IsOfForm form) (lines_of read) line
     → form_of words ≡ Some other → left ≡ Some input → IsOfForm other (lines_of input) → ⊥
 never_refused left words form other bytes read input line whole asked same bad also is fits =
     let one : form ≡ other = some_is form other (sym asked ∙ also) in
     let text : read ≡ input = same ∙ the_same left bytes input whole is in
-    none_bad_of other (lines_of input) line fits (subst (λ (f : Form). IsFirstBad (IsOfForm f) (lines_of input) line) one (subst (λ (xs : List ℕ). IsFirstBad (IsOfForm form) (lines_of xs) line) text bad))
+    none_bad_of other (lines_of input) line fits (subst (λ (f : Form). IsFirstBad (IsOfForm f) (lines_of input) line) one
+    (subst (λ (xs : List ℕ). IsFirstBad (IsOfForm form) (lines_of xs) line) text bad))
 
 -- what differs was checked
-pub checked_alone : (status : ℕ) (words : List (List ℕ)) (form other : Form) → form_of words ≡ Some form → form_of words ≡ Some other → form ≡ Check → (status ≡ 1) ⊎ (status ≡ 6) → (status ≡ 0) ⊎ (status ≡ 6) ⊎ ((status ≡ 1) × (other ≡ Check))
+pub checked_alone : (status : ℕ) (words : List (List ℕ)) (form other : Form) → form_of words ≡ Some form → form_of words ≡ Some other
+    → form ≡ Check → (status ≡ 1) ⊎ (status ≡ 6) → (status ≡ 0) ⊎ (status ≡ 6) ⊎ ((status ≡ 1) × (other ≡ Check))
 checked_alone status words form other asked also is (inl one) = inr (inr (one, some_is other form (sym also ∙ asked) ∙ is))
 checked_alone status words form other asked also is (inr six) = inr (inl six)

@@ -1,5 +1,31 @@
 -- What a script expects, step by step.
-use Rattle.std.proofs.Common.{◌≡◌, ◌≢◌, ℕ, ◌+◌, ◌-◌, Bool, true, false, List, [], ◌∷◌, ◌++◌, length, take, map, Option, None, Some, refl, sym, ap, subst, ◌∙◌, append_assoc, arith}
+use Rattle.std.proofs.Common.{
+  ◌≡◌,
+  ◌≢◌,
+  ℕ,
+  ◌+◌,
+  ◌-◌,
+  Bool,
+  true,
+  false,
+  List,
+  [],
+  ◌∷◌,
+  ◌++◌,
+  length,
+  take,
+  map,
+  Option,
+  None,
+  Some,
+  refl,
+  sym,
+  ap,
+  subst,
+  ◌∙◌,
+  append_assoc,
+  arith,
+}
 use Rattle.std.specs.Prelude.{IfNone, IfSome}
 use Rattle.std.proofs.lemmas.List.{append-nil, append_cancel_left, length-append}
 use Rattle.std.proofs.lemmas.Grind.{flat_map-append}
@@ -36,13 +62,16 @@ of_snoc : (steps : List Step) (step : Step) → expected_of (steps ++ step ∷ [
 of_snoc steps step = of_more steps (step ∷ []) ∙ ap (λ (t : List (List ℕ)). expected_of steps ++ t) (of_one step)
 
 -- one line more was compared
-pub compared : (steps : List Step) (step : Step) (told rest left : List (List ℕ)) → told ≡ expected_of steps ++ rest → rest ≡ expected_in step ++ left → told ≡ expected_of (steps ++ step ∷ []) ++ left
+pub compared : (steps : List Step) (step : Step) (told rest left : List (List ℕ)) → told ≡ expected_of steps ++ rest
+    → rest ≡ expected_in step ++ left → told ≡ expected_of (steps ++ step ∷ []) ++ left
 compared steps step told rest left so_far next =
     so_far ∙ ap (λ (t : List (List ℕ)). expected_of steps ++ t) next ∙ sym (append_assoc (expected_of steps) (expected_in step) left)
     ∙ ap (λ (t : List (List ℕ)). t ++ left) (sym (of_snoc steps step))
 
-pub place_behind : (steps : List Step) (step : Step) (place more next : ℕ) → place ≡ length (expected_of steps) + 1 → more ≡ length (expected_in step) → next ≡ place + more → next ≡ length (expected_of (steps ++ step ∷ [])) + 1
-place_behind steps step place more next here count is = omega (arith, here, count, is, ap length (of_snoc steps step), length-append (expected_of steps) (expected_in step))
+pub place_behind : (steps : List Step) (step : Step) (place more next : ℕ) → place ≡ length (expected_of steps) + 1
+    → more ≡ length (expected_in step) → next ≡ place + more → next ≡ length (expected_of (steps ++ step ∷ [])) + 1
+place_behind steps step place more next here count is =
+    omega (arith, here, count, is, ap length (of_snoc steps step), length-append (expected_of steps) (expected_in step))
 
 -- ---- where two lists differ
 
@@ -55,11 +84,14 @@ first_none [] some e = some refl
 first_none (line ∷ rest) some e = absurd cc
 
 -- the lists are the same so far, and then differ
-apart : (front rest more told expected : List (List ℕ)) (place : ℕ) → told ≡ front ++ rest → expected ≡ front ++ more → place ≡ length front + 1 → (take 1 rest ≡ take 1 more → ⊥) → DifferAt place told expected
+apart : (front rest more told expected : List (List ℕ)) (place : ℕ) → told ≡ front ++ rest → expected ≡ front ++ more
+    → place ≡ length front + 1 → (take 1 rest ≡ take 1 more → ⊥) → DifferAt place told expected
 apart front rest more told expected place is also here never =
     let less : place - 1 ≡ length front = omega (arith, here) in
-    let one : (xs ys : List (List ℕ)) → xs ≡ front ++ ys → take (place - 1) xs ≡ front = λ xs ys e. rw less (ap (take (length front)) e ∙ take-append_seam front ys) in
-    let two : (xs ys : List (List ℕ)) → xs ≡ front ++ ys → take place xs ≡ front ++ take 1 ys = λ xs ys e. rw here (ap (take (length front + 1)) e ∙ take-append-add front ys 1) in
+    let one : (xs ys : List (List ℕ)) → xs ≡ front ++ ys → take (place - 1) xs ≡ front =
+    λ xs ys e. rw less (ap (take (length front)) e ∙ take-append_seam front ys) in
+    let two : (xs ys : List (List ℕ)) → xs ≡ front ++ ys → take place xs ≡ front ++ take 1 ys =
+    λ xs ys e. rw here (ap (take (length front + 1)) e ∙ take-append-add front ys 1) in
     record {
       some = omega (arith, here);
       before = one told rest is ∙ sym (one expected more also);
@@ -67,20 +99,25 @@ apart front rest more told expected place is also here never =
     }
 
 -- what a script expects begins with what its first steps do
-begins : (script : Contents) (r : Standing) (bytes : List ℕ) (steps : List Step) → Spells script (lines_of bytes) → IsAt r bytes steps → (more : List Step) × (expected_lines script.lines ≡ expected_of steps ++ expected_of more)
+begins : (script : Contents) (r : Standing) (bytes : List ℕ) (steps : List Step) → Spells script (lines_of bytes) → IsAt r bytes steps
+    → (more : List Step) × (expected_lines script.lines ≡ expected_of steps ++ expected_of more)
 begins script r bytes steps spells at =
     let on = goes_on steps spells.steps (lines_of r.rest) at.is.each spells.is.each (sym at.text ∙ spells.text) in
     (on.0, ap (λ (c : Contents). expected_lines c.lines) spells.makes ∙ ap expected_of on.1 ∙ of_more steps on.0)
 
 -- the next line of the report is another
-pub another : (script : Contents) (s : Standing) (bytes line : List ℕ) (steps : List Step) (step : Step) (told rest : List (List ℕ)) (place : ℕ) → Spells script (lines_of bytes) → IsAt s bytes (steps ++ step ∷ [])
-    → told ≡ expected_of steps ++ rest → place ≡ length (expected_of steps) + 1 → expected_in step ≡ line ∷ [] → ((more : List (List ℕ)) → rest ≢ line ∷ more) → DifferAt place told (expected_lines script.lines)
+pub another : (script : Contents) (s : Standing) (bytes line : List ℕ) (steps : List Step) (step : Step) (told rest : List (List ℕ))
+    (place : ℕ) → Spells script (lines_of bytes) → IsAt s bytes (steps ++ step ∷ [])
+    → told ≡ expected_of steps ++ rest → place ≡ length (expected_of steps) + 1 → expected_in step ≡ line ∷ [] → ((more : List (List ℕ))
+    → rest ≢ line ∷ more) → DifferAt place told (expected_lines script.lines)
 another script s bytes line steps step told rest place spells at so_far here is never =
     let all = begins script s bytes (steps ++ step ∷ []) spells at in
     let tail = expected_of all.0 in
     let expected : expected_lines script.lines ≡ expected_of steps ++ line ∷ tail =
-    all.1 ∙ ap (λ (t : List (List ℕ)). t ++ tail) (of_snoc steps step ∙ ap (λ (t : List (List ℕ)). expected_of steps ++ t) is) ∙ append_assoc (expected_of steps) (line ∷ []) tail in
-    apart (expected_of steps) rest (line ∷ tail) told (expected_lines script.lines) place so_far expected here (λ e. first_apart line rest never e)
+    all.1 ∙ ap (λ (t : List (List ℕ)). t ++ tail) (of_snoc steps step ∙ ap (λ (t : List (List ℕ)). expected_of steps ++ t) is)
+    ∙ append_assoc (expected_of steps) (line ∷ []) tail in
+    apart (expected_of steps) rest (line ∷ tail) told (expected_lines script.lines) place so_far expected here (λ e. first_apart line rest
+    never e)
 
 -- ---- where nothing of the script is left
 
@@ -96,25 +133,31 @@ lines_some : (bytes : List ℕ) → bytes ≢ [] → lines_of bytes ≢ []
 lines_some [] some e = some refl
 lines_some (byte ∷ bytes) some e = more_some _ byte (lines_of bytes) e
 
-at_end : (found : Option ℕ) (rest : List ℕ) (front told : List (List ℕ)) (place : ℕ) → told ≡ front ++ lines_of rest → place ≡ length front + 1 → IfNone found (rest ≡ []) → IfSome found (λ at. (at ≡ place) × (rest ≢ [])) → IsDifference found told front
+at_end : (found : Option ℕ) (rest : List ℕ) (front told : List (List ℕ)) (place : ℕ) → told ≡ front ++ lines_of rest
+    → place ≡ length front + 1 → IfNone found (rest ≡ []) → IfSome found (λ at. (at ≡ place) × (rest ≢ [])) → IsDifference found told front
 at_end None rest front told place is here none some = is ∙ ap (λ (t : List ℕ). front ++ lines_of t) none ∙ append-nil front
 at_end (Some at) rest front told place is here none some =
     let there : at ≡ length front + 1 = some.0 ∙ here in
-    apart front (lines_of rest) [] told front at is (sym (append-nil front)) there (λ e. first_none (lines_of rest) (lines_some rest some.1) e)
+    apart front (lines_of rest) [] told front at is (sym (append-nil front)) there (λ e. first_none (lines_of rest)
+    (lines_some rest some.1) e)
 
 no_steps : (steps : List Step) → map step_text steps ≡ [] → steps ≡ []
 no_steps [] e = refl
 no_steps (step ∷ steps) e = absurd cc
 
 -- all was compared
-pub ended : (script : Contents) (r : Standing) (bytes rest : List ℕ) (steps : List Step) (told : List (List ℕ)) (place : ℕ) (found : Option ℕ) → Spells script (lines_of bytes) → IsAt r bytes steps → r.rest ≡ []
-    → told ≡ expected_of steps ++ lines_of rest → place ≡ length (expected_of steps) + 1 → IfNone found (rest ≡ []) → IfSome found (λ at. (at ≡ place) × (rest ≢ [])) → IsDifference found told (expected_lines script.lines)
+pub ended : (script : Contents) (r : Standing) (bytes rest : List ℕ) (steps : List Step) (told : List (List ℕ)) (place : ℕ)
+    (found : Option ℕ) → Spells script (lines_of bytes) → IsAt r bytes steps → r.rest ≡ []
+    → told ≡ expected_of steps ++ lines_of rest → place ≡ length (expected_of steps) + 1 → IfNone found (rest ≡ [])
+    → IfSome found (λ at. (at ≡ place) × (rest ≢ [])) → IsDifference found told (expected_lines script.lines)
 ended script r bytes rest steps told place found spells at left so_far here none some =
     let on = goes_on steps spells.steps (lines_of r.rest) at.is.each spells.is.each (sym at.text ∙ spells.text) in
     let nothing : on.0 ≡ [] = no_steps on.0 (sym on.2 ∙ ap lines_of left) in
     let all : expected_lines script.lines ≡ expected_of steps =
-    ap (λ (c : Contents). expected_lines c.lines) spells.makes ∙ ap expected_of (on.1 ∙ ap (λ (t : List Step). steps ++ t) nothing ∙ append-nil steps) in
-    subst (λ (t : List (List ℕ)). IsDifference found told t) (sym all) (at_end found rest (expected_of steps) told place so_far here none some)
+    ap (λ (c : Contents). expected_lines c.lines) spells.makes ∙ ap expected_of (on.1 ∙ ap (λ (t : List Step). steps ++ t) nothing
+    ∙ append-nil steps) in
+    subst (λ (t : List (List ℕ)). IsDifference found told t) (sym all) (at_end found rest (expected_of steps) told place so_far here none
+    some)
 
 -- a script has no first bad line
 pub never_bad : (texts : List (List ℕ)) (line : ℕ) → IsScriptText texts → IsFirstBad IsScriptText texts line → ⊥

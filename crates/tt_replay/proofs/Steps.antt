@@ -1,5 +1,34 @@
 -- Scripts that are played, step by step.
-use Rattle.std.proofs.Common.{◌≡◌, ℕ, ◌+◌, ◌-◌, ◌≤◌, List, [], ◌∷◌, ◌++◌, length, take, drop, map, true, refl, sym, ap, ap₂, subst, ◌∙◌, arith, ◌<◌, ◌↔◌, inl, inr, Result, Ok, Err}
+use Rattle.std.proofs.Common.{
+  ◌≡◌,
+  ℕ,
+  ◌+◌,
+  ◌-◌,
+  ◌≤◌,
+  List,
+  [],
+  ◌∷◌,
+  ◌++◌,
+  length,
+  take,
+  drop,
+  map,
+  true,
+  refl,
+  sym,
+  ap,
+  ap₂,
+  subst,
+  ◌∙◌,
+  arith,
+  ◌<◌,
+  ◌↔◌,
+  inl,
+  inr,
+  Result,
+  Ok,
+  Err,
+}
 use Rattle.std.specs.Prelude.{sum_by, fold}
 use Rattle.std.proofs.lemmas.List.{take-append-drop, take-map, length-map, length-append, append-nil}
 use Rattle.std.proofs.lemmas.List.Sums.{sum_by-append, sum_by-cons, fold-append}
@@ -48,14 +77,16 @@ built_take : (n : ℕ) (steps : List Step) → IsBuilt steps → IsBuilt (take n
 built_take n steps built = built_front (take n steps) (drop n steps) (subst IsBuilt (sym (take-append-drop n steps)) built)
 
 -- one step more
-pub built_snoc : (steps : List Step) (step : Step) (openings ticks : ℕ) → IsBuilt steps → 1 ≡ openings + sum_by opens steps → 100 ≡ ticks + sum_by ticks_in steps → MayFollow openings ticks step → IsBuilt (steps ++ step ∷ [])
+pub built_snoc : (steps : List Step) (step : Step) (openings ticks : ℕ) → IsBuilt steps → 1 ≡ openings + sum_by opens steps
+    → 100 ≡ ticks + sum_by ticks_in steps → MayFollow openings ticks step → IsBuilt (steps ++ step ∷ [])
 built_snoc steps step openings ticks built few early may = record {
   each = all_snoc (λ s. is_built s ≡ true) steps step built.each may.built;
   openings = omega (arith, sum_snoc opens steps step, few, may.openings_left);
   ticks = omega (arith, sum_snoc ticks_in steps step, early, may.ticks_left);
 }
 
-pub built_last : (steps : List Step) (step : Step) (openings ticks : ℕ) → IsBuilt (steps ++ step ∷ []) → 1 ≡ openings + sum_by opens steps → 100 ≡ ticks + sum_by ticks_in steps → MayFollow openings ticks step
+pub built_last : (steps : List Step) (step : Step) (openings ticks : ℕ) → IsBuilt (steps ++ step ∷ []) → 1 ≡ openings + sum_by opens steps
+    → 100 ≡ ticks + sum_by ticks_in steps → MayFollow openings ticks step
 built_last steps step openings ticks built few early = record {
   built = all_last (λ s. is_built s ≡ true) steps step built.each;
   openings_left = omega (arith, sum_snoc opens steps step, few, built.openings);
@@ -64,20 +95,29 @@ built_last steps step openings ticks built few early = record {
 
 -- ---- the lines that were read
 
-front_texts : (r : Standing) (bytes : List ℕ) (steps : List Step) (n : ℕ) → reader.IsAt r bytes steps → n ≡ length steps → take n (lines_of bytes) ≡ map step_text steps
+front_texts : (r : Standing) (bytes : List ℕ) (steps : List Step) (n : ℕ) → reader.IsAt r bytes steps → n ≡ length steps
+    → take n (lines_of bytes) ≡ map step_text steps
 front_texts r bytes steps n at is =
     let long : n ≡ length (map step_text steps) = is ∙ sym (length-map steps step_text) in
     ap (take n) at.text ∙ (rw long (take-append_seam (map step_text steps) (lines_of r.rest)))
 
-front_played : (r : Standing) (bytes : List ℕ) (steps : List Step) (n : ℕ) → reader.IsAt r bytes steps → IsBuilt steps → n ≡ length steps → IsPlayed (take n (lines_of bytes))
-front_played r bytes steps n at built is =
-    (contents_of steps, record { spelled = record { steps = steps; is = at.is; text = front_texts r bytes steps n at is; makes = refl }; built = built })
+front_played : (r : Standing) (bytes : List ℕ) (steps : List Step) (n : ℕ) → reader.IsAt r bytes steps → IsBuilt steps → n ≡ length steps
+    → IsPlayed (take n (lines_of bytes))
+front_played r bytes steps n at built is = (
+  contents_of steps,
+  record {
+    spelled = record { steps = steps; is = at.is; text = front_texts r bytes steps n at is; makes = refl };
+    built = built;
+  },
+)
 
 front_within : (r : Standing) (bytes : List ℕ) (steps : List Step) → reader.IsAt r bytes steps → length steps ≤ length (lines_of bytes)
-front_within r bytes steps at = omega (arith, ap length at.text, length-append (map step_text steps) (lines_of r.rest), length-map steps step_text)
+front_within r bytes steps at =
+    omega (arith, ap length at.text, length-append (map step_text steps) (lines_of r.rest), length-map steps step_text)
 
 -- where nothing is left, these steps are spelled
-abbrev all_read : (r : Standing) (bytes : List ℕ) (steps : List Step) → reader.IsAt r bytes steps → r.rest ≡ [] → Spells (contents_of steps) (lines_of bytes)
+abbrev all_read : (r : Standing) (bytes : List ℕ) (steps : List Step) → reader.IsAt r bytes steps → r.rest ≡ []
+    → Spells (contents_of steps) (lines_of bytes)
 all_read r bytes steps at none = record {
   steps = steps;
   is = at.is;
@@ -86,7 +126,8 @@ all_read r bytes steps at none = record {
 }
 
 -- and all of it is played
-pub all_played : (r : Standing) (bytes : List ℕ) (steps : List Step) (setup : Setup) (saved : List ℕ) → reader.IsAt r bytes steps → r.rest ≡ [] → IsBuilt steps → setup ≡ setup_of steps → saved ≡ saved_in steps
+pub all_played : (r : Standing) (bytes : List ℕ) (steps : List Step) (setup : Setup) (saved : List ℕ) → reader.IsAt r bytes steps
+    → r.rest ≡ [] → IsBuilt steps → setup ≡ setup_of steps → saved ≡ saved_in steps
     → IsPlayedWith setup saved (lines_of bytes)
 all_played r bytes steps setup saved at none built made told = record {
   script = contents_of steps;
@@ -98,7 +139,8 @@ all_played r bytes steps setup saved at none built made told = record {
 -- ---- the first bad line
 
 -- a line that is none of a script in its place
-pub first_unread : (r : Standing) (bytes : List ℕ) (steps : List Step) (line : ℕ) → reader.IsAt r bytes steps → IsBuilt steps → IsFirstBad IsScriptText (lines_of bytes) line → line ≡ r.count + 1 → IsFirstBad IsPlayed (lines_of bytes) line
+pub first_unread : (r : Standing) (bytes : List ℕ) (steps : List Step) (line : ℕ) → reader.IsAt r bytes steps → IsBuilt steps
+    → IsFirstBad IsScriptText (lines_of bytes) line → line ≡ r.count + 1 → IsFirstBad IsPlayed (lines_of bytes) line
 first_unread r bytes steps line at built first here = record {
   some = first.some;
   within = first.within;
@@ -107,8 +149,10 @@ first_unread r bytes steps line at built first here = record {
 }
 
 -- a line that is not played in its place
-pub first_unplayed : (r s : Standing) (bytes : List ℕ) (steps : List Step) (step : Step) (openings ticks line : ℕ) → reader.IsAt r bytes steps → reader.IsAt s bytes (steps ++ step ∷ []) → IsBuilt steps
-    → 1 ≡ openings + sum_by opens steps → 100 ≡ ticks + sum_by ticks_in steps → (MayFollow openings ticks step → ⊥) → line ≡ length steps + 1 → IsFirstBad IsPlayed (lines_of bytes) line
+pub first_unplayed : (r s : Standing) (bytes : List ℕ) (steps : List Step) (step : Step) (openings ticks line : ℕ)
+    → reader.IsAt r bytes steps → reader.IsAt s bytes (steps ++ step ∷ []) → IsBuilt steps
+    → 1 ≡ openings + sum_by opens steps → 100 ≡ ticks + sum_by ticks_in steps → (MayFollow openings ticks step → ⊥)
+    → line ≡ length steps + 1 → IsFirstBad IsPlayed (lines_of bytes) line
 first_unplayed r s bytes steps step openings ticks line at next built few early never here =
     let long : line ≡ length (steps ++ step ∷ []) = omega (arith, here, length-append steps (step ∷ [])) in
     let texts = front_texts s bytes (steps ++ step ∷ []) line next long in
@@ -118,7 +162,8 @@ first_unplayed r s bytes steps step openings ticks line at next built few early 
       before = front_played r bytes steps (line - 1) at built (omega (arith, here));
       bad = λ is.
           let spelled = is.1.spelled in
-          let same : spelled.steps ≡ steps ++ step ∷ [] = same_steps spelled.steps (steps ++ step ∷ []) spelled.is.each next.is.each (sym spelled.text ∙ texts) in
+          let same : spelled.steps ≡ steps ++ step ∷ [] =
+          same_steps spelled.steps (steps ++ step ∷ []) spelled.is.each next.is.each (sym spelled.text ∙ texts) in
           never (built_last steps step openings ticks (subst IsBuilt same is.1.built) few early);
     }
 
@@ -128,7 +173,13 @@ played_take texts n is =
     let spelled = is.1.spelled in (
       contents_of (take n spelled.steps),
       record {
-        spelled = record { steps = take n spelled.steps; is = steps_take n spelled.steps spelled.is; text = ap (take n) spelled.text ∙ take-map step_text n spelled.steps; makes = refl };
+        spelled = record {
+          steps = take n spelled.steps;
+          is = steps_take n spelled.steps spelled.is;
+          text = ap (take n) spelled.text
+              ∙ take-map step_text n spelled.steps;
+          makes = refl;
+        };
         built = built_take n spelled.steps is.1.built;
       },
     )
@@ -140,18 +191,21 @@ none_bad texts line is first = first.bad (played_take texts line is)
 -- ---- read a second time
 
 -- no line of it is refused
-pub none_unread : (setup : Setup) (saved : List ℕ) (texts : List (List ℕ)) (line : ℕ) → IsPlayedWith setup saved texts → IsFirstBad IsScriptText texts line → ⊥
+pub none_unread : (setup : Setup) (saved : List ℕ) (texts : List (List ℕ)) (line : ℕ) → IsPlayedWith setup saved texts
+    → IsFirstBad IsScriptText texts line → ⊥
 none_unread setup saved texts line is first = first.bad (first_of_script is.script texts line is.plays.spelled)
 
 -- what was read of it is played
-pub read_built : (setup : Setup) (saved : List ℕ) (r : Standing) (bytes : List ℕ) (steps : List Step) → IsPlayedWith setup saved (lines_of bytes) → reader.IsAt r bytes steps → IsBuilt steps
+pub read_built : (setup : Setup) (saved : List ℕ) (r : Standing) (bytes : List ℕ) (steps : List Step)
+    → IsPlayedWith setup saved (lines_of bytes) → reader.IsAt r bytes steps → IsBuilt steps
 read_built setup saved r bytes steps is at =
     let all = is.plays.spelled in
     let on = goes_on steps all.steps (lines_of r.rest) at.is.each all.is.each (sym at.text ∙ all.text) in
     built_front steps on.0 (subst IsBuilt on.1 is.plays.built)
 
 -- and so the last line that was read may stand there
-pub read_last : (setup : Setup) (saved : List ℕ) (r : Standing) (bytes : List ℕ) (steps : List Step) (step : Step) → IsPlayedWith setup saved (lines_of bytes) → reader.IsAt r bytes (steps ++ step ∷ [])
+pub read_last : (setup : Setup) (saved : List ℕ) (r : Standing) (bytes : List ℕ) (steps : List Step) (step : Step)
+    → IsPlayedWith setup saved (lines_of bytes) → reader.IsAt r bytes (steps ++ step ∷ [])
     → (is_built step ≡ true) × (sum_by opens steps + opens step ≤ 1) × (sum_by ticks_in steps + ticks_in step ≤ 100)
 read_last setup saved r bytes steps step is at =
     let built = read_built setup saved r bytes (steps ++ step ∷ []) is at in (
@@ -161,13 +215,16 @@ read_last setup saved r bytes steps step is at =
     )
 
 -- one line more was done
-pub played_snoc : (setup : Setup) (steps : List Step) (step : Step) → played setup (lines_in (steps ++ step ∷ [])) ≡ fold (done setup) (played setup (lines_in steps)) (line_in step)
+pub played_snoc : (setup : Setup) (steps : List Step) (step : Step) → played setup (lines_in (steps ++ step ∷ [])) ≡ fold (done setup)
+    (played setup (lines_in steps)) (line_in step)
 played_snoc setup steps step =
-    let lines : lines_in (steps ++ step ∷ []) ≡ lines_in steps ++ line_in step = flat_map-append line_in steps (step ∷ []) ∙ ap (λ (t : List Line1). lines_in steps ++ t) (append-nil (line_in step)) in
+    let lines : lines_in (steps ++ step ∷ []) ≡ lines_in steps ++ line_in step =
+    flat_map-append line_in steps (step ∷ []) ∙ ap (λ (t : List Line1). lines_in steps ++ t) (append-nil (line_in step)) in
     ap (played setup) lines ∙ fold-append (done setup) nothing (lines_in steps) (line_in step)
 
 -- all of it was done
-pub played_to : (setup : Setup) (saved : List ℕ) (r : Standing) (bytes : List ℕ) (steps : List Step) (play : Play) → IsPlayedWith setup saved (lines_of bytes) → reader.IsAt r bytes steps → r.rest ≡ []
+pub played_to : (setup : Setup) (saved : List ℕ) (r : Standing) (bytes : List ℕ) (steps : List Step) (play : Play)
+    → IsPlayedWith setup saved (lines_of bytes) → reader.IsAt r bytes steps → r.rest ≡ []
     → play.hub.start ≡ world_from setup saved → IsAt setup play (played setup (lines_in steps)) → PlayedTo (lines_of bytes) play
 played_to setup saved r bytes steps play is at none begins done_so =
     let spelled = all_read r bytes steps at none in
@@ -200,7 +257,8 @@ no_map = refl
 
 -- without a map the start is the setup's own
 pub own_start : (setup : Setup) (saved : List ℕ) → saved ≡ [] → start setup ≡ world_from setup saved
-own_start setup saved none = sym (ap (λ (m : List ℕ). world_or (map_in m) (start setup)) none ∙ ap (λ (r : Result WorldState MapBad). world_or r (start setup)) no_map)
+own_start setup saved none = sym (ap (λ (m : List ℕ). world_or (map_in m) (start setup)) none
+    ∙ ap (λ (r : Result WorldState MapBad). world_or r (start setup)) no_map)
 
 pub map_start : (setup : Setup) (saved : List ℕ) (w : WorldState) → map_in saved ≡ Ok w → w ≡ world_from setup saved
 map_start setup saved w read = sym (ap (λ (r : Result WorldState MapBad). world_or r (start setup)) read)
@@ -231,7 +289,8 @@ same_bad a b e = cc
 no_world : (w : WorldState) (told : MapBad) → Ok w ≡ failed told → ⊥
 no_world w told e = absurd cc
 
-pub never_bad : (saved : List ℕ) (result : Result WorldState MapBad) (told : MapBad) → IsSaved saved → result ≡ Err told → (told ≡ bad.Memory → ⊥)
+pub never_bad : (saved : List ℕ) (result : Result WorldState MapBad) (told : MapBad) → IsSaved saved → result ≡ Err told
+    → (told ≡ bad.Memory → ⊥)
     → ((result ≡ Err bad.Memory → ⊥) → (w : WorldState) → (result ≡ Ok w) ↔ IsMap saved w) → ⊥
 never_bad saved result told is e other map =
     let answered : result ≡ Err bad.Memory → ⊥ = λ m. other (same_bad told bad.Memory (sym e ∙ m)) in

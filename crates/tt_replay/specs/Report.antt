@@ -27,7 +27,8 @@ life_text false = codes "ended"
 -- a connection's line: its number, its door, whether it is live, and all that it was told
 abbrev pub conn_line : Setup → List Event → ℕ → List ℕ
 conn_line setup events conn =
-    codes "conn " ++ decimal conn ++ codes " game " ++ life_text (is_live setup events conn) ++ codes " " ++ bytes_text (sent setup events conn) ++ codes "\n"
+    codes "conn " ++ decimal conn ++ codes " game " ++ life_text (is_live setup events conn) ++ codes " "
+    ++ bytes_text (sent setup events conn) ++ codes "\n"
 
 -- the lines of the connections up to a number
 abbrev pub conn_lines : Setup → List Event → ℕ → List ℕ
@@ -56,7 +57,8 @@ world_text world = words_text world.words ++ codes " " ++ decimal world.day ++ c
 -- a live company's line: its number, its money, its loan, its name and its president's
 abbrev pub company_line : ℕ → Company → List ℕ
 company_line number c =
-    codes "company " ++ decimal number ++ codes " " ++ signed_decimal c.money ++ codes " " ++ decimal c.loan ++ codes " " ++ bytes_text c.name ++ codes " " ++ bytes_text c.president ++ codes "\n"
+    codes "company " ++ decimal number ++ codes " " ++ signed_decimal c.money ++ codes " " ++ decimal c.loan ++ codes " "
+    ++ bytes_text c.name ++ codes " " ++ bytes_text c.president ++ codes "\n"
 
 -- a line for a company, where it is live
 abbrev pub place_line : ℕ → Option Company → List ℕ
@@ -78,7 +80,8 @@ sign_line g = codes "sign " ++ sign_place g ++ codes " " ++ bytes_text g.text ++
 
 -- the server's line: the frame, the greatest permitted frame, and the world
 abbrev pub server_line : Table → WorldState → List ℕ
-server_line table world = codes "server " ++ decimal table.frame ++ codes " " ++ decimal table.top ++ codes " " ++ world_text world ++ codes "\n"
+server_line table world =
+    codes "server " ++ decimal table.frame ++ codes " " ++ decimal table.top ++ codes " " ++ world_text world ++ codes "\n"
 
 -- what a world holds: its companies by number, and its signs by id
 abbrev pub holding_lines : WorldState → List ℕ

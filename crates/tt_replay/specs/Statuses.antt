@@ -27,7 +27,8 @@ form_or false form later = later
 abbrev pub form_of : List (List ℕ) → Option Form
 form_of [] = None
 form_of (word ∷ []) =
-    form_or (bytes_eq word (codes "run")) Run (form_or (bytes_eq word (codes "check")) Check (form_or (bytes_eq word (codes "show")) Show None))
+    form_or (bytes_eq word (codes "run")) Run (form_or (bytes_eq word (codes "check")) Check (form_or (bytes_eq word (codes "show")) Show
+    None))
 form_of (word ∷ other ∷ words) = None
 
 -- ---- the input

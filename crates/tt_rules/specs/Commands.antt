@@ -1,7 +1,17 @@
 -- The codes of commands, by their numbers on the wire.
 use Rattle.std.specs.Prelude.{ℕ, Bool, true, false, ◌||◌, ◌==◌, List, Option, Some, None}
 use Rattle.tt_world.specs.declared.command.Code.{Code}
-use Rattle.tt_world.specs.declared.command.Code.TheVariants.{IncreaseLoan, DecreaseLoan, Give, PlaceSign, RenameSign, RenameCompany, RenamePresident, Pause, NewCompany}
+use Rattle.tt_world.specs.declared.command.Code.TheVariants.{
+  IncreaseLoan,
+  DecreaseLoan,
+  Give,
+  PlaceSign,
+  RenameSign,
+  RenameCompany,
+  RenamePresident,
+  Pause,
+  NewCompany,
+}
 use Rattle.tt_world.specs.declared.command.Command.{Command}
 
 abbrev pub number_of : Code → ℕ
@@ -23,7 +33,8 @@ code_or false code later = later
 -- the code with a number
 abbrev pub code_of : ℕ → Option Code
 code_of n =
-    code_or (n == 0) IncreaseLoan (code_or (n == 1) DecreaseLoan (code_or (n == 2) Give (code_or (n == 3) PlaceSign (code_or (n == 4) RenameSign
+    code_or (n == 0) IncreaseLoan (code_or (n == 1) DecreaseLoan (code_or (n == 2) Give (code_or (n == 3) PlaceSign
+    (code_or (n == 4) RenameSign
     (code_or (n == 5) RenameCompany (code_or (n == 6) RenamePresident (code_or (n == 7) Pause (code_or (n == 8) NewCompany None))))))))
 
 -- the codes that only the server itself gives: Pause and NewCompany

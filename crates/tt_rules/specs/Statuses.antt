@@ -1,7 +1,18 @@
 -- The statuses of a member, in their order.
 use Rattle.std.specs.Prelude.{ℕ, Bool, ◌==◌, nat_le, nat_lt}
 use Rattle.tt_rules.specs.declared.status.Status.{Status}
-use Rattle.tt_rules.specs.declared.status.Status.TheVariants.{Inactive, NewgrfsCheck, AuthGame, AuthCompany, Authorized, MapWait, Map, DoneMap, PreActive, Active}
+use Rattle.tt_rules.specs.declared.status.Status.TheVariants.{
+  Inactive,
+  NewgrfsCheck,
+  AuthGame,
+  AuthCompany,
+  Authorized,
+  MapWait,
+  Map,
+  DoneMap,
+  PreActive,
+  Active,
+}
 
 -- the place of a status in their order
 abbrev pub rank : Status → ℕ

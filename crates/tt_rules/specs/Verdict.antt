@@ -1,7 +1,23 @@
 -- What a packet is judged by what is known of its member alone.
 use Rattle.std.specs.Prelude.{ℕ, Bool, true, false, not, ◌||◌, ◌==◌, nat_lt, nat_le, List, Option, Some, None}
 use Rattle.tt_game.specs.declared.message.GameMsg.{GameMsg}
-use Rattle.tt_game.specs.declared.message.GameMsg.TheVariants.{ClientJoin, ClientGameInfo, ClientNewgrfsChecked, ClientGamePassword, ClientCompanyPassword, ClientGetmap, ClientMapOk, ClientAck, ClientCommand, ClientChat, ClientSetName, ClientSetPassword, ClientMove, ClientError, ClientQuit}
+use Rattle.tt_game.specs.declared.message.GameMsg.TheVariants.{
+  ClientJoin,
+  ClientGameInfo,
+  ClientNewgrfsChecked,
+  ClientGamePassword,
+  ClientCompanyPassword,
+  ClientGetmap,
+  ClientMapOk,
+  ClientAck,
+  ClientCommand,
+  ClientChat,
+  ClientSetName,
+  ClientSetPassword,
+  ClientMove,
+  ClientError,
+  ClientQuit,
+}
 use Rattle.tt_rules.specs.declared.status.Status.{Status}
 use Rattle.tt_rules.specs.declared.status.Status.TheVariants.{Inactive, NewgrfsCheck, AuthGame, AuthCompany, Authorized, DoneMap, Active}
 use Rattle.tt_rules.specs.declared.status.Standing.{Standing}
@@ -43,7 +59,8 @@ spectator = 255
 -- an acknowledgement below the last one, or above the greatest permitted frame told, and then a token that is neither 0
 -- nor the open one
 abbrev pub ack_refusal : Standing → ℕ → ℕ → Option ℕ
-ack_refusal s frame token = nat_lt frame s.acked || nat_lt s.told frame ⇒ not_expected or_else not ((token == 0) || (token == s.token)) ⇒ not_expected
+ack_refusal s frame token =
+    nat_lt frame s.acked || nat_lt s.told frame ⇒ not_expected or_else not ((token == 0) || (token == s.token)) ⇒ not_expected
 
 abbrev pub command_refusal : Standing → List Bool → ℕ → ℕ → Option ℕ
 command_refusal s live company code =

@@ -1,5 +1,25 @@
 -- The line of a packet is what the message that it spells tells of itself.
-use Rattle.std.proofs.Common.{◌≡◌, ℕ, List, [], ◌∷◌, ◌++◌, length, Option, Some, None, Result, Ok, Err, refl, sym, ap, subst, ◌∙◌, append_assoc}
+use Rattle.std.proofs.Common.{
+  ◌≡◌,
+  ℕ,
+  List,
+  [],
+  ◌∷◌,
+  ◌++◌,
+  length,
+  Option,
+  Some,
+  None,
+  Result,
+  Ok,
+  Err,
+  refl,
+  sym,
+  ap,
+  subst,
+  ◌∙◌,
+  append_assoc,
+}
 use Rattle.std.specs.Prelude.{codes}
 use Rattle.std.proofs.lemmas.List.{append-nil}
 use Rattle.tt_frame.specs.Packet.{IsBytes}
@@ -45,7 +65,8 @@ items_words fs (x ∷ xs) = each_said-append said_words (item_said fs x) (items_
 
 marks_words : (fs : List Named) (xs : List (Item fs)) → each_said said_words (marks_said fs xs) ≡ items_text fs xs
 marks_words fs [] = refl
-marks_words fs (x ∷ xs) = each_said-append said_words (mark 1 ∷ item_said fs x) (marks_said fs xs) ∙ (λ i. item_words fs x i ++ marks_words fs xs i)
+marks_words fs (x ∷ xs) =
+    each_said-append said_words (mark 1 ∷ item_said fs x) (marks_said fs xs) ∙ (λ i. item_words fs x i ++ marks_words fs xs i)
 
 pub row_words : (r : Row) (v : Values r) → each_said said_words (row_said r v) ≡ row_text r v
 row_words unknown v = absurd v
@@ -55,33 +76,44 @@ row_words (f ▸ r) v = λ i. field_words f.field v.0 i ++ row_words r v.1 i
 row_words (fixed b r) v = ap (λ (s : List ℕ). said_words (Rattle.tt_frame.specs.Said.always b) ++ s) (row_words r v)
 row_words (counted w max fs r) v =
     let n = said_words (Rattle.tt_frame.specs.Said.count (Rattle.tt_frame.specs.FieldForms.count_width w) (length v.0)) in
-    ap (λ (s : List ℕ). n ++ s) (each_said-append said_words (items_said fs v.0) (row_said r v.1) ∙ (λ i. items_words fs v.0 i ++ row_words r v.1 i))
+    ap (λ (s : List ℕ). n ++ s) (each_said-append said_words (items_said fs v.0) (row_said r v.1) ∙ (λ i. items_words fs v.0 i
+    ++ row_words r v.1 i))
     ∙ sym (append_assoc n (items_text fs v.0) (row_text r v.1))
 row_words (marked max fs r) v =
     each_said-append said_words (marks_said fs v.0 ++ mark 0 ∷ []) (row_said r v.1)
-    ∙ (λ i. (each_said-append said_words (marks_said fs v.0) (mark 0 ∷ []) ∙ append-nil (each_said said_words (marks_said fs v.0)) ∙ marks_words fs v.0) i ++ row_words r v.1 i)
+    ∙ (λ i. (each_said-append said_words (marks_said fs v.0) (mark 0 ∷ []) ∙ append-nil (each_said said_words (marks_said fs v.0))
+    ∙ marks_words fs v.0) i ++ row_words r v.1 i)
 
 -- ---- a message that was read
 
 -- its name and its words are its line
-pub line_shown : (M : Type 0) (family : Messages M) (kind : ℕ) (body : List ℕ) (m : M) (before after : List ℕ) → read_by family.table kind (whole body) ≡ Ok m → family_kind family m ≡ kind
-    → after ≡ before ++ (name_by family.table kind ++ (each_said said_words (family_said family m) ++ codes "\n")) → Appends (text_by family (record { kind = kind; body = body })) before after
+pub line_shown : (M : Type 0) (family : Messages M) (kind : ℕ) (body : List ℕ) (m : M) (before after : List ℕ)
+    → read_by family.table kind (whole body) ≡ Ok m → family_kind family m ≡ kind
+    → after ≡ before ++ (name_by family.table kind ++ (each_said said_words (family_said family m) ++ codes "\n"))
+    → Appends (text_by family (record { kind = kind; body = body })) before after
 line_shown M family kind body m before after read same is =
     let p = family.apart m in
     let words = each_said said_words (family_said family m) in
     let line : name_by family.table kind ++ (words ++ codes "\n") ≡ message_text family m =
-    sym (append_assoc (name_by family.table kind) words (codes "\n")) ∙ (λ i. (name_by family.table (sym same i) ++ row_words (rule_of family.table p.kind).fields p.values i) ++ codes "\n") in
+    sym (append_assoc (name_by family.table kind) words (codes "\n"))
+    ∙ (λ i. (name_by family.table (sym same i) ++ row_words (rule_of family.table p.kind).fields p.values i) ++ codes "\n") in
     subst (λ (z : Result M ℕ). Appends (text_of family z) before after) (sym read) (is ∙ ap (λ (s : List ℕ). before ++ s) line)
 
 -- ---- the messages that are spelled
 
-pub spelled_line : (M : Type 0) (family : Messages M) (kind : ℕ) (body : List ℕ) (m : M) → SpelledBy family.table m kind body → text_by family (record { kind = kind; body = body }) ≡ Some (message_text family m)
-spelled_line M family kind body m spelled = let l = rule_of family.table kind in ap (text_of family) (row_again l.fields l.make m 0 body spelled)
+pub spelled_line : (M : Type 0) (family : Messages M) (kind : ℕ) (body : List ℕ) (m : M) → SpelledBy family.table m kind body
+    → text_by family (record { kind = kind; body = body }) ≡ Some (message_text family m)
+spelled_line M family kind body m spelled = let l =
+    rule_of family.table kind in ap (text_of family) (row_again l.fields l.make m 0 body spelled)
 
-by_reading : (M : Type 0) (family : Messages M) (kind : ℕ) (body line : List ℕ) → IsBytes body → (z : Result M ℕ) → read_by family.table kind (whole body) ≡ z → text_of family z ≡ Some line
+by_reading : (M : Type 0) (family : Messages M) (kind : ℕ) (body line : List ℕ) → IsBytes body → (z : Result M ℕ)
+    → read_by family.table kind (whole body) ≡ z → text_of family z ≡ Some line
     → (m : M) × SpelledBy family.table m kind body × (line ≡ message_text family m)
-by_reading M family kind body line fits (Ok m) read is = let same : message_text family m ≡ line = cc in (m, is_found family.table kind body (Ok m) fits read, sym same)
+by_reading M family kind body line fits (Ok m) read is = let same : message_text family m ≡ line =
+    cc in (m, is_found family.table kind body (Ok m) fits read, sym same)
 by_reading M family kind body line fits (Err at) read is = absurd cc
 
-pub line_spelled : (M : Type 0) (family : Messages M) (kind : ℕ) (body line : List ℕ) → IsBytes body → text_by family (record { kind = kind; body = body }) ≡ Some line → (m : M) × SpelledBy family.table m kind body × (line ≡ message_text family m)
+pub line_spelled : (M : Type 0) (family : Messages M) (kind : ℕ) (body line : List ℕ) → IsBytes body
+    → text_by family (record { kind = kind; body = body }) ≡ Some line → (m : M) × SpelledBy family.table m kind body
+    × (line ≡ message_text family m)
 line_spelled M family kind body line fits is = by_reading M family kind body line fits (read_by family.table kind (whole body)) refl is

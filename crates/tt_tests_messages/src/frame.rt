@@ -5,7 +5,7 @@ use std::test::Fail;
 use tt_frame::{
     Bad, Digest, Fields, Framer, Line, Name, Next, OutOfMemory, Part, Put, Short, UpTo,
     are_hex_digits, digest, digits_or_none, ended, finish, first_of, fixed, number8, number16,
-    number16_up_to, number32, number64, optional_digest, put_head, raw, tell, text, truth, up_to,
+    number16_up_to, number32, number64, optional_digest, raw, tell, text, truth, up_to,
 };
 
 #[test]
@@ -267,7 +267,12 @@ fn a_packet_of_other_parts_is_appended_whole(rt: HostRuntime) -> Result<(), Fail
     let mut out = Vec::new(rt.alloc());
     let written = tell(
         &mut out,
-        &[Part::Head(9), Part::U64(1), Part::Truth(true), Part::Raw(&[7, 8])],
+        &[
+            Part::Head(9),
+            Part::U64(1),
+            Part::Truth(true),
+            Part::Raw(&[7, 8]),
+        ],
     );
     finish(&mut out, 0, written)?;
     assert_eq!(rt;
@@ -302,7 +307,7 @@ fn a_packet_is_appended_whole(rt: HostRuntime) -> Result<(), Fail> {
 #[test]
 fn a_packet_written_in_steps_gets_its_size(rt: HostRuntime) -> Result<(), Fail> {
     let mut out = vec![in rt.alloc(); 9]?;
-    put_head(&mut out, 3)?;
+    Put::raw(&mut out, &[0, 0, 3])?;
     let written = Put::u16(&mut out, 513);
     finish(&mut out, 1, written)?;
     assert_eq!(rt; out.as_slice(), [9, 5, 0, 3, 1, 2].as_slice());
@@ -312,7 +317,7 @@ fn a_packet_written_in_steps_gets_its_size(rt: HostRuntime) -> Result<(), Fail> 
 #[test]
 fn a_packet_refused_on_the_way_is_taken_away(rt: HostRuntime) -> Result<(), Fail> {
     let mut out = vec![in rt.alloc(); 9]?;
-    put_head(&mut out, 3)?;
+    Put::raw(&mut out, &[0, 0, 3])?;
     assert_eq!(rt; finish(&mut out, 1, Err(OutOfMemory)), Err(OutOfMemory));
     assert_eq!(rt; out.as_slice(), [9].as_slice());
     Ok(())

@@ -1,5 +1,30 @@
 -- Lemmas on lists of members: what becomes of a status, and what stays of the order and of each member.
-use Rattle.std.proofs.Common.{◌≡◌, ℕ, zero, suc, ◌<◌, ◌≤◌, Bool, true, false, cond, List, [], ◌∷◌, ◌++◌, ◌==◌, Some, None, take, drop, refl, ap, sym, ◌∙◌, arith}
+use Rattle.std.proofs.Common.{
+  ◌≡◌,
+  ℕ,
+  zero,
+  suc,
+  ◌<◌,
+  ◌≤◌,
+  Bool,
+  true,
+  false,
+  cond,
+  List,
+  [],
+  ◌∷◌,
+  ◌++◌,
+  ◌==◌,
+  Some,
+  None,
+  take,
+  drop,
+  refl,
+  ap,
+  sym,
+  ◌∙◌,
+  arith,
+}
 use Rattle.std.specs.List.{AllByRecursion}
 use Rattle.std.proofs.lemmas.Bool.{eqb-true, eq-eqb, ne_eqb, cond_both}
 use Rattle.tt_tied.specs.Member.{Status, Member, is_there, status_of, with_status, with_order, without}
@@ -24,7 +49,8 @@ not_head m c l = ne_eqb m.conn c (λ e. omega arith)
 pub status-none : (c n : ℕ) (ms : List Member) → AreConns n ms → c < n → status_of c ms ≡ None
 status-none c n [] a l = refl
 status-none c n (m ∷ ms) a l =
-    ap (λ b. cond b (Some m.status) (status_of c ms)) (not_head m c (omega (arith, a.0))) ∙ status-none c (suc m.conn) ms a.1 (omega (arith, a.0))
+    ap (λ b. cond b (Some m.status) (status_of c ms)) (not_head m c (omega (arith, a.0)))
+    ∙ status-none c (suc m.conn) ms a.1 (omega (arith, a.0))
 
 -- what becomes of a status
 pub status-drained : (c : ℕ) (ms : List Member) → status_of c (drained ms) ≡ status_of c ms
@@ -34,7 +60,8 @@ status-drained c (m ∷ ms) = ap (λ o. cond (m.conn == c) (Some m.status) o) (s
 pub status-with_order : (c d n : ℕ) (ms : List Member) → status_of c (with_order d n ms) ≡ status_of c ms
 status-with_order c d n [] = refl
 status-with_order c d n (m ∷ ms) =
-    elim (m.conn == d) as (λ b. status_of c (cond b (record m { waiting = m.waiting ++ n ∷ [] } ∷ ms) (m ∷ with_order d n ms)) ≡ cond (m.conn == c) (Some m.status) (status_of c ms))
+    elim (m.conn == d) as (λ b. status_of c (cond b (record m { waiting = m.waiting ++ n ∷ [] } ∷ ms) (m ∷ with_order d n ms)) ≡ cond
+    (m.conn == c) (Some m.status) (status_of c ms))
     [ true ↦ refl | false ↦ ap (λ o. cond (m.conn == c) (Some m.status) o) (status-with_order c d n ms) ]
 
 pub status-with_other : (c d : ℕ) (s : Status) (ms : List Member) → (d == c) ≡ false → status_of c (with_status d s ms) ≡ status_of c ms
@@ -45,11 +72,14 @@ status-with_other c d s (m ∷ ms) e =
     in ap (λ b. cond b (Some s) (status_of c ms)) no ∙ sym (ap (λ b. cond b (Some m.status) (status_of c ms)) no))
     (λ _. ap (λ o. cond (m.conn == c) (Some m.status) o) (status-with_other c d s ms e))
 
-pub status-with_here : (c : ℕ) (s : Status) (ms : List Member) → is_there (status_of c ms) ≡ true → status_of c (with_status c s ms) ≡ Some s
+pub status-with_here : (c : ℕ) (s : Status) (ms : List Member) → is_there (status_of c ms) ≡ true
+    → status_of c (with_status c s ms) ≡ Some s
 status-with_here c s [] h = absurd (cc h)
 status-with_here c s (m ∷ ms) h =
-    let by : (b : Bool) → (m.conn == c) ≡ b → is_there (cond b (Some m.status) (status_of c ms)) ≡ true → status_of c (cond b (record m { status = s } ∷ ms) (m ∷ with_status c s ms)) ≡ Some s =
-    λ b. elim b as (λ b. (m.conn == c) ≡ b → is_there (cond b (Some m.status) (status_of c ms)) ≡ true → status_of c (cond b (record m { status = s } ∷ ms) (m ∷ with_status c s ms)) ≡ Some s) [
+    let by : (b : Bool) → (m.conn == c) ≡ b → is_there (cond b (Some m.status) (status_of c ms)) ≡ true
+    → status_of c (cond b (record m { status = s } ∷ ms) (m ∷ with_status c s ms)) ≡ Some s =
+    λ b. elim b as (λ b. (m.conn == c) ≡ b → is_there (cond b (Some m.status) (status_of c ms)) ≡ true
+    → status_of c (cond b (record m { status = s } ∷ ms) (m ∷ with_status c s ms)) ≡ Some s) [
       | true ↦ λ e t. ap (λ b. cond b (Some s) (status_of c ms)) e
       | false ↦ λ e t. ap (λ b. cond b (Some m.status) (status_of c (with_status c s ms))) e ∙ status-with_here c s ms t
     ]
@@ -70,14 +100,17 @@ status-without_here c n (m ∷ ms) a =
     (λ h. status-none c (suc m.conn) ms a.1 (omega (arith, eqb-true m.conn c h)))
     (λ h. ap (λ b. cond b (Some m.status) (status_of c (without c ms))) h ∙ status-without_here c (suc m.conn) ms a.1)
 
-pub status-append_other : (c : ℕ) (ms : List Member) (new : Member) → (new.conn == c) ≡ false → status_of c (ms ++ new ∷ []) ≡ status_of c ms
+pub status-append_other : (c : ℕ) (ms : List Member) (new : Member) → (new.conn == c) ≡ false
+    → status_of c (ms ++ new ∷ []) ≡ status_of c ms
 status-append_other c [] new e = ap (λ b. cond b (Some new.status) None) e
 status-append_other c (m ∷ ms) new e = ap (λ o. cond (m.conn == c) (Some m.status) o) (status-append_other c ms new e)
 
-pub status-append_here : (n : ℕ) (ms : List Member) (new : Member) → AreOpened n ms → new.conn ≡ n → status_of n (ms ++ new ∷ []) ≡ Some new.status
+pub status-append_here : (n : ℕ) (ms : List Member) (new : Member) → AreOpened n ms → new.conn ≡ n
+    → status_of n (ms ++ new ∷ []) ≡ Some new.status
 status-append_here n [] new o e = ap (λ b. cond b (Some new.status) None) (eq-eqb new.conn n e)
 status-append_here n (m ∷ ms) new o e =
-    ap (λ b. cond b (Some m.status) (status_of n (ms ++ new ∷ []))) (ne_eqb m.conn n (λ h. omega (arith, o.0))) ∙ status-append_here n ms new o.1 e
+    ap (λ b. cond b (Some m.status) (status_of n (ms ++ new ∷ []))) (ne_eqb m.conn n (λ h. omega (arith, o.0)))
+    ∙ status-append_here n ms new o.1 e
 
 pub status-opened : (c n : ℕ) (ms : List Member) → AreOpened n ms → is_there (status_of c ms) ≡ true → c < n
 status-opened c n [] o h = absurd (cc h)
@@ -95,19 +128,23 @@ AreConns-drained n (m ∷ ms) a = (a.0, AreConns-drained (suc m.conn) ms a.1)
 pub AreConns-with_status : (n d : ℕ) (s : Status) (ms : List Member) → AreConns n ms → AreConns n (with_status d s ms)
 AreConns-with_status n d s [] a = tt
 AreConns-with_status n d s (m ∷ ms) a =
-    cond_both (m.conn == d) (record m { status = s } ∷ ms) (m ∷ with_status d s ms) (λ xs. AreConns n xs) (λ _. a) (λ _. (a.0, AreConns-with_status (suc m.conn) d s ms a.1))
+    cond_both (m.conn == d) (record m { status = s } ∷ ms) (m ∷ with_status d s ms) (λ xs. AreConns n xs) (λ _. a)
+    (λ _. (a.0, AreConns-with_status (suc m.conn) d s ms a.1))
 
 pub AreConns-with_order : (n d k : ℕ) (ms : List Member) → AreConns n ms → AreConns n (with_order d k ms)
 AreConns-with_order n d k [] a = tt
 AreConns-with_order n d k (m ∷ ms) a =
-    cond_both (m.conn == d) (record m { waiting = m.waiting ++ k ∷ [] } ∷ ms) (m ∷ with_order d k ms) (λ xs. AreConns n xs) (λ _. a) (λ _. (a.0, AreConns-with_order (suc m.conn) d k ms a.1))
+    cond_both (m.conn == d) (record m { waiting = m.waiting ++ k ∷ [] } ∷ ms) (m ∷ with_order d k ms) (λ xs. AreConns n xs) (λ _. a)
+    (λ _. (a.0, AreConns-with_order (suc m.conn) d k ms a.1))
 
 pub AreConns-without : (n d : ℕ) (ms : List Member) → AreConns n ms → AreConns n (without d ms)
 AreConns-without n d [] a = tt
 AreConns-without n d (m ∷ ms) a =
-    cond_both (m.conn == d) ms (m ∷ without d ms) (λ xs. AreConns n xs) (λ _. AreConns-less n (suc m.conn) ms a.1 (omega (arith, a.0))) (λ _. (a.0, AreConns-without (suc m.conn) d ms a.1))
+    cond_both (m.conn == d) ms (m ∷ without d ms) (λ xs. AreConns n xs) (λ _. AreConns-less n (suc m.conn) ms a.1 (omega (arith, a.0)))
+    (λ _. (a.0, AreConns-without (suc m.conn) d ms a.1))
 
-pub AreConns-append : (n k : ℕ) (ms : List Member) (new : Member) → AreConns n ms → AreOpened k ms → n ≤ k → new.conn ≡ k → AreConns n (ms ++ new ∷ [])
+pub AreConns-append : (n k : ℕ) (ms : List Member) (new : Member) → AreConns n ms → AreOpened k ms → n ≤ k → new.conn ≡ k
+    → AreConns n (ms ++ new ∷ [])
 AreConns-append n k [] new a o l e = (omega arith, tt)
 AreConns-append n k (m ∷ ms) new a o l e = (a.0, AreConns-append (suc m.conn) k ms new a.1 o.1 o.0 e)
 
@@ -132,16 +169,21 @@ All-drop P (suc n) (x ∷ xs) a = All-drop P n xs a.1
 
 -- what holds of each member stays, where a change of one member keeps it
 module _ (P : Member → Type 0) where
-  pub All-with_status : (d : ℕ) (s : Status) (ms : List Member) → ((m : Member) → P m → P (record m { status = s })) → AllByRecursion P ms → AllByRecursion P (with_status d s ms)
+  pub All-with_status : (d : ℕ) (s : Status) (ms : List Member) → ((m : Member) → P m → P (record m { status = s })) → AllByRecursion P ms
+      → AllByRecursion P (with_status d s ms)
   All-with_status d s [] keeps a = tt
   All-with_status d s (m ∷ ms) keeps a =
-      cond_both (m.conn == d) (record m { status = s } ∷ ms) (m ∷ with_status d s ms) (λ xs. AllByRecursion P xs) (λ _. (keeps m a.0, a.1)) (λ _. (a.0, All-with_status d s ms keeps a.1))
+      cond_both (m.conn == d) (record m { status = s } ∷ ms) (m ∷ with_status d s ms) (λ xs. AllByRecursion P xs) (λ _. (keeps m a.0, a.1))
+      (λ _. (a.0, All-with_status d s ms keeps a.1))
 
-  pub All-with_order : (d n : ℕ) (ms : List Member) → ((m : Member) → P m → P (record m { waiting = m.waiting ++ n ∷ [] })) → AllByRecursion P ms → AllByRecursion P (with_order d n ms)
+  pub All-with_order : (d n : ℕ) (ms : List Member) → ((m : Member) → P m → P (record m { waiting = m.waiting ++ n ∷ [] }))
+      → AllByRecursion P ms → AllByRecursion P (with_order d n ms)
   All-with_order d n [] keeps a = tt
   All-with_order d n (m ∷ ms) keeps a =
-      cond_both (m.conn == d) (record m { waiting = m.waiting ++ n ∷ [] } ∷ ms) (m ∷ with_order d n ms) (λ xs. AllByRecursion P xs) (λ _. (keeps m a.0, a.1)) (λ _. (a.0, All-with_order d n ms keeps a.1))
+      cond_both (m.conn == d) (record m { waiting = m.waiting ++ n ∷ [] } ∷ ms) (m ∷ with_order d n ms) (λ xs. AllByRecursion P xs)
+      (λ _. (keeps m a.0, a.1)) (λ _. (a.0, All-with_order d n ms keeps a.1))
 
   pub All-without : (d : ℕ) (ms : List Member) → AllByRecursion P ms → AllByRecursion P (without d ms)
   All-without d [] a = tt
-  All-without d (m ∷ ms) a = cond_both (m.conn == d) ms (m ∷ without d ms) (λ xs. AllByRecursion P xs) (λ _. a.1) (λ _. (a.0, All-without d ms a.1))
+  All-without d (m ∷ ms) a =
+      cond_both (m.conn == d) ms (m ∷ without d ms) (λ xs. AllByRecursion P xs) (λ _. a.1) (λ _. (a.0, All-without d ms a.1))

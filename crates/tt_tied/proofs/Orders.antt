@@ -28,8 +28,10 @@ module _ {W : Type 0} (realm : Realm W) where
   pub AreMembers-later : (n : ℕ) (ms : List Member) → AreMembers n ms → AreMembers (suc n) ms
   AreMembers-later n ms a = All-weaker (λ m. IsMember n m) (λ m. IsMember (suc n) m) ms (λ m h. (omega (arith, h.0), h.1)) a
 
-  pub AreMembers-append : (n : ℕ) (ms : List Member) (new : Member) → AreMembers n ms → new.conn ≡ n → AreOrders new.waiting → AreMembers (suc n) (ms ++ new ∷ [])
-  AreMembers-append n ms new a is h = All-append (λ m. IsMember (suc n) m) ms (new ∷ []) (AreMembers-later n ms a) ((omega (arith, is), h), tt)
+  pub AreMembers-append : (n : ℕ) (ms : List Member) (new : Member) → AreMembers n ms → new.conn ≡ n → AreOrders new.waiting
+      → AreMembers (suc n) (ms ++ new ∷ [])
+  AreMembers-append n ms new a is h =
+      All-append (λ m. IsMember (suc n) m) ms (new ∷ []) (AreMembers-later n ms a) ((omega (arith, is), h), tt)
 
   pub AreMembers-with_status : (n d : ℕ) (s : Status) (ms : List Member) → AreMembers n ms → AreMembers n (with_status d s ms)
   AreMembers-with_status n d s ms a = All-with_status (λ m. IsMember n m) d s ms (λ m h. h) a
@@ -67,4 +69,5 @@ module _ {W : Type 0} (realm : Realm W) where
   pub stamps_stamped : (f : ℕ) (ms : List Member) → AreStamped (game_of realm) f (stamps (suc f) ms)
   stamps_stamped f [] = tt
   stamps_stamped f (m ∷ ms) =
-      All-append (λ e. e.frame ≡ suc f) (entries_of (suc f) m.conn (take 2 m.waiting)) (stamps (suc f) ms) (entries_stamped f m.conn (take 2 m.waiting)) (stamps_stamped f ms)
+      All-append (λ e. e.frame ≡ suc f) (entries_of (suc f) m.conn (take 2 m.waiting)) (stamps (suc f) ms) (entries_stamped f m.conn
+      (take 2 m.waiting)) (stamps_stamped f ms)

@@ -21,7 +21,8 @@ pub data Event : Type 0 where
 module _ {W : Type 0} (realm : Realm W) (policy : Policy) where
   -- what is not permitted where it comes ends its connection
   abbrev pub deed : Table → Event → Deed
-  deed t Open = nothing (record t { opened = suc t.opened; members = t.members ++ record { conn = t.opened; status = Opened; waiting = [] } ∷ [] })
+  deed t Open =
+      nothing (record t { opened = suc t.opened; members = t.members ++ record { conn = t.opened; status = Opened; waiting = [] } ∷ [] })
   deed t (Join c) =
       if is_opened (status_of c t.members)
       then record { table = record t { members = with_status c Welcomed t.members }; tellings = tell c (ServerWelcome ∷ []) }
@@ -29,7 +30,8 @@ module _ {W : Type 0} (realm : Realm W) (policy : Policy) where
   deed t (GetMap c) = if is_welcomed (status_of c t.members) then map_begun t c else ended t c
   deed t (MapOk c) = map_heard realm t c (status_of c t.members)
   deed t (Order c n) =
-      if is_in_game (status_of c t.members) && realm.is_order n then nothing (record t { members = with_order c n t.members }) else ended t c
+      if is_in_game (status_of c t.members) && realm.is_order n then nothing (record t { members = with_order c n t.members }) else ended t
+      c
   deed t (Chat c n) =
       if is_in_game (status_of c t.members) then record { table = t; tellings = tell_all t.members (ServerChat n) } else ended t c
   deed t (Shut c) = record { table = record t { members = without c t.members }; tellings = tell_all (without c t.members) (ServerQuit c) }

@@ -2,7 +2,19 @@
 use Rattle.std.specs.Prelude.{ℕ, ◌+◌, ◌*◌, if◌then◌else◌, List, [], ◌∷◌, ◌==◌, Option, Some, None, nat_lt}
 use Rattle.tt_lockstep.specs.Wire.{Came, Wire, PieceCall, FeedPiece, AdvanceBy}
 use Rattle.tt_tied.specs.Realm.{Entry, Realm}
-use Rattle.tt_tied.specs.Message.{Message, ServerWelcome, ServerMapBegin, ServerMapData, ServerMapDone, ServerCommand, ServerFrame, ServerSync, ServerChat, ServerQuit, ServerError}
+use Rattle.tt_tied.specs.Message.{
+  Message,
+  ServerWelcome,
+  ServerMapBegin,
+  ServerMapData,
+  ServerMapDone,
+  ServerCommand,
+  ServerFrame,
+  ServerSync,
+  ServerChat,
+  ServerQuit,
+  ServerError,
+}
 use Rattle.tt_tied.specs.Table.{Policy}
 use Rattle.tt_tied.specs.Event.{Event, Open, Join, GetMap, MapOk, Order, Chat, Shut, Tick}
 

@@ -35,7 +35,8 @@ tell c (m ∷ ms) = record { to = c; message = m } ∷ tell c ms
 -- a message for all that are in the game
 abbrev pub tell_all : List Member → Message → List Telling
 tell_all [] message = []
-tell_all (m ∷ ms) message = if is_in_game (Some m.status) then record { to = m.conn; message = message } ∷ tell_all ms message else tell_all ms message
+tell_all (m ∷ ms) message =
+    if is_in_game (Some m.status) then record { to = m.conn; message = message } ∷ tell_all ms message else tell_all ms message
 
 -- entries for all that are in the game, one after the other
 abbrev pub tell_entries : List Member → List Entry → List Telling

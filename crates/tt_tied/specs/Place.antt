@@ -5,7 +5,19 @@ use Rattle.tt_lockstep.specs.Server.{Server, Stage, BeforeMap, Loading, Loaded, 
 use Rattle.tt_lockstep.specs.Dialog.{Dialog}
 use Rattle.tt_tied.specs.Realm.{Entry, Realm}
 use Rattle.tt_tied.specs.Member.{Status, Opened, Welcomed, Mapping, Mapped, InGame, status_of}
-use Rattle.tt_tied.specs.Message.{Message, ServerWelcome, ServerMapBegin, ServerMapData, ServerMapDone, ServerCommand, ServerFrame, ServerSync, ServerChat, ServerQuit, ServerError}
+use Rattle.tt_tied.specs.Message.{
+  Message,
+  ServerWelcome,
+  ServerMapBegin,
+  ServerMapData,
+  ServerMapDone,
+  ServerCommand,
+  ServerFrame,
+  ServerSync,
+  ServerChat,
+  ServerQuit,
+  ServerError,
+}
 use Rattle.tt_tied.specs.Table.{Table}
 
 -- where the dialogue of a client stands
@@ -61,4 +73,5 @@ stage_of was_opened (Some (InGame s)) = Playing s
 
 -- the server as a connection sees it
 abbrev pub watched : ℕ → Table → Server Entry
-watched c t = record { frame = t.frame; permitted = t.permitted; journal = t.journal; stage = stage_of (nat_lt c t.opened) (status_of c t.members) }
+watched c t =
+    record { frame = t.frame; permitted = t.permitted; journal = t.journal; stage = stage_of (nat_lt c t.opened) (status_of c t.members) }

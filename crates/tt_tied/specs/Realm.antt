@@ -29,7 +29,15 @@ pub record Realm (W : Type 0) : Type 0 where
 -- its game
 abbrev pub game_of : {W : Type 0} → Realm W → Game W Entry
 game_of realm =
-    record { frame_of = λ e. e.frame; applied = realm.applied; framed = realm.framed; word = realm.word; start = realm.start; lead = realm.lead }
+    record {
+      frame_of = λ e. e.frame;
+      applied = realm.applied;
+      framed = realm.framed;
+      word = realm.word;
+      start = realm.start;
+      lead =
+          realm.lead;
+    }
 
 module _ {W : Type 0} (realm : Realm W) where
   -- an entry is in range

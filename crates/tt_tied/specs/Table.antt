@@ -3,7 +3,21 @@ use Rattle.std.specs.Prelude.{ℕ, suc, ◌+◌, if◌then◌else◌, List, [], 
 use Rattle.tt_lockstep.specs.Journal.{above, world_at}
 use Rattle.tt_tied.specs.Realm.{Entry, Realm, game_of}
 use Rattle.tt_tied.specs.Member.{Status, Mapping, Mapped, InGame, Member, is_there, is_welcomed, status_of, with_status, without}
-use Rattle.tt_tied.specs.Message.{ServerMapBegin, ServerMapData, ServerMapDone, ServerCommand, ServerFrame, ServerSync, ServerQuit, ServerError, Message, Telling, tell, tell_all, tell_entries}
+use Rattle.tt_tied.specs.Message.{
+  ServerMapBegin,
+  ServerMapData,
+  ServerMapDone,
+  ServerCommand,
+  ServerFrame,
+  ServerSync,
+  ServerQuit,
+  ServerError,
+  Message,
+  Telling,
+  tell,
+  tell_all,
+  tell_entries,
+}
 
 -- the table; its world is that of the journal at the frame
 pub record Table : Type 0 where
@@ -41,7 +55,11 @@ and_then d next = record { table = (next d.table).table; tellings = d.tellings +
 abbrev pub ended : Table → ℕ → Deed
 ended t c =
     if is_there (status_of c t.members)
-    then record { table = record t { members = without c t.members }; tellings = record { to = c; message = ServerError } ∷ tell_all (without c t.members) (ServerQuit c) }
+    then record {
+      table = record t { members = without c t.members };
+      tellings = record { to = c; message = ServerError } ∷ tell_all
+          (without c t.members) (ServerQuit c);
+    }
     else nothing t
 
 -- several members are ended, one after the other
@@ -76,12 +94,17 @@ module _ {W : Type 0} (realm : Realm W) where
   abbrev pub run_frame : Table → Deed
   run_frame t =
       if nat_lt t.permitted (suc t.frame)
-      then record { table = record t { frame = suc t.frame; permitted = suc t.frame + realm.lead }; tellings = tell_all t.members (ServerFrame (suc t.frame) (suc t.frame + realm.lead)) }
+      then record {
+        table = record t { frame = suc t.frame; permitted = suc t.frame + realm.lead };
+        tellings =
+            tell_all t.members (ServerFrame (suc t.frame) (suc t.frame + realm.lead));
+      }
       else nothing (record t { frame = suc t.frame })
 
   -- the third step: the word of the world is told
   abbrev pub tell_sync : Table → Deed
-  tell_sync t = record { table = t; tellings = tell_all t.members (ServerSync t.frame (realm.word (world_at (game_of realm) t.journal t.frame))) }
+  tell_sync t =
+      record { table = t; tellings = tell_all t.members (ServerSync t.frame (realm.word (world_at (game_of realm) t.journal t.frame))) }
 
   -- the bytes of the map of a frame
   abbrev pub map_at : List Entry → ℕ → List ℕ
@@ -133,7 +156,8 @@ module _ {W : Type 0} (realm : Realm W) where
 
 -- a member's map is begun: it is that of the frame
 abbrev pub map_begun : Table → ℕ → Deed
-map_begun t c = record { table = record t { members = with_status c (Mapping t.frame 0) t.members }; tellings = tell c (ServerMapBegin t.frame ∷ []) }
+map_begun t c =
+    record { table = record t { members = with_status c (Mapping t.frame 0) t.members }; tellings = tell c (ServerMapBegin t.frame ∷ []) }
 
 -- behind every event another member's map may be begun
 abbrev pub begin_next : Policy → Table → Deed

@@ -1,5 +1,30 @@
 -- A new company: its number, and that every world stays sound.
-use Rattle.std.proofs.Common.{◌≡◌, ℕ, suc, ◌+◌, ◌%◌, ◌<◌, ◌≢◌, true, List, [], ◌∷◌, length, set, refl, sym, ◌∙◌, ap, subst, arith, inl, inr, get_or-set_other, get_or-set_same, length-set}
+use Rattle.std.proofs.Common.{
+  ◌≡◌,
+  ℕ,
+  suc,
+  ◌+◌,
+  ◌%◌,
+  ◌<◌,
+  ◌≢◌,
+  true,
+  List,
+  [],
+  ◌∷◌,
+  length,
+  set,
+  refl,
+  sym,
+  ◌∙◌,
+  ap,
+  subst,
+  arith,
+  inl,
+  inr,
+  get_or-set_other,
+  get_or-set_same,
+  length-set,
+}
 use Rattle.std.specs.Prelude.{Option, Some, None, IsSome, nat_lt, is_none, codes}
 use Rattle.std.specs.List.{list_any, position}
 use Rattle.std.proofs.lemmas.Int.{ints}
@@ -31,7 +56,8 @@ nobody_there [] e = refl
 nobody_there (None ∷ places) e = refl
 nobody_there (Some c ∷ places) e = rw (next (new_number places)) (nobody_there places e)
 
-pub number_is : (places : List (Option Company)) (place : ℕ) → list_any is_none places ≡ true → Some place ≡ position is_none places → (place ≡ new_number places) × (place < length places)
+pub number_is : (places : List (Option Company)) (place : ℕ) → list_any is_none places ≡ true → Some place ≡ position is_none places
+    → (place ≡ new_number places) × (place < length places)
 number_is places place room e =
     let bound = number_bound places room in
     let test : nat_lt (new_number places) (length places) ≡ true = test_of_lt (new_number places) (length places) bound in
@@ -41,7 +67,8 @@ number_is places place room e =
 
 pub no_number : (places : List (Option Company)) → list_any is_none places ≡ true → None ≡ position is_none places → ⊥
 no_number places room e =
-    let test : nat_lt (new_number places) (length places) ≡ true = test_of_lt (new_number places) (length places) (number_bound places room) in
+    let test : nat_lt (new_number places) (length places) ≡ true =
+    test_of_lt (new_number places) (length places) (number_bound places room) in
     let f : None ≡ Some (new_number places) = rw test at e in
     absurd cc
 
@@ -85,10 +112,12 @@ IsSound-founded w room s =
       names = λ m k c d at_m at_k same. elim (eqb_tells m n) [
         | inl e ↦ elim (eqb_tells k n) [
           | inl f ↦ e.1 ∙ sym f.1
-          | inr f ↦ absurd (none_has (new_name places) places k d free (sym (there k f.1) ∙ at_k) (sym same ∙ sym (ap (λ (y : Company). y.name) (mine m c e.1 at_m))))
+          | inr f ↦ absurd (none_has (new_name places) places k d free (sym (there k f.1) ∙ at_k) (sym same
+              ∙ sym (ap (λ (y : Company). y.name) (mine m c e.1 at_m))))
         ]
         | inr e ↦ elim (eqb_tells k n) [
-          | inl f ↦ absurd (none_has (new_name places) places m c free (sym (there m e.1) ∙ at_m) (same ∙ sym (ap (λ (y : Company). y.name) (mine k d f.1 at_k))))
+          | inl f ↦ absurd (none_has (new_name places) places m c free (sym (there m e.1) ∙ at_m) (same
+              ∙ sym (ap (λ (y : Company). y.name) (mine k d f.1 at_k))))
           | inr f ↦ s.names m k c d (sym (there m e.1) ∙ at_m) (sym (there k f.1) ∙ at_k) same
         ]
       ];
@@ -107,13 +136,16 @@ IsSound-founded w room s =
     }
 
 -- as the code leaves it
-pub IsSound-founded_at : (w : WorldState) (slice : List (Option Company)) (n : ℕ) (fresh : Company) → slice ≡ w.companies → n ≡ new_number slice → fresh ≡ new_company slice → list_any is_none w.companies ≡ true
+pub IsSound-founded_at : (w : WorldState) (slice : List (Option Company)) (n : ℕ) (fresh : Company) → slice ≡ w.companies
+    → n ≡ new_number slice → fresh ≡ new_company slice → list_any is_none w.companies ≡ true
     → IsSound w → IsSound (record w { companies = set w.companies n (Some fresh) })
 IsSound-founded_at w slice n fresh same number is room s =
     subst (λ k. IsSound (record w { companies = set w.companies k (Some fresh) })) (sym (number ∙ ap new_number same))
-    (subst (λ c. IsSound (record w { companies = set w.companies (new_number w.companies) (Some c) })) (sym (is ∙ ap new_company same)) (IsSound-founded w room s))
+    (subst (λ c. IsSound (record w { companies = set w.companies (new_number w.companies) (Some c) })) (sym (is ∙ ap new_company same))
+    (IsSound-founded w room s))
 
-pub founded_live : (w : WorldState) → list_any is_none w.companies ≡ true → (k : ℕ) → IsSome (company_at w.companies k) → IsSome (company_at (founded w).companies k)
+pub founded_live : (w : WorldState) → list_any is_none w.companies ≡ true → (k : ℕ) → IsSome (company_at w.companies k)
+    → IsSome (company_at (founded w).companies k)
 founded_live w room k some =
     let places = w.companies in
     elim (eqb_tells k (new_number places)) [

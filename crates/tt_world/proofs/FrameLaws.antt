@@ -1,5 +1,36 @@
 -- A frame keeps every world sound.
-use Rattle.std.proofs.Common.{◌≡◌, ℕ, zero, suc, ◌+◌, ◌%◌, ◌<◌, Bool, true, false, List, [], ◌∷◌, length, refl, sym, ◌∙◌, ap, subst, arith, lit<, ℤ, pos, neg_ℤ, ◌+ℤ◌, ◌-ℤ◌, ◌≤ℤ◌, ◌/◌, inl, inr}
+use Rattle.std.proofs.Common.{
+  ◌≡◌,
+  ℕ,
+  zero,
+  suc,
+  ◌+◌,
+  ◌%◌,
+  ◌<◌,
+  Bool,
+  true,
+  false,
+  List,
+  [],
+  ◌∷◌,
+  length,
+  refl,
+  sym,
+  ◌∙◌,
+  ap,
+  subst,
+  arith,
+  lit<,
+  ℤ,
+  pos,
+  neg_ℤ,
+  ◌+ℤ◌,
+  ◌-ℤ◌,
+  ◌≤ℤ◌,
+  ◌/◌,
+  inl,
+  inr,
+}
 use Rattle.std.specs.Prelude.{Option, Some, None, IsSome, option_map, ◌==◌}
 use Rattle.std.proofs.lemmas.Int.{ints, clamps}
 use Rattle.std.proofs.lemmas.Bool.Decides.{eqb_tells}
@@ -17,7 +48,16 @@ pub clamped_high : (m : ℤ) → clamped m ≤ℤ pos most_money
 clamped_high m = omega (arith, ints, clamps)
 
 with_money : (m : ℤ) (c : Company) → IsCompany c → IsCompany (record c { money = clamped m })
-with_money m c h = record { least_money = clamped_low m; most_money = clamped_high m; loan = h.loan; steps = h.steps; most = h.most; most_steps = h.most_steps; name = h.name; president = h.president }
+with_money m c h = record {
+  least_money = clamped_low m;
+  most_money = clamped_high m;
+  loan = h.loan;
+  steps = h.steps;
+  most = h.most;
+  most_steps = h.most_steps;
+  name = h.name;
+  president = h.president;
+}
 
 pub earned_follows : (places : List (Option Company)) (words : ℕ × ℕ) → FollowsEach places (earned words places).1
 earned_follows [] words n = tt
@@ -67,10 +107,12 @@ follows_on (Some o) (Some p) (Some q) h k = (h.0 ∙ k.0, λ s. k.1 (h.1 s))
 pub day_follows : (b : Bool) (words : ℕ × ℕ) (places : List (Option Company)) → FollowsEach places (paid_monthly b (earned words places).1)
 day_follows b words places n =
     let after = (earned words places).1 in
-    follows_on (company_at places n) (company_at after n) (company_at (paid_monthly b after) n) (earned_follows places words n) (monthly_follows b after n)
+    follows_on (company_at places n) (company_at after n) (company_at (paid_monthly b after) n) (earned_follows places words n)
+    (monthly_follows b after n)
 
 -- a world in which a day has begun
-pub IsSound-day : (w v : WorldState) (b : Bool) (words : ℕ × ℕ) → IsSound w → v.part < 74 → v.companies ≡ paid_monthly b (earned words w.companies).1 → v.signs ≡ w.signs → IsSound v
+pub IsSound-day : (w v : WorldState) (b : Bool) (words : ℕ × ℕ) → IsSound w → v.part < 74
+    → v.companies ≡ paid_monthly b (earned words w.companies).1 → v.signs ≡ w.signs → IsSound v
 IsSound-day w v b words s part e signs =
     IsSound-follows w v s part (ap length e ∙ length-monthly b (earned words w.companies).1 ∙ length-earned w.companies words ∙ s.places)
     (λ n. subst (λ places. Follows (company_at w.companies n) (company_at places n)) (sym e) (day_follows b words w.companies n)) signs
@@ -80,17 +122,21 @@ IsSound-new_day w s = IsSound-day w (new_day w) (next_day w.day % 30 == 0) w.wor
 
 went_sound : (b : Bool) (w : WorldState) → (b ≡ false → w.part + 1 < 74) → IsSound w → IsSound (went_on b w)
 went_sound true w h s = IsSound-new_day w s
-went_sound false w h s = record { part = h refl; places = s.places; companies = s.companies; names = s.names; few = s.few; rising = s.rising; signs = s.signs }
+went_sound false w h s =
+    record { part = h refl; places = s.places; companies = s.companies; names = s.names; few = s.few; rising = s.rising; signs = s.signs }
 
 pub IsSound-drawn : (w : WorldState) (words : ℕ × ℕ) → IsSound w → IsSound (record w { words = words })
-IsSound-drawn w words s = record { part = s.part; places = s.places; companies = s.companies; names = s.names; few = s.few; rising = s.rising; signs = s.signs }
+IsSound-drawn w words s =
+    record { part = s.part; places = s.places; companies = s.companies; names = s.names; few = s.few; rising = s.rising; signs = s.signs }
 
 part_goes_on : (part : ℕ) → part < 74 → (part + 1 == 74) ≡ false → part + 1 < 74
-part_goes_on part lt e = elim (eqb_tells (part + 1) 74) [ inl p ↦ absurd (let f = e in let g = p.0 in cc) | inr p ↦ let ne = p.1 in omega arith ]
+part_goes_on part lt e =
+    elim (eqb_tells (part + 1) 74) [ inl p ↦ absurd (let f = e in let g = p.0 in cc) | inr p ↦ let ne = p.1 in omega arith ]
 
 framed_sound : (b : Bool) (w : WorldState) → IsSound w → IsSound (framed_by b w)
 framed_sound true w s = s
-framed_sound false w s = went_sound (w.part + 1 == 74) (record w { words = next_random w.words }) (part_goes_on w.part s.part) (IsSound-drawn w (next_random w.words) s)
+framed_sound false w s = went_sound (w.part + 1 == 74) (record w { words = next_random w.words }) (part_goes_on w.part s.part)
+    (IsSound-drawn w (next_random w.words) s)
 
 pub IsSound-framed : (w : WorldState) → IsSound w → IsSound (framed w)
 IsSound-framed w s = framed_sound w.paused w s
@@ -122,7 +168,8 @@ pub framed_rests : (w : WorldState) → w.part + 1 < 74 → (framed w).companies
 framed_rests w lt = by_rests w.paused w (not_last w.part lt)
 
 went_live : (b : Bool) (w : WorldState) (n : ℕ) → IsSome (company_at w.companies n) → IsSome (company_at (went_on b w).companies n)
-went_live true w n some = live_behind (company_at w.companies n) (company_at (new_day w).companies n) (day_follows (next_day w.day % 30 == 0) w.words w.companies n) some
+went_live true w n some = live_behind (company_at w.companies n) (company_at (new_day w).companies n)
+    (day_follows (next_day w.day % 30 == 0) w.words w.companies n) some
 went_live false w n some = some
 
 by_live : (b : Bool) (w : WorldState) (n : ℕ) → IsSome (company_at w.companies n) → IsSome (company_at (framed_by b w).companies n)

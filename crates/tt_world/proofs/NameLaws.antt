@@ -1,5 +1,31 @@
 -- The names of new companies: they are names, no two are the same, and of fifteen one is free where a company is not live.
-use Rattle.std.proofs.Common.{◌≡◌, ℕ, zero, suc, ◌+◌, ◌^◌, ◌<◌, ◌≤◌, Bool, true, false, List, [], ◌∷◌, ◌++◌, length, refl, sym, ◌∙◌, ap, subst, arith, inl, inr, ◌⊎◌}
+use Rattle.std.proofs.Common.{
+  ◌≡◌,
+  ℕ,
+  zero,
+  suc,
+  ◌+◌,
+  ◌^◌,
+  ◌<◌,
+  ◌≤◌,
+  Bool,
+  true,
+  false,
+  List,
+  [],
+  ◌∷◌,
+  ◌++◌,
+  length,
+  refl,
+  sym,
+  ◌∙◌,
+  ap,
+  subst,
+  arith,
+  inl,
+  inr,
+  ◌⊎◌,
+}
 use Rattle.std.specs.Prelude.{Option, Some, None, ◌&&◌, nat_le, is_none, bytes_eq, codes, decimal}
 use Rattle.std.specs.List.{list_any, IsDistinct, AllByRecursion}
 use Rattle.std.specs.Set.{is_member}
@@ -38,7 +64,12 @@ IsName-numbered m le =
     let fine = holds_to is_fine 15 m refl le in
     let parts = and_both (is_plain (numbered_name m)) (nat_le 1 (length (numbered_name m)) && nat_le (length (numbered_name m)) 31) fine in
     let sizes = and_both (nat_le 1 (length (numbered_name m))) (nat_le (length (numbered_name m)) 31) parts.1 in
-    record { text = IsText-from_is_plain (numbered_name m) parts.0; some = le_of_test 1 (length (numbered_name m)) sizes.0; fits = le_of_test (length (numbered_name m)) 31 sizes.1 }
+    record {
+      text = IsText-from_is_plain (numbered_name m) parts.0;
+      some = le_of_test 1 (length (numbered_name m)) sizes.0;
+      fits =
+          le_of_test (length (numbered_name m)) 31 sizes.1;
+    }
 
 pub one_digit : (m : ℕ) → m < 10 → (67 ∷ 111 ∷ 109 ∷ 112 ∷ 97 ∷ 110 ∷ 121 ∷ 32 ∷ (48 + m) ∷ []) ≡ numbered_name m
 one_digit m lt = ap (λ d. codes "Company " ++ d) (sym (decimal_digit m lt))
@@ -48,18 +79,22 @@ is_two m = bytes_eq (67 ∷ 111 ∷ 109 ∷ 112 ∷ 97 ∷ 110 ∷ 121 ∷ 32 �
 
 pub two_digits : (m : ℕ) → m ≤ 5 → (67 ∷ 111 ∷ 109 ∷ 112 ∷ 97 ∷ 110 ∷ 121 ∷ 32 ∷ 49 ∷ (48 + m) ∷ []) ≡ numbered_name (10 + m)
 unfolding digits
-two_digits m le = (bytes_eq-Decides (67 ∷ 111 ∷ 109 ∷ 112 ∷ 97 ∷ 110 ∷ 121 ∷ 32 ∷ 49 ∷ (48 + m) ∷ []) (numbered_name (10 + m))).0 (holds_to is_two 5 m refl le)
+two_digits m le = (bytes_eq-Decides (67 ∷ 111 ∷ 109 ∷ 112 ∷ 97 ∷ 110 ∷ 121 ∷ 32 ∷ 49 ∷ (48 + m) ∷ []) (numbered_name (10 + m))).0
+    (holds_to is_two 5 m refl le)
 
 -- ---- the least name
 
-pub step_taken : (places : List (Option Company)) (m n : ℕ) → list_any (has_name (numbered_name m)) places ≡ true → least_name places m (suc n) ≡ least_name places (m + 1) n
+pub step_taken : (places : List (Option Company)) (m n : ℕ) → list_any (has_name (numbered_name m)) places ≡ true
+    → least_name places m (suc n) ≡ least_name places (m + 1) n
 step_taken places m n e = rw (e, least_name) refl
 
-pub step_free : (places : List (Option Company)) (m n : ℕ) → list_any (has_name (numbered_name m)) places ≡ false → least_name places m (suc n) ≡ numbered_name m
+pub step_free : (places : List (Option Company)) (m n : ℕ) → list_any (has_name (numbered_name m)) places ≡ false
+    → least_name places m (suc n) ≡ numbered_name m
 step_free places m n e = rw (e, least_name) refl
 
 -- each name that the search may come to has what all fifteen have
-least_name_is : (P : List ℕ → Type 0) (places : List (Option Company)) (i n : ℕ) → ((m : ℕ) → i ≤ m → m ≤ i + n → P (numbered_name m)) → P (least_name places i n)
+least_name_is : (P : List ℕ → Type 0) (places : List (Option Company)) (i n : ℕ) → ((m : ℕ) → i ≤ m → m ≤ i + n → P (numbered_name m))
+    → P (least_name places i n)
 least_name_is P places i zero all = all i (omega arith) (omega arith)
 least_name_is P places i (suc n) all =
     elim (true_or_false (list_any (has_name (numbered_name i)) places)) [
@@ -77,7 +112,8 @@ AllTaken : List (Option Company) → ℕ → ℕ → Type 0
 AllTaken places i zero = Unit {0}
 AllTaken places i (suc n) = (list_any (has_name (numbered_name i)) places ≡ true) × AllTaken places (i + 1) n
 
-free_or_taken : (places : List (Option Company)) (i n : ℕ) → (list_any (has_name (least_name places i n)) places ≡ false) ⊎ AllTaken places i (suc n)
+free_or_taken : (places : List (Option Company)) (i n : ℕ) → (list_any (has_name (least_name places i n)) places ≡ false)
+    ⊎ AllTaken places i (suc n)
 unfolding AllTaken
 free_or_taken places i zero =
     elim (true_or_false (list_any (has_name (numbered_name i)) places)) [ inl e ↦ inr (e, tt) | inr e ↦ inl e ]
@@ -122,7 +158,8 @@ same_number m n a b e = let d : decimal m ≡ decimal n = cc in decimal_injectiv
 not_same : (m n : ℕ) → m < n → n < 100 → bytes_eq (numbered_name m) (numbered_name n) ≡ false
 not_same m n lt small =
     elim (true_or_false (bytes_eq (numbered_name m) (numbered_name n))) [
-      | inl e ↦ absurd (let same = same_number m n (omega arith) (omega arith) ((bytes_eq-Decides (numbered_name m) (numbered_name n)).0 e) in omega arith)
+      | inl e ↦ absurd (let same = same_number m n (omega arith) (omega arith) ((bytes_eq-Decides (numbered_name m) (numbered_name n)).0 e)
+          in omega arith)
       | inr e ↦ e
     ]
 
@@ -159,7 +196,8 @@ bytes_laws = record {
   congr = λ x y z e. ap (λ k. bytes_eq k z) (from_bytes x y e);
 }
 
-taken_is_member : (name : List ℕ) (places : List (Option Company)) → list_any (has_name name) places ≡ true → is_member bytes_eq (names_of places) name ≡ true
+taken_is_member : (name : List ℕ) (places : List (Option Company)) → list_any (has_name name) places ≡ true
+    → is_member bytes_eq (names_of places) name ≡ true
 unfolding names_of
 taken_is_member name [] e = absurd cc
 taken_is_member name (None ∷ places) e = taken_is_member name places e
@@ -169,22 +207,26 @@ taken_is_member name (Some c ∷ places) e =
       | inr f ↦ or_right (bytes_eq name c.name) (is_member bytes_eq (names_of places) name) (taken_is_member name places f)
     ]
 
-members_taken : (places : List (Option Company)) (i n : ℕ) → AllTaken places i n → (q : List ℕ) → is_member bytes_eq (names_from i n) q ≡ true → is_member bytes_eq (names_of places) q ≡ true
+members_taken : (places : List (Option Company)) (i n : ℕ) → AllTaken places i n → (q : List ℕ)
+    → is_member bytes_eq (names_from i n) q ≡ true → is_member bytes_eq (names_of places) q ≡ true
 unfolding names_from AllTaken
 members_taken places i zero all q e = absurd cc
 members_taken places i (suc n) all q e =
     elim (or_either (bytes_eq q (numbered_name i)) (is_member bytes_eq (names_from (i + 1) n) q) e) [
-      | inl f ↦ subst (λ name. is_member bytes_eq (names_of places) name ≡ true) (sym (from_bytes q (numbered_name i) f)) (taken_is_member (numbered_name i) places all.0)
+      | inl f ↦ subst (λ name. is_member bytes_eq (names_of places) name ≡ true) (sym (from_bytes q (numbered_name i) f))
+          (taken_is_member (numbered_name i) places all.0)
       | inr f ↦ members_taken places (i + 1) n all.1 q f
     ]
 
-pub new_name_is_free : (places : List (Option Company)) → length places ≡ 15 → list_any is_none places ≡ true → list_any (has_name (new_name places)) places ≡ false
+pub new_name_is_free : (places : List (Option Company)) → length places ≡ 15 → list_any is_none places ≡ true
+    → list_any (has_name (new_name places)) places ≡ false
 unfolding new_name
 new_name_is_free places fifteen room =
     elim (free_or_taken places 1 14) [
       | inl e ↦ e
       | inr all ↦ absurd (
-          let enough = length-le_from_is_member bytes_laws (names_from 1 15) (names_of places) (distinct_from 1 15 (omega arith)) (members_taken places 1 15 all) in
+          let enough = length-le_from_is_member bytes_laws (names_from 1 15) (names_of places) (distinct_from 1 15 (omega arith))
+          (members_taken places 1 15 all) in
           let fifteen_names = length-names_from 1 15 in
           let fewer = fewer_names places room in omega arith)
     ]

@@ -1,5 +1,33 @@
 -- Signs: the least unused id where ids rise, and what stays true where a sign comes, changes or goes.
-use Rattle.std.proofs.Common.{◌≡◌, ℕ, zero, suc, ◌+◌, ◌<◌, ◌≤◌, Bool, true, false, List, [], ◌∷◌, ◌++◌, map, take, drop, length, refl, sym, ◌∙◌, ap, subst, arith, inl, inr, zero-add}
+use Rattle.std.proofs.Common.{
+  ◌≡◌,
+  ℕ,
+  zero,
+  suc,
+  ◌+◌,
+  ◌<◌,
+  ◌≤◌,
+  Bool,
+  true,
+  false,
+  List,
+  [],
+  ◌∷◌,
+  ◌++◌,
+  map,
+  take,
+  drop,
+  length,
+  refl,
+  sym,
+  ◌∙◌,
+  ap,
+  subst,
+  arith,
+  inl,
+  inr,
+  zero-add,
+}
 use Rattle.std.specs.Prelude.{Some, None, IsSome, All, not, cond, filter, ◌==◌, nat_lt}
 use Rattle.std.specs.List.{list_any, position, position_or_len, insert, remove}
 use Rattle.std.proofs.lemmas.Bool.Decides.{nat_tests, eqb_tells}
@@ -48,7 +76,8 @@ skip ids k j zero lt = refl
 skip ids k j (suc n) lt =
     let other : (k == j) ≡ false = grind (arith, nat_tests) in
     rw (other, least_unused)
-    (elim (list_any (λ x. x == j) ids) as (λ b. elim b [ true ↦ least_unused (k ∷ ids) (j + 1) n | false ↦ j ] ≡ elim b [ true ↦ least_unused ids (j + 1) n | false ↦ j ]) [
+    (elim (list_any (λ x. x == j) ids) as (λ b. elim b [ true ↦ least_unused (k ∷ ids) (j + 1) n | false ↦ j ] ≡ elim b
+    [ true ↦ least_unused ids (j + 1) n | false ↦ j ]) [
       | true ↦ skip ids k (j + 1) n (omega arith)
       | false ↦ refl
     ])
@@ -62,7 +91,8 @@ gap_is [] i (suc n) h le = refl
 gap_is (g ∷ gs) i zero h le = absurd (omega arith)
 gap_is (g ∷ gs) i (suc n) h le =
     elim (eqb_tells g.id i) [
-      | inl p ↦ rw (p.0, gap_from, least_unused) (gap_is gs (i + 1) n (behind g gs i p.1 h.1) (omega arith) ∙ sym (skip (map (λ x. x.id) gs) g.id (i + 1) n (let e = p.1 in omega arith)))
+      | inl p ↦ rw (p.0, gap_from, least_unused) (gap_is gs (i + 1) n (behind g gs i p.1 h.1) (omega arith)
+          ∙ sym (skip (map (λ x. x.id) gs) g.id (i + 1) n (let e = p.1 in omega arith)))
       | inr p ↦ let first : i ≤ g.id = h.0 in let ne = p.1 in
           rw (p.0, gap_from, least_unused, unused_above gs i (g.id + 1) (omega arith) h.1) refl
     ]
@@ -71,7 +101,8 @@ pub new_id_is : (gs : List Sign) → RiseFrom 0 gs → length gs ≤ 1000 → ga
 unfolding new_id
 new_id_is gs h le = gap_is gs 0 1000 h le
 
-at_gap : (sign : Sign) (gs : List Sign) (i k : ℕ) → gap_from i gs ≡ i + k → RiseFrom i gs → sign.id ≡ i + k → with_sign sign gs ≡ insert gs k sign
+at_gap : (sign : Sign) (gs : List Sign) (i k : ℕ) → gap_from i gs ≡ i + k → RiseFrom i gs → sign.id ≡ i + k
+    → with_sign sign gs ≡ insert gs k sign
 at_gap sign [] i zero e h is = refl
 at_gap sign [] i (suc k) e h is = absurd (omega arith)
 at_gap sign (g ∷ gs) i zero e h is =
@@ -82,7 +113,8 @@ at_gap sign (g ∷ gs) i zero e h is =
 at_gap sign (g ∷ gs) i (suc k) e h is =
     elim (eqb_tells g.id i) [
       | inl p ↦ let f = rw (p.0, gap_from) at e in let same = p.1 in
-          rw (no_test_of_le sign.id g.id (omega arith), with_sign) (ap (λ xs. g ∷ xs) (at_gap sign gs (i + 1) k (omega arith) (behind g gs i p.1 h.1) (omega arith)))
+          rw (no_test_of_le sign.id g.id (omega arith), with_sign) (ap (λ xs. g ∷ xs) (at_gap sign gs (i + 1) k (omega arith)
+          (behind g gs i p.1 h.1) (omega arith)))
       | inr p ↦ let f = rw (p.0, gap_from) at e in absurd (omega arith)
     ]
 
@@ -91,7 +123,11 @@ rise_with sign [] i h is = (omega arith, tt)
 rise_with sign (g ∷ gs) i h is =
     elim (eqb_tells g.id i) [
       | inl p ↦ let f = rw (p.0, gap_from) at is in let same = p.1 in let low = gap_least gs (i + 1) in
-          rw (no_test_of_le sign.id g.id (omega arith), with_sign) (h.0, subst (λ k. RiseFrom (k + 1) (with_sign sign gs)) (sym same) (rise_with sign gs (i + 1) (behind g gs i same h.1) f))
+          rw (no_test_of_le sign.id g.id (omega arith), with_sign) (
+            h.0,
+            subst (λ k. RiseFrom (k + 1) (with_sign sign gs)) (sym same)
+                (rise_with sign gs (i + 1) (behind g gs i same h.1) f),
+          )
       | inr p ↦ let f = rw (p.0, gap_from) at is in let first : i ≤ g.id = h.0 in let ne = p.1 in
           rw (test_of_lt sign.id g.id (omega arith), with_sign) (omega arith, (omega arith, h.1))
     ]
@@ -112,10 +148,13 @@ all_with P sign (g ∷ gs) is all =
 
 -- ---- a sign that comes
 
-pub IsSound-signs : (w : WorldState) (signs : List Sign) → length signs ≤ 1000 → RiseFrom 0 signs → All (IsSign w.companies) signs → IsSound w → IsSound (record w { signs = signs })
-IsSound-signs w signs few rising each s = record { part = s.part; places = s.places; companies = s.companies; names = s.names; few = few; rising = rising; signs = each }
+pub IsSound-signs : (w : WorldState) (signs : List Sign) → length signs ≤ 1000 → RiseFrom 0 signs → All (IsSign w.companies) signs
+    → IsSound w → IsSound (record w { signs = signs })
+IsSound-signs w signs few rising each s =
+    record { part = s.part; places = s.places; companies = s.companies; names = s.names; few = few; rising = rising; signs = each }
 
-pub IsSound-placed : (w : WorldState) (owner tile : ℕ) (text : List ℕ) → IsSome (company_of w owner) → tile < 1048576 → IsName text → length w.signs < 1000
+pub IsSound-placed : (w : WorldState) (owner tile : ℕ) (text : List ℕ) → IsSome (company_of w owner) → tile < 1048576 → IsName text
+    → length w.signs < 1000
     → IsSound w → IsSound (record w { signs = placed owner tile text w.signs })
 IsSound-placed w owner tile text live tile_is name room s =
     let sign : Sign = record { id = new_id w.signs; owner = owner; tile = tile; text = text } in
@@ -156,7 +195,8 @@ removed_is id owner [] i h e = absurd cc
 removed_is id owner (g ∷ gs) i h e =
     elim (true_or_false (is_sign_of id owner g)) [
       | inl so ↦ rw so (sym (no_loss id owner gs (g.id + 1) (let same = this_id id owner g so in omega arith) h.1))
-      | inr not_so ↦ let rest = rw not_so at e in rw not_so (remove_next g gs (position_or_len (is_sign_of id owner) gs) ∙ ap (λ xs. g ∷ xs) (removed_is id owner gs (g.id + 1) h.1 rest))
+      | inr not_so ↦ let rest = rw not_so at e in rw not_so (remove_next g gs (position_or_len (is_sign_of id owner) gs)
+          ∙ ap (λ xs. g ∷ xs) (removed_is id owner gs (g.id + 1) h.1 rest))
     ]
 
 rise_filter : (p : Sign → Bool) (gs : List Sign) (i : ℕ) → RiseFrom i gs → RiseFrom i (filter p gs)
@@ -176,24 +216,31 @@ few_filter p (g ∷ gs) =
 pub IsSound-without : (w : WorldState) (id owner : ℕ) → IsSound w → IsSound (record w { signs = without_sign id owner w.signs })
 IsSound-without w id owner s =
     let kept = λ (g : Sign). not (is_sign_of id owner g) in
-    IsSound-signs w (filter kept w.signs) (let n = few_filter kept w.signs in let few = s.few in omega arith) (rise_filter kept w.signs 0 s.rising)
+    IsSound-signs w (filter kept w.signs) (let n = few_filter kept w.signs in let few = s.few in omega arith) (rise_filter kept w.signs 0
+    s.rising)
     (All-filter kept (IsSign w.companies) w.signs s.signs) s
 
 same_id : (id owner : ℕ) (text : List ℕ) (g : Sign) → (cond (is_sign_of id owner g) (record g { text = text }) g).id ≡ g.id
-same_id id owner text g = elim (is_sign_of id owner g) as (λ b. (cond b (record g { text = text }) g).id ≡ g.id) [ true ↦ refl | false ↦ refl ]
+same_id id owner text g =
+    elim (is_sign_of id owner g) as (λ b. (cond b (record g { text = text }) g).id ≡ g.id) [ true ↦ refl | false ↦ refl ]
 
 rise_text : (id owner : ℕ) (text : List ℕ) (gs : List Sign) (i : ℕ) → RiseFrom i gs → RiseFrom i (with_text id owner text gs)
 rise_text id owner text [] i h = tt
-rise_text id owner text (g ∷ gs) i h =
-    (subst (λ k. i ≤ k) (sym (same_id id owner text g)) h.0, subst (λ k. RiseFrom (k + 1) (with_text id owner text gs)) (sym (same_id id owner text g)) (rise_text id owner text gs (g.id + 1) h.1))
+rise_text id owner text (g ∷ gs) i h = (
+  subst (λ k. i ≤ k) (sym (same_id id owner text g)) h.0,
+  subst (λ k. RiseFrom (k + 1) (with_text id owner text gs))
+      (sym (same_id id owner text g)) (rise_text id owner text gs (g.id + 1) h.1),
+)
 
 few_text : (id owner : ℕ) (text : List ℕ) (gs : List Sign) → length (with_text id owner text gs) ≡ length gs
 few_text id owner text [] = refl
 few_text id owner text (g ∷ gs) = ap suc (few_text id owner text gs)
 
-pub IsSound-text : (w : WorldState) (id owner : ℕ) (text : List ℕ) → IsName text → IsSound w → IsSound (record w { signs = with_text id owner text w.signs })
+pub IsSound-text : (w : WorldState) (id owner : ℕ) (text : List ℕ) → IsName text → IsSound w
+    → IsSound (record w { signs = with_text id owner text w.signs })
 IsSound-text w id owner text name s =
-    IsSound-signs w (with_text id owner text w.signs) (let n = few_text id owner text w.signs in let few = s.few in omega arith) (rise_text id owner text w.signs 0 s.rising)
+    IsSound-signs w (with_text id owner text w.signs) (let n = few_text id owner text w.signs in let few = s.few in omega arith)
+    (rise_text id owner text w.signs 0 s.rising)
     (All-map (IsSign w.companies) (λ g. cond (is_sign_of id owner g) (record g { text = text }) g) w.signs
     (All-weaker (IsSign w.companies) (λ g. IsSign w.companies (cond (is_sign_of id owner g) (record g { text = text }) g))
     (λ g h. elim (is_sign_of id owner g) as (λ b. IsSign w.companies (cond b (record g { text = text }) g)) [
@@ -211,7 +258,8 @@ place_bound p (g ∷ gs) e =
       | inr not_so ↦ let rest = place_bound p gs (rw not_so at e) in rw not_so (omega arith)
     ]
 
-pub place_is : (p : Sign → Bool) (gs : List Sign) (place : ℕ) → list_any p gs ≡ true → Some place ≡ position p gs → (place ≡ position_or_len p gs) × (place < length gs)
+pub place_is : (p : Sign → Bool) (gs : List Sign) (place : ℕ) → list_any p gs ≡ true → Some place ≡ position p gs
+    → (place ≡ position_or_len p gs) × (place < length gs)
 place_is p gs place there e =
     let bound = place_bound p gs there in
     let test : nat_lt (position_or_len p gs) (length gs) ≡ true = test_of_lt (position_or_len p gs) (length gs) bound in
@@ -227,20 +275,24 @@ no_place p gs there e =
 
 -- ---- as the code leaves the list
 
-pub IsSound-at_signs : (w : WorldState) (signs same : List Sign) → signs ≡ same → IsSound (record w { signs = same }) → IsSound (record w { signs = signs })
+pub IsSound-at_signs : (w : WorldState) (signs same : List Sign) → signs ≡ same → IsSound (record w { signs = same })
+    → IsSound (record w { signs = signs })
 IsSound-at_signs w signs same e s = subst (λ x. IsSound (record w { signs = x })) (sym e) s
 
-pub taken_is : (id owner : ℕ) (items slice after seen : List Sign) (place : ℕ) → after ≡ remove items place → place ≡ position_or_len (is_sign_of id owner) slice → slice ≡ items
+pub taken_is : (id owner : ℕ) (items slice after seen : List Sign) (place : ℕ) → after ≡ remove items place
+    → place ≡ position_or_len (is_sign_of id owner) slice → slice ≡ items
     → items ≡ seen → RiseFrom 0 items → list_any (is_sign_of id owner) seen ≡ true → after ≡ without_sign id owner items
 taken_is id owner items slice after seen place written at same view rising there =
-    written ∙ ap (remove items) (at ∙ ap (position_or_len (is_sign_of id owner)) same) ∙ removed_is id owner items 0 rising (subst (λ x. list_any (is_sign_of id owner) x ≡ true) (sym view) there)
+    written ∙ ap (remove items) (at ∙ ap (position_or_len (is_sign_of id owner)) same)
+    ∙ removed_is id owner items 0 rising (subst (λ x. list_any (is_sign_of id owner) x ≡ true) (sym view) there)
 
 take_front : (xs ys : List Sign) → take (length xs) (xs ++ ys) ≡ xs
 take_front [] ys = refl
 take_front (x ∷ xs) ys = ap (λ zs. x ∷ zs) (take_front xs ys)
 
 -- a slice written over the whole list
-pub changed_is : (id owner len : ℕ) (text : List ℕ) (items slice after : List Sign) → after ≡ with_text id owner text slice → slice ≡ items → length slice ≡ len
+pub changed_is : (id owner len : ℕ) (text : List ℕ) (items slice after : List Sign) → after ≡ with_text id owner text slice → slice ≡ items
+    → length slice ≡ len
     → take len (after ++ drop (length after) items) ≡ with_text id owner text items
 changed_is id owner len text items slice after written same n =
     let few : length after ≡ len = ap length written ∙ few_text id owner text slice ∙ n in

@@ -41,7 +41,8 @@ pub Follows-same : (o : Option Company) → Follows o o
 Follows-same None = tt
 Follows-same (Some c) = (refl, λ h. h)
 
-pub Follows-map : (f : Company → Company) → ((c : Company) → c.name ≡ (f c).name) → (o : Option Company) → ((c : Company) → o ≡ Some c → IsCompany c → IsCompany (f c)) → Follows o (option_map f o)
+pub Follows-map : (f : Company → Company) → ((c : Company) → c.name ≡ (f c).name) → (o : Option Company) → ((c : Company) → o ≡ Some c
+    → IsCompany c → IsCompany (f c)) → Follows o (option_map f o)
 Follows-map f names None each = tt
 Follows-map f names (Some c) each = (names c, each c refl)
 
@@ -69,10 +70,17 @@ live_behind (Some c) (Some x) h e = refl
 abbrev pub FollowsEach : List (Option Company) → List (Option Company) → Type 0
 FollowsEach old new = (n : ℕ) → Follows (company_at old n) (company_at new n)
 
-pub signs_follow : (old new : List (Option Company)) → FollowsEach old new → (signs : List Sign) → All (IsSign old) signs → All (IsSign new) signs
+pub signs_follow : (old new : List (Option Company)) → FollowsEach old new → (signs : List Sign) → All (IsSign old) signs
+    → All (IsSign new) signs
 signs_follow old new each signs all =
     All-weaker (IsSign old) (IsSign new)
-    (λ g s. record { id = s.id; owner = live_behind (company_at old g.owner) (company_at new g.owner) (each g.owner) s.owner; tile = s.tile; text = s.text })
+    (λ g s. record {
+      id = s.id;
+      owner = live_behind (company_at old g.owner) (company_at new g.owner) (each g.owner) s.owner;
+      tile =
+          s.tile;
+      text = s.text;
+    })
     signs all
 
 pub names_follow : (old new : List (Option Company)) → FollowsEach old new → HasDistinctNames old → HasDistinctNames new
@@ -81,12 +89,14 @@ names_follow old new each names m n c d at_m at_n same =
     let e = before (company_at old n) (company_at new n) d (each n) at_n in
     names m n b.company e.company b.was e.was (b.name ∙ same ∙ sym e.name)
 
-pub companies_follow : (old new : List (Option Company)) → FollowsEach old new → ((n : ℕ) (c : Company) → company_at old n ≡ Some c → IsCompany c) → (n : ℕ) (c : Company) → company_at new n ≡ Some c → IsCompany c
+pub companies_follow : (old new : List (Option Company)) → FollowsEach old new → ((n : ℕ) (c : Company) → company_at old n ≡ Some c
+    → IsCompany c) → (n : ℕ) (c : Company) → company_at new n ≡ Some c → IsCompany c
 companies_follow old new each sound n c e =
     let b = before (company_at old n) (company_at new n) c (each n) e in
     b.sound (sound n b.company b.was)
 
-pub IsSound-follows : (w v : WorldState) → IsSound w → v.part < 74 → length v.companies ≡ 15 → FollowsEach w.companies v.companies → v.signs ≡ w.signs → IsSound v
+pub IsSound-follows : (w v : WorldState) → IsSound w → v.part < 74 → length v.companies ≡ 15 → FollowsEach w.companies v.companies
+    → v.signs ≡ w.signs → IsSound v
 IsSound-follows w v s part places each signs =
     record {
       part = part;

@@ -1,6 +1,46 @@
 -- The nine commands: of each, when it is refused and what it does. Refusals are looked at in the order in which they
 -- stand; a command is refused for the first that holds.
-use Rattle.std.specs.Prelude.{ℕ, zero, suc, ◌+◌, ◌-◌, ◌%◌, Bool, true, false, not, ◌&&◌, ◌||◌, ◌==◌, nat_lt, nat_le, cond, List, [], ◌∷◌, ◌++◌, map, filter, take, drop, length, slice_set, Option, Some, None, is_none, option_map, ℤ, pos, ◌+ℤ◌, ◌-ℤ◌, int_lt, codes, decimal, bytes_eq}
+use Rattle.std.specs.Prelude.{
+  ℕ,
+  zero,
+  suc,
+  ◌+◌,
+  ◌-◌,
+  ◌%◌,
+  Bool,
+  true,
+  false,
+  not,
+  ◌&&◌,
+  ◌||◌,
+  ◌==◌,
+  nat_lt,
+  nat_le,
+  cond,
+  List,
+  [],
+  ◌∷◌,
+  ◌++◌,
+  map,
+  filter,
+  take,
+  drop,
+  length,
+  slice_set,
+  Option,
+  Some,
+  None,
+  is_none,
+  option_map,
+  ℤ,
+  pos,
+  ◌+ℤ◌,
+  ◌-ℤ◌,
+  int_lt,
+  codes,
+  decimal,
+  bytes_eq,
+}
 use Rattle.std.specs.List.{list_any, position_or_len}
 use Rattle.tt_world.specs.Reasons.{◌⇒◌, ◌or_else◌}
 use Rattle.tt_world.specs.World.{WorldState, company_of}
@@ -8,7 +48,17 @@ use Rattle.tt_world.specs.Sound.{most_money}
 use Rattle.tt_world.specs.declared.company.Company.{Company}
 use Rattle.tt_world.specs.declared.sign.Sign.{Sign}
 use Rattle.tt_world.specs.declared.command.Code.{Code}
-use Rattle.tt_world.specs.declared.command.Code.TheVariants.{IncreaseLoan, DecreaseLoan, Give, PlaceSign, RenameSign, RenameCompany, RenamePresident, Pause, NewCompany}
+use Rattle.tt_world.specs.declared.command.Code.TheVariants.{
+  IncreaseLoan,
+  DecreaseLoan,
+  Give,
+  PlaceSign,
+  RenameSign,
+  RenameCompany,
+  RenamePresident,
+  Pause,
+  NewCompany,
+}
 use Rattle.tt_world.specs.declared.command.Entry.{Entry}
 use Rattle.tt_world.specs.declared.effect.Why.{Why}
 use Rattle.tt_world.specs.declared.effect.Why.TheVariants.{Amount, Loan, Money, NoCompany, Tile, Text, NoSign, Full, Same}
@@ -163,14 +213,16 @@ numbered_name m = codes "Company " ++ decimal m
 -- `Company m` with the least m from i on that no company has, of n more that are tried
 abbrev pub least_name : List (Option Company) → ℕ → ℕ → List ℕ
 least_name companies i zero = numbered_name i
-least_name companies i (suc n) = elim (list_any (has_name (numbered_name i)) companies) [ true ↦ least_name companies (i + 1) n | false ↦ numbered_name i ]
+least_name companies i (suc n) =
+    elim (list_any (has_name (numbered_name i)) companies) [ true ↦ least_name companies (i + 1) n | false ↦ numbered_name i ]
 
 -- the name of a new company: of fourteen companies at most, one of the first fifteen such names is not taken
 unfoldable pub new_name : List (Option Company) → List ℕ
 new_name companies = least_name companies 1 14
 
 abbrev pub new_company : List (Option Company) → Company
-new_company companies = record { money = pos 100000; loan = 100000; most = 300000; name = new_name companies; president = codes "President" }
+new_company companies =
+    record { money = pos 100000; loan = 100000; most = 300000; name = new_name companies; president = codes "President" }
 
 abbrev pub founded : WorldState → WorldState
 founded w = record w { companies = slice_set w.companies (new_number w.companies) (Some (new_company w.companies)) }

@@ -1,5 +1,30 @@
 -- What a frame makes of the world.
-use Rattle.std.specs.Prelude.{ℕ, ◌+◌, ◌-◌, ◌/◌, ◌%◌, ◌^◌, min, Bool, true, false, ◌==◌, List, [], ◌∷◌, map, Option, Some, None, option_map, ℤ, pos, neg_ℤ, ◌+ℤ◌, ◌-ℤ◌}
+use Rattle.std.specs.Prelude.{
+  ℕ,
+  ◌+◌,
+  ◌-◌,
+  ◌/◌,
+  ◌%◌,
+  ◌^◌,
+  min,
+  Bool,
+  true,
+  false,
+  ◌==◌,
+  List,
+  [],
+  ◌∷◌,
+  map,
+  Option,
+  Some,
+  None,
+  option_map,
+  ℤ,
+  pos,
+  neg_ℤ,
+  ◌+ℤ◌,
+  ◌-ℤ◌,
+}
 use Rattle.std.specs.Int.{int_max, int_min}
 use Rattle.tt_world.specs.Random.{next_random, below}
 use Rattle.tt_world.specs.World.{WorldState}
@@ -18,7 +43,8 @@ earning sum c = record c { money = clamped (c.money +ℤ pos sum) }
 abbrev pub earned : ℕ × ℕ → List (Option Company) → (ℕ × ℕ) × List (Option Company)
 earned words [] = (words, [])
 earned words (None ∷ places) = let rest = earned words places in (rest.0, None ∷ rest.1)
-earned words (Some c ∷ places) = let drawn = next_random words in let rest = earned drawn places in (rest.0, Some (earning (below drawn 1001) c) ∷ rest.1)
+earned words (Some c ∷ places) = let drawn = next_random words in let rest =
+    earned drawn places in (rest.0, Some (earning (below drawn 1001) c) ∷ rest.1)
 
 -- a company that pays the interest of a month
 abbrev pub paying : Company → Company

@@ -34,7 +34,8 @@ RiseFrom id (g ∷ gs) = (id ≤ g.id) × RiseFrom (g.id + 1) gs
 
 -- no two companies have one name
 abbrev pub HasDistinctNames : List (Option Company) → Type 0
-HasDistinctNames companies = (m n : ℕ) (c d : Company) → company_at companies m ≡ Some c → company_at companies n ≡ Some d → c.name ≡ d.name → m ≡ n
+HasDistinctNames companies =
+    (m n : ℕ) (c d : Company) → company_at companies m ≡ Some c → company_at companies n ≡ Some d → c.name ≡ d.name → m ≡ n
 
 -- what is true of every world: its part is one of a day, and its companies and signs are right
 pub record IsSound (w : WorldState) : Type 0 where

@@ -9,5 +9,6 @@ use Rattle.tt_tied.proofs.all_in_step.Goals as goal
 pub returns : goal.returns
 returns g c =
     record {
-      in_step = λ realm policy events conn calls later reads e. led_in_step (game_of realm) (watched conn (table_after realm policy first events)) _ calls later (leads_there realm reads policy conn events) e;
+      in_step = λ realm policy events conn calls later reads e. led_in_step (game_of realm) (watched conn (table_after realm policy first
+          events)) _ calls later (leads_there realm reads policy conn events) e;
     }

@@ -10,5 +10,6 @@ pub returns : goal.returns
 returns g c =
     record {
       in_step = λ realm policy wire events conn calls later reads back e.
-          bytes_in_step wire (dialog_of realm) (game_of realm) (watched conn (table_after realm policy first events)) (heard_by realm policy conn first events) calls later (leads_there realm reads policy conn events) back e;
+          bytes_in_step wire (dialog_of realm) (game_of realm) (watched conn (table_after realm policy first events))
+          (heard_by realm policy conn first events) calls later (leads_there realm reads policy conn events) back e;
     }

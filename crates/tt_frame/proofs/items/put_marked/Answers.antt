@@ -8,21 +8,30 @@ use Rattle.tt_frame.proofs.items.put_marked.Goals as goal
 
 pub loop-item-init : goal.loop-item-init
 loop-item-init g c =
-    sym (ap (λ (xs : List (Item g.T.ListItem.fields)). g.W.PartWriter.text c.args.to.now ++ each_said g.W.PartWriter.word (marks_said g.T.ListItem.fields xs)) g.met.T.ListItem.none ∙ append-nil (g.W.PartWriter.text c.args.to.now))
+    sym (ap (λ (xs : List (Item g.T.ListItem.fields)). g.W.PartWriter.text c.args.to.now
+    ++ each_said g.W.PartWriter.word (marks_said g.T.ListItem.fields xs)) g.met.T.ListItem.none
+    ∙ append-nil (g.W.PartWriter.text c.args.to.now))
 
 pub returns-in-Err-clause-err : goal.returns-in-Err-clause-err
 returns-in-Err-clause-err g c =
-    front_of_front (g.W.PartWriter.text c.args.to.now) (g.W.PartWriter.text c.loop-item.to) (g.W.PartWriter.text c.put_marked_item.new.to) (each_said g.W.PartWriter.word (marks_said g.T.ListItem.fields (g.T.ListItem.listed (take c.loop-item.item-index c.args.list.now)))) c.loop-item.invariant c.in-Err.ensures.err
+    front_of_front (g.W.PartWriter.text c.args.to.now) (g.W.PartWriter.text c.loop-item.to) (g.W.PartWriter.text c.put_marked_item.new.to)
+    (each_said g.W.PartWriter.word (marks_said g.T.ListItem.fields (g.T.ListItem.listed (take c.loop-item.item-index
+    c.args.list.now)))) c.loop-item.invariant c.in-Err.ensures.err
 
 pub loop-item-preserved : goal.loop-item-preserved
 loop-item-preserved g c =
     let fs = g.T.ListItem.fields in
     let done = marks_said fs (g.T.ListItem.listed (take c.loop-item.item-index c.args.list.now)) in
-    told_after g.W.PartWriter.word (g.W.PartWriter.text c.args.to.now) (g.W.PartWriter.text c.loop-item.to) (g.W.PartWriter.text c.put_marked_item.new.to) done (mark 1 ∷ item_said fs (g.T.ListItem.values c.item-item.result)) _ c.loop-item.invariant
+    told_after g.W.PartWriter.word (g.W.PartWriter.text c.args.to.now) (g.W.PartWriter.text c.loop-item.to)
+    (g.W.PartWriter.text c.put_marked_item.new.to) done (mark 1 ∷ item_said fs (g.T.ListItem.values c.item-item.result)) _
+    c.loop-item.invariant
     (c.in_default.ensures.ok)
-    (marks_more_said _ fs g.T.ListItem.listed g.T.ListItem.values g.met.T.ListItem.more c.args.list.now c.loop-item.item-index c.item-item.result c.loop-item-test.true c.item-item.is)
+    (marks_more_said _ fs g.T.ListItem.listed g.T.ListItem.values g.met.T.ListItem.more c.args.list.now c.loop-item.item-index
+    c.item-item.result c.loop-item-test.true c.item-item.is)
 
 pub returns-clause-ok : goal.returns-clause-ok
 returns-clause-ok g c =
     c.loop-item.invariant
-    ∙ ap (λ (xs : List g.row.T.Denot). g.W.PartWriter.text c.args.to.now ++ each_said g.W.PartWriter.word (marks_said g.T.ListItem.fields (g.T.ListItem.listed xs))) (take_all c.loop-item.item-index c.args.list.now (omega arith))
+    ∙ ap (λ (xs : List g.row.T.Denot). g.W.PartWriter.text c.args.to.now
+    ++ each_said g.W.PartWriter.word (marks_said g.T.ListItem.fields (g.T.ListItem.listed xs))) (take_all c.loop-item.item-index
+    c.args.list.now (omega arith))

@@ -10,7 +10,11 @@ put_part-requires g c = part_fits c.args.parts.now c.loop-part.part-index _ c.lo
 
 pub returns-in-Err-clause-err : goal.returns-in-Err-clause-err
 returns-in-Err-clause-err g c =
-    front_of_front (g.W.PartWriter.text c.args.to.now) (g.W.PartWriter.text c.loop-part.to) (g.W.PartWriter.text c.put_part.new.self) (each_said g.W.PartWriter.word (all_said_by (take c.loop-part.part-index c.args.parts.now))) c.loop-part.invariant c.in-Err.ensures.err
+    front_of_front (g.W.PartWriter.text c.args.to.now) (g.W.PartWriter.text c.loop-part.to) (g.W.PartWriter.text c.put_part.new.self)
+    (each_said g.W.PartWriter.word (all_said_by (take c.loop-part.part-index c.args.parts.now))) c.loop-part.invariant
+    c.in-Err.ensures.err
 
 pub loop-part-preserved : goal.loop-part-preserved
-loop-part-preserved g c = one_part g.W.PartWriter.word (g.W.PartWriter.text c.args.to.now) (g.W.PartWriter.text c.loop-part.to) (g.W.PartWriter.text c.put_part.new.self) c.args.parts.now c.loop-part.part-index _ c.loop-part-test.true c.loop-part.invariant c.in_default.ensures.ok
+loop-part-preserved g c = one_part g.W.PartWriter.word (g.W.PartWriter.text c.args.to.now) (g.W.PartWriter.text c.loop-part.to)
+    (g.W.PartWriter.text c.put_part.new.self) c.args.parts.now c.loop-part.part-index _ c.loop-part-test.true c.loop-part.invariant
+    c.in_default.ensures.ok

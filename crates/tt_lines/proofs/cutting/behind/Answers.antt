@@ -3,4 +3,7 @@ use Rattle.std.proofs.lemmas.Slice.Eq.{strip_prefix_is}
 use Rattle.tt_lines.proofs.cutting.behind.Goals as goal
 
 pub returns : goal.returns
-returns c = record { cases = strip_prefix_is Decides-eqb c.args.text.now c.args.front.now c.strip_prefix.result c.strip_prefix.ensures.cases }
+returns c = record {
+  cases = strip_prefix_is Decides-eqb c.args.text.now c.args.front.now c.strip_prefix.result
+      c.strip_prefix.ensures.cases;
+}

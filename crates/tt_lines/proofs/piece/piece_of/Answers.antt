@@ -23,7 +23,9 @@ pub returns-in-Err-OddLength-clause-none : goal.returns-in-Err-OddLength-clause-
 returns-in-Err-OddLength-clause-none c = refused_none c.args.digits.now c.in-Err-OddLength.field-0 (λ is. cc) c.in-Err-OddLength.ensures.err
 
 pub returns-in-Err-InvalidStringLength-clause-none : goal.returns-in-Err-InvalidStringLength-clause-none
-returns-in-Err-InvalidStringLength-clause-none c = refused_none c.args.digits.now c.in-Err-InvalidStringLength.field-0 (λ is. cc) c.in-Err-InvalidStringLength.ensures.err
+returns-in-Err-InvalidStringLength-clause-none c =
+    refused_none c.args.digits.now c.in-Err-InvalidStringLength.field-0 (λ is. cc) c.in-Err-InvalidStringLength.ensures.err
 
 pub returns-in-Err-InvalidHexCharacter-clause-none : goal.returns-in-Err-InvalidHexCharacter-clause-none
-returns-in-Err-InvalidHexCharacter-clause-none c = refused_none c.args.digits.now c.in-Err-InvalidHexCharacter.field-0 (λ is. cc) c.in-Err-InvalidHexCharacter.ensures.err
+returns-in-Err-InvalidHexCharacter-clause-none c =
+    refused_none c.args.digits.now c.in-Err-InvalidHexCharacter.field-0 (λ is. cc) c.in-Err-InvalidHexCharacter.ensures.err

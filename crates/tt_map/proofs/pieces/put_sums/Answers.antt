@@ -7,7 +7,8 @@ use Rattle.tt_map.proofs.pieces.put_sums.Goals as goal
 pub returns-clause-items : goal.returns-clause-items
 returns-clause-items c =
     let fits : FitsSigned w64 c.args.company.now.money = search rules in
-    let money_bytes : c.to_be_bytes.result ≡ i64 c.args.company.now.money = c.to_be_bytes.ensures ∙ ap (λ (z : ℤ). i64 z) (to_z-of_z fits) in
+    let money_bytes : c.to_be_bytes.result ≡ i64 c.args.company.now.money =
+    c.to_be_bytes.ensures ∙ ap (λ (z : ℤ). i64 z) (to_z-of_z fits) in
     let loan_bytes : c.to_be_bytes-2.result ≡ u32 c.args.company.now.loan = c.to_be_bytes-2.ensures in
     let most_bytes : c.to_be_bytes-3.result ≡ u32 c.args.company.now.most = c.to_be_bytes-3.ensures in
     four_wrote c.args.piece.now.items c.put.new.piece.items c.put-2.new.piece.items c.put-3.new.piece.items c.put-4.new.piece.items

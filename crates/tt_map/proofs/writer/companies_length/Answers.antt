@@ -23,7 +23,8 @@ loop-n-preserved c =
             c.loop-n.invariant.same,
             ap length more,
             piece,
-            length-append (flat_map (company_bytes Second) (live_from 0 (take n places))) (flat_map (company_bytes Second) (live_from n (option_copied c.company.result ∷ []))),
+            length-append (flat_map (company_bytes Second) (live_from 0 (take n places))) (flat_map (company_bytes Second)
+                (live_from n (option_copied c.company.result ∷ []))),
           );
     }
 

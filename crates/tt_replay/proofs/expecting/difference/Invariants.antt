@@ -7,7 +7,8 @@ use Rattle.tt_replay.proofs.expecting.difference.Given as goal
 
 -- the reader stands behind some steps, and what they expect was told
 abbrev pub invariant-loop-step : goal.invariant-loop-step
-invariant-loop-step l = (steps : List Step) × (IsAt l.reader l.script steps × (lines_of l.report ≡ expected_of steps ++ lines_of l.rest) × (l.place ≡ length (expected_of steps) + 1))
+invariant-loop-step l = (steps : List Step) × (IsAt l.reader l.script steps × (lines_of l.report ≡ expected_of steps ++ lines_of l.rest)
+    × (l.place ≡ length (expected_of steps) + 1))
 
 abbrev pub decreases-loop-step : goal.decreases-loop-step
 decreases-loop-step l = length l.reader.rest

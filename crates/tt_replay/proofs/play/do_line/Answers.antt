@@ -9,9 +9,11 @@ returns-in_ok-open-in-Open-clause-at c = rw c.in-Open.is (λ p at.
     let next : Play = record { hub = c.open.new.hub; rest = c.args.play.now.rest; refused = c.args.play.now.refused } in
     let few = rw c.in-Open.is at c.requires.few in
     let none : opens c.args.play.now.hub.events ≡ 0 = omega (arith, few) in
-    at_opening c.args.play.now.hub.setup c.args.play.now next p at none c.in_ok-open-in-Open.ensures.setup c.in_ok-open-in-Open.ensures.events c.in_ok-open-in-Open.ensures.taken refl refl)
+    at_opening c.args.play.now.hub.setup c.args.play.now next p at none c.in_ok-open-in-Open.ensures.setup
+    c.in_ok-open-in-Open.ensures.events c.in_ok-open-in-Open.ensures.taken refl refl)
 
 pub returns-in_ok-run_ticks-in-Tick-clause-at : goal.returns-in_ok-run_ticks-in-Tick-clause-at
 returns-in_ok-run_ticks-in-Tick-clause-at c = rw c.in-Tick.is (λ p at.
     let next : Play = record { hub = c.run_ticks.new.hub; rest = c.args.play.now.rest; refused = c.args.play.now.refused } in
-    at_ticks c.args.play.now.hub.setup c.args.play.now next p c.in-Tick.n at c.in_ok-run_ticks-in-Tick.ensures.setup c.in_ok-run_ticks-in-Tick.ensures.events c.in_ok-run_ticks-in-Tick.ensures.taken refl refl)
+    at_ticks c.args.play.now.hub.setup c.args.play.now next p c.in-Tick.n at c.in_ok-run_ticks-in-Tick.ensures.setup
+    c.in_ok-run_ticks-in-Tick.ensures.events c.in_ok-run_ticks-in-Tick.ensures.taken refl refl)

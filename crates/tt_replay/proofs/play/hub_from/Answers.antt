@@ -6,4 +6,5 @@ use Rattle.tt_replay.proofs.play.hub_from.Goals as goal
 pub returns-then-is_empty-clause-start : goal.returns-then-is_empty-clause-start
 returns-then-is_empty-clause-start c =
     let none : c.args.saved.now ≡ [] = search rules in
-    subst (λ (w : WorldState). IfOk c.new.result (λ hub. hub.start ≡ w)) (own_start c.args.setup.now c.args.saved.now none) c.new.ensures.start
+    subst (λ (w : WorldState). IfOk c.new.result (λ hub. hub.start ≡ w)) (own_start c.args.setup.now c.args.saved.now none)
+    c.new.ensures.start

@@ -11,4 +11,5 @@ put-requires c = record { taken = broken_taken c.args.hub.now.setup c.args.hub.n
 pub returns-clause-ended : goal.returns-clause-ended
 returns-clause-ended c =
     ap (λ (t : Table). is_there t.standing)
-    (table_behind c.args.hub.now.setup c.args.hub.now.events c.put.new.hub.events (Broken c.args.conn) (broken_taken c.args.hub.now.setup c.args.hub.now.events c.args.conn c.requires.live) c.in_ok-put.ensures.ok)
+    (table_behind c.args.hub.now.setup c.args.hub.now.events c.put.new.hub.events (Broken c.args.conn) (broken_taken c.args.hub.now.setup
+    c.args.hub.now.events c.args.conn c.requires.live) c.in_ok-put.ensures.ok)

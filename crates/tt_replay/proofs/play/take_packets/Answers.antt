@@ -8,9 +8,11 @@ pub packets-preserved : goal.packets-preserved
 packets-preserved c =
     let so_far = c.packets.invariant in
     let bytes = c.args.bytes.now in
-    let live : is_live c.args.hub.now.setup c.packets.hub.events c.args.conn ≡ true = rw so_far.setup at (sym c.live.ensures.live ∙ c.packets-test.true) in
+    let live : is_live c.args.hub.now.setup c.packets.hub.events c.args.conn ≡ true =
+    rw so_far.setup at (sym c.live.ensures.live ∙ c.packets-test.true) in
     let first = rw take_rest at c.in-Packet.ensures in
-    let next = next_packet c.args.hub.now.setup c.args.conn bytes c.packets.end c.in-Packet.kind c.in-Packet.body.now first.0 c.args.hub.now.events c.packets.hub.events c.put_packet.new.hub.events (λ i. omega (arith, c.type_inv.bytes i)) so_far.within
+    let next = next_packet c.args.hub.now.setup c.args.conn bytes c.packets.end c.in-Packet.kind c.in-Packet.body.now first.0
+    c.args.hub.now.events c.packets.hub.events c.put_packet.new.hub.events (λ i. omega (arith, c.type_inv.bytes i)) so_far.within
     first.1 live c.in_ok-put_packet-in-Packet.ensures.events so_far.events so_far.rest in
     record {
       within = next.within;
@@ -26,20 +28,25 @@ packets-preserved c =
 
 pub returns-in-Partial-clause-events : goal.returns-in-Partial-clause-events
 returns-in-Partial-clause-events c =
-    partial_events c.args.hub.now.setup c.args.conn c.args.bytes.now c.packets.end c.args.hub.now.events c.packets.hub.events (λ i. omega (arith, c.type_inv.bytes i)) (rw take_rest at c.in-Partial.ensures) c.packets.invariant.events
+    partial_events c.args.hub.now.setup c.args.conn c.args.bytes.now c.packets.end c.args.hub.now.events c.packets.hub.events
+    (λ i. omega (arith, c.type_inv.bytes i)) (rw take_rest at c.in-Partial.ensures) c.packets.invariant.events
 
 pub returns-in-Partial-clause-rest : goal.returns-in-Partial-clause-rest
-returns-in-Partial-clause-rest c = λ there. partial_rest c.args.bytes.now c.packets.end (λ i. omega (arith, c.type_inv.bytes i)) (rw take_rest at c.in-Partial.ensures) c.packets.invariant.rest
+returns-in-Partial-clause-rest c = λ there. partial_rest c.args.bytes.now c.packets.end (λ i. omega (arith, c.type_inv.bytes i))
+    (rw take_rest at c.in-Partial.ensures) c.packets.invariant.rest
 
 pub returns-in-BadSize-clause-events : goal.returns-in-BadSize-clause-events
 returns-in-BadSize-clause-events c =
     let so_far = c.packets.invariant in
-    let live : is_live c.args.hub.now.setup c.packets.hub.events c.args.conn ≡ true = rw so_far.setup at (sym c.live.ensures.live ∙ c.packets-test.true) in
-    broken_events c.args.hub.now.setup c.args.conn c.args.bytes.now c.packets.end c.in-BadSize.field-0 c.args.hub.now.events c.packets.hub.events c.put_broken.new.hub.events (λ i. omega (arith, c.type_inv.bytes i))
+    let live : is_live c.args.hub.now.setup c.packets.hub.events c.args.conn ≡ true =
+    rw so_far.setup at (sym c.live.ensures.live ∙ c.packets-test.true) in
+    broken_events c.args.hub.now.setup c.args.conn c.args.bytes.now c.packets.end c.in-BadSize.field-0 c.args.hub.now.events
+    c.packets.hub.events c.put_broken.new.hub.events (λ i. omega (arith, c.type_inv.bytes i))
     (rw take_rest at c.in-BadSize.ensures) live c.in_ok-put_broken-in-BadSize.ensures.events so_far.events
 
 pub returns-clause-events : goal.returns-clause-events
 returns-clause-events c =
     let so_far = c.packets.invariant in
-    let dead : is_live c.args.hub.now.setup c.packets.hub.events c.args.conn ≡ false = rw so_far.setup at (sym c.live.ensures.live ∙ c.packets-test.false) in
+    let dead : is_live c.args.hub.now.setup c.packets.hub.events c.args.conn ≡ false =
+    rw so_far.setup at (sym c.live.ensures.live ∙ c.packets-test.false) in
     sym (until_ended-dead c.args.hub.now.setup c.args.conn c.packets.hub.events _ dead) ∙ so_far.events

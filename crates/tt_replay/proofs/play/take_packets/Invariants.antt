@@ -9,7 +9,8 @@ use Rattle.tt_replay.proofs.play.take_packets.Given as goal
 abbrev pub invariant-packets : goal.invariant-packets
 invariant-packets l = record {
   within : l.end ≤ length l.bytes;
-  events : until_ended l.fn.hub.setup l.conn l.hub.events (stream_events l.conn (drop l.end l.bytes)) ≡ until_ended l.fn.hub.setup l.conn l.fn.hub.events (stream_events l.conn l.bytes);
+  events : until_ended l.fn.hub.setup l.conn l.hub.events (stream_events l.conn (drop l.end l.bytes)) ≡ until_ended l.fn.hub.setup l.conn
+      l.fn.hub.events (stream_events l.conn l.bytes);
   rest : (reading reader_limit (drop l.end l.bytes)).1 ≡ (reading reader_limit l.bytes).1;
   setup : l.hub.setup ≡ l.fn.hub.setup;
   start : l.hub.start ≡ l.fn.hub.start;

@@ -23,5 +23,6 @@ returns-in-Some-clause-differs c place is =
     let told : c.in-Some.place ≡ place = cc in
     let found : c.in_ok-found.found ≡ Some place = c.in-Some.is ∙ ap Some told in
     let report = c.deref.ensures.value ∙ run.2 in
-    let other = subst (λ (f : Option ℕ). IsDifference f (lines_of c.deref.result.now) (expected_lines run.0.lines)) found (c.in_ok-found.ensures.found run.0 run.1.spelled) in
+    let other = subst (λ (f : Option ℕ). IsDifference f (lines_of c.deref.result.now) (expected_lines run.0.lines)) found
+    (c.in_ok-found.ensures.found run.0 run.1.spelled) in
     (run.0, run.1, subst (λ (xs : List ℕ). IsDifference (Some place) (lines_of xs) (expected_lines run.0.lines)) report other)

@@ -24,8 +24,10 @@ loop-start-preserved c =
       (
         at,
         built_snoc steps step c.loop-start.left.openings c.loop-start.left.ticks kept.1 kept.5 kept.6 c.in-Some.ensures.may,
-        c.in_default-apply.ensures.setup ∙ ap (λ (s : Setup). setup_with s step) kept.2 ∙ sym (fold-append setup_with plain steps (step ∷ [])),
-        c.in_default-apply.ensures.saved ∙ ap (λ (t : List ℕ). t ++ map_in_step step) kept.3 ∙ ap (λ (t : List ℕ). saved_in steps ++ t) (sym (append-nil (map_in_step step))) ∙ sym (flat_map-append map_in_step steps (step ∷ [])),
+        c.in_default-apply.ensures.setup ∙ ap (λ (s : Setup). setup_with s step) kept.2
+            ∙ sym (fold-append setup_with plain steps (step ∷ [])),
+        c.in_default-apply.ensures.saved ∙ ap (λ (t : List ℕ). t ++ map_in_step step) kept.3 ∙ ap (λ (t : List ℕ). saved_in steps
+            ++ t) (sym (append-nil (map_in_step step))) ∙ sym (flat_map-append map_in_step steps (step ∷ [])),
         omega (arith, c.in_ok-number.ensures.next, kept.4, length-append steps (step ∷ [])),
         omega (arith, kept.5, sums, c.in-Some.ensures.openings),
         omega (arith, kept.6, more, c.in-Some.ensures.ticks),
@@ -39,14 +41,16 @@ returns-in_default-clause-bad c line is =
     let step = c.in-Ok-Some.step in
     let at = rw c.in-Ok-Some.field-0-is at (c.in-Ok-Some.ensures.step c.args.bytes.now steps kept.0) in
     let told : c.in_ok-number.number ≡ line = cc in
-    first_unplayed _ _ c.args.bytes.now steps step c.loop-start.left.openings c.loop-start.left.ticks line kept.0 at kept.1 kept.5 kept.6 c.in_default.ensures.none
+    first_unplayed _ _ c.args.bytes.now steps step c.loop-start.left.openings c.loop-start.left.ticks line kept.0 at kept.1 kept.5 kept.6
+    c.in_default.ensures.none
     (omega (arith, told, c.in_ok-number.ensures.next, kept.4))
 
 pub returns-in-Ok-None-clause-found : goal.returns-in-Ok-None-clause-found
 returns-in-Ok-None-clause-found c =
     let kept = c.loop-start.invariant.1 in
     let none = rw c.in-Ok-None.field-0-is at c.in-Ok-None.ensures.end in
-    all_played _ c.args.bytes.now c.loop-start.invariant.0 c.loop-start.start.setup c.loop-start.start.saved.items kept.0 none.0 kept.1 kept.2 kept.3
+    all_played _ c.args.bytes.now c.loop-start.invariant.0 c.loop-start.start.setup c.loop-start.start.saved.items kept.0 none.0 kept.1
+    kept.2 kept.3
 
 pub returns-in-Err-Line-clause-bad : goal.returns-in-Err-Line-clause-bad
 returns-in-Err-Line-clause-bad c line is =
@@ -54,4 +58,5 @@ returns-in-Err-Line-clause-bad c line is =
     let kept = c.loop-start.invariant.1 in
     let told : c.in-Err-Line.line ≡ line = cc in
     let here = ap Err (c.in-Err-Line.field-0-is ∙ ap bad.Line told) in
-    first_unread _ c.args.bytes.now steps line kept.0 kept.1 (c.in-Err-Line.ensures.bad c.args.bytes.now steps line kept.0 here) (c.in-Err-Line.ensures.here line here)
+    first_unread _ c.args.bytes.now steps line kept.0 kept.1 (c.in-Err-Line.ensures.bad c.args.bytes.now steps line kept.0 here)
+    (c.in-Err-Line.ensures.here line here)

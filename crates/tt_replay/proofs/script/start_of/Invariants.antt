@@ -9,7 +9,8 @@ use Rattle.tt_replay.proofs.script.start_of.Given as goal
 
 -- the reader stands behind some steps that are played
 abbrev pub invariant-loop-start : goal.invariant-loop-start
-invariant-loop-start l = (steps : List Step) × (IsAt l.reader l.bytes steps × IsBuilt steps × (l.start.setup ≡ setup_of steps) × (l.start.saved.items ≡ saved_in steps) × (l.number ≡ length steps)
+invariant-loop-start l = (steps : List Step) × (IsAt l.reader l.bytes steps × IsBuilt steps × (l.start.setup ≡ setup_of steps)
+    × (l.start.saved.items ≡ saved_in steps) × (l.number ≡ length steps)
     × (1 ≡ l.left.openings + sum_by opens steps) × (100 ≡ l.left.ticks + sum_by ticks_in steps))
 
 abbrev pub decreases-loop-start : goal.decreases-loop-start

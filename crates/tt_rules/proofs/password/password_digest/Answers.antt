@@ -7,5 +7,6 @@ use Rattle.tt_rules.proofs.password.password_digest.Goals as goal
 pub returns : goal.returns
 returns c = record {
   digest = c.digits_of.ensures.digits ∙ ap (λ (bytes : List ℕ). encode_lower (md5 bytes))
-      (c.salted.ensures.salted ∙ ap₂ (λ (password id : List ℕ). salted password id c.args.seed) c.bytes.ensures.same c.bytes-2.ensures.same);
+      (c.salted.ensures.salted ∙ ap₂ (λ (password id : List ℕ). salted password id c.args.seed) c.bytes.ensures.same
+      c.bytes-2.ensures.same);
 }

@@ -4,4 +4,7 @@ use Rattle.tt_rules.specs.Digest.{salted_byte}
 use Rattle.tt_rules.proofs.password.salted.Goals as goal
 
 pub returns : goal.returns
-returns c = record { salted = fill_by_all (salted_byte c.args.password.now c.args.id.now c.args.seed) c.loop-i.salted 32 0 c.loop-i.invariant.0 (search rules) }
+returns c = record {
+  salted = fill_by_all (salted_byte c.args.password.now c.args.id.now c.args.seed) c.loop-i.salted 32 0
+      c.loop-i.invariant.0 (search rules);
+}

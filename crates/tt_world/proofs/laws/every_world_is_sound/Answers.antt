@@ -10,5 +10,14 @@ pub returns : goal.returns
 returns c =
     let sound : IsSound c.args.world.now = subst (λ (w : WorldState). IsSound w) c.world.view_is c.world.invariant.0 in
     let short : IsShort c.args.entry.now.command.text
-    = record { text = subst (λ b. IsText b) c.bytes-text.ensures.same c.bytes-text.ensures.text; fits = subst (λ b. length b ≤ 31) c.bytes-text.ensures.same c.bytes-text.ensures.length } in
-    record { now = sound; command = IsSound-applied c.args.world.now c.args.entry.now short sound; frame = IsSound-framed c.args.world.now sound }
+    = record {
+      text = subst (λ b. IsText b) c.bytes-text.ensures.same c.bytes-text.ensures.text;
+      fits = subst (λ b. length b ≤ 31)
+          c.bytes-text.ensures.same c.bytes-text.ensures.length;
+    } in
+    record {
+      now = sound;
+      command = IsSound-applied c.args.world.now c.args.entry.now short sound;
+      frame = IsSound-framed c.args.world.now
+          sound;
+    }

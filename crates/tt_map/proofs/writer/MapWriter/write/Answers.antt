@@ -9,6 +9,7 @@ returns-clause-bytes c =
     let inside = c.self.inside in
     let room = length c.args.out.now in
     let writing : Writing = record { world = inside.world; written = inside.cursor.written } in
-    let count : c.write_on.result ≡ size_given room writing = omega (arith, c.write_on.ensures.count, length-drop inside.cursor.written (map_of inside.world)) in
+    let count : c.write_on.result ≡ size_given room writing =
+    omega (arith, c.write_on.ensures.count, length-drop inside.cursor.written (map_of inside.world)) in
     subst (λ (x : Writing). c.write_on.new.out ≡ given room x ++ drop c.write_on.result c.args.out.now) c.self.view_is
     (c.write_on.ensures.bytes ∙ ap (λ (n : ℕ). take n (unwritten writing) ++ drop c.write_on.result c.args.out.now) count)

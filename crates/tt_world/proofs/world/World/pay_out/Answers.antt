@@ -5,7 +5,8 @@ use Rattle.tt_world.proofs.world.World.pay_out.Goals as goal
 
 pub invariant_of-self : goal.invariant_of-self
 invariant_of-self c = (
-  IsSound-written (held c.self.inside) c.args.self.now c.from.result c.args.company (poorer c.args.number) c.take_money.new.place c.index-self-from.result
+  IsSound-written (held c.self.inside) c.args.self.now c.from.result c.args.company (poorer c.args.number) c.take_money.new.place
+      c.index-self-from.result
       c.self.view_is c.from.ensures c.take_money.ensures c.requires.live
       (IsSound-poorer c.args.self.now c.args.company c.args.number c.requires.own) c.self.invariant.0,
   c.self.invariant.1,

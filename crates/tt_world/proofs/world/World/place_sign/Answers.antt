@@ -13,7 +13,8 @@ invariant_of-self c =
     let e : c.insert.new.self.items ≡ placed c.args.owner c.args.tile c.args.text w.signs
     = c.in-Ok.ensures.items ∙ placed_is w.signs c.first_gap-id.result c.args.owner c.args.tile c.args.text
     (c.first_gap-id.ensures.gap ∙ ap (gap_from 0) c.as_slice.ensures.value) c.self.invariant.0.rising c.self.invariant.0.few in
-    let live : IsSome (company_of w c.args.owner) = subst (λ (x : WorldState). IsSome (company_of x c.args.owner)) (sym c.self.view_is) c.requires.live in
+    let live : IsSome (company_of w c.args.owner) =
+    subst (λ (x : WorldState). IsSome (company_of x c.args.owner)) (sym c.self.view_is) c.requires.live in
     let room : length w.signs < 1000 = subst (λ (x : WorldState). length x.signs < 1000) (sym c.self.view_is) c.requires.room in (
       IsSound-at_signs w c.insert.new.self.items (placed c.args.owner c.args.tile c.args.text w.signs) e
           (IsSound-placed w c.args.owner c.args.tile c.args.text live c.requires.tile c.requires.name room c.self.invariant.0),

@@ -11,4 +11,5 @@ returns-in-RenameCompany c =
     ∙ ap (λ k. rename_refusal k c.bytes-in-RenameCompany.result.now c.self.inside.companies) c.from.ensures
     ∙ ap (λ text. rename_refusal e.company text c.self.inside.companies) c.bytes-in-RenameCompany.ensures.same
     ∙ ap (λ (w : WorldState). rename_refusal e.company e.command.text w.companies) c.self.view_is
-    ∙ refusal_to_rename c.args.self.now e.command.code e.company e.command.number e.command.to e.command.text c.args.company.now c.in-RenameCompany.is c.requires.live
+    ∙ refusal_to_rename c.args.self.now e.command.code e.company e.command.number e.command.to e.command.text c.args.company.now
+    c.in-RenameCompany.is c.requires.live
