@@ -1,9 +1,9 @@
 -- The map of a saved game is read where its bytes tell one, and nothing else is.
-use Rattle.std.proofs.Common.{◌≡◌, ◌≢◌, ◌↔◌, ℕ, ◌<◌, ◌≤◌, List, length, Bool, true, false, Result, Ok, Err, Option, Some, refl, sym, ap, subst, ◌∙◌}
+use Rattle.std.proofs.Common.{◌≡◌, ◌≢◌, ◌↔◌, ℕ, ◌≤◌, List, length, true, false, Result, Ok, Err, Some, refl, sym, ap, ◌∙◌}
 use Rattle.std.specs.Prelude.{nat_le, ◌&&◌}
 use Rattle.std.proofs.lemmas.Bool.{and_parts, false≢true}
 use Rattle.tt_frame.specs.Packet.{IsBytes}
-use Rattle.tt_frame.proofs.TestLaws.{both_and, le_of_test, test_of_le}
+use Rattle.tt_frame.proofs.TestLaws.{le_of_test, test_of_le}
 use Rattle.tt_world.specs.World.{WorldState}
 use Rattle.tt_map.specs.Maps.{IsMap}
 use Rattle.tt_map.specs.Reading.{map_in}
