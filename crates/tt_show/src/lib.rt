@@ -17,7 +17,9 @@ mod stream;
 mod words;
 
 pub use family::Family;
-pub use laws::{one_admin_line, one_bad_line, one_coord_line, one_line, one_stun_line, one_turn_line};
+pub use laws::{
+    one_admin_line, one_bad_line, one_coord_line, one_line, one_stun_line, one_turn_line,
+};
 pub use list::{ShowError, show};
 pub use packet::show_packet;
 pub use stream::show_bytes;

@@ -45,7 +45,12 @@ fn put_message<M: Shown>(line: &mut Line, message: &M, kind: u8) -> Result<(), O
 }
 
 /// Appends the line of a packet, where it spells a message of this family. Otherwise a part of the line may stand there.
-pub(crate) fn put_line<M: Shown>(alloc: Global, line: &mut Line, kind: u8, body: &[u8]) -> Result<(), Bad>
+pub(crate) fn put_line<M: Shown>(
+    alloc: Global,
+    line: &mut Line,
+    kind: u8,
+    body: &[u8],
+) -> Result<(), Bad>
     ensures shown { OnOk result (Appends (text_by M.family (record { kind = kind; body = body.now })) line.old.text.items line.new.text.items) }
     ensures nothing { (at : ℕ) → result ≡ Err (Malformed at) → text_by M.family (record { kind = kind; body = body.now }) ≡ None }
     ensures place { (at : ℕ) → result ≡ Err (Malformed at) → StopsBy M.family.table kind body.now at }

@@ -48,7 +48,10 @@ impl PartWriter for Line {
     {
         match part {
             Part::Head(_) | Part::Mark(_) => Ok(()),
-            Part::U8(n) | Part::Always(n) | Part::Count8(n) => put_count(&mut self.text, (*n).into()),
+            Part::U8(n) | Part::Always(n) | Part::Count8(n) => put_count(
+                &mut self.text,
+                (*n).into(),
+            ),
             Part::U16(n) | Part::Count16(n) => put_count(&mut self.text, (*n).into()),
             Part::U32(n) => put_count(&mut self.text, (*n).into()),
             Part::U64(n) => put_count(&mut self.text, *n),

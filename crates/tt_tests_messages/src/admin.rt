@@ -2,9 +2,9 @@
 mod limits;
 mod rows;
 
-use tt_admin::{AdminMsg, CommandName, CommandNames, UpdateType, UpdateTypes};
 use std::alloc::Global;
 use std::test::Fail;
+use tt_admin::{AdminMsg, CommandName, CommandNames, UpdateType, UpdateTypes};
 use tt_frame::{Text, UpTo};
 
 /// An admin named cli with the version 1 asks to join, with the password pw.

@@ -267,7 +267,12 @@ fn a_packet_of_other_parts_is_appended_whole(rt: HostRuntime) -> Result<(), Fail
     let mut out = Vec::new(rt.alloc());
     let written = tell(
         &mut out,
-        &[Part::Head(9), Part::U64(1), Part::Truth(true), Part::Raw(&[7, 8])],
+        &[
+            Part::Head(9),
+            Part::U64(1),
+            Part::Truth(true),
+            Part::Raw(&[7, 8]),
+        ],
     );
     finish(&mut out, 0, written)?;
     assert_eq!(rt;

@@ -1,9 +1,9 @@
 //! The join packet, there and back, cut and lengthened.
 mod rows;
 
-use tt_game::{Bad, GameMsg};
 use std::test::Fail;
 use tt_frame::{Framer, Next, Text, UpTo};
+use tt_game::{Bad, GameMsg};
 
 /// A client named Ann with revision 13.4 and NewGRF version 13 asks to join as a spectator.
 const JOIN: [u8; 17] = [

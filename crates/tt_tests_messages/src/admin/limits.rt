@@ -1,8 +1,8 @@
 //! Texts at their limits and past them, bytes that no text has, and the longest lists.
 use super::rows::place_of;
-use tt_admin::AdminMsg;
 use std::alloc::Global;
 use std::test::Fail;
+use tt_admin::AdminMsg;
 
 /// The place of each text: the number of its message, what stands before it, its limit, and what stands behind it.
 const LONG: [(u8, &[u8], u16, &[u8]); 25] = [
@@ -71,7 +71,11 @@ fn a_text_has_at_most_its_limit(rt: HostRuntime) -> Result<(), Fail> {
         let longest = with_text(rt.alloc(), front, limit, behind)?;
         assert!(rt; AdminMsg::decode(rt.alloc(), kind, longest.as_slice()).is_ok());
         let past = with_text(rt.alloc(), front, limit + 1, behind)?;
-        assert_eq!(rt; place_of(rt.alloc(), kind, past.as_slice()), Some(front.len()), "number {kind}");
+        assert_eq!(rt;
+            place_of(rt.alloc(), kind, past.as_slice()),
+            Some(front.len()),
+            "number {kind}"
+        );
     }
     Ok(())
 }
@@ -80,8 +84,14 @@ fn a_text_has_at_most_its_limit(rt: HostRuntime) -> Result<(), Fail> {
 fn a_byte_that_no_text_has_is_malformed_at_its_text(rt: HostRuntime) {
     assert_eq!(rt; place_of(rt.alloc(), 121, b"admin\0cli\x1fents\0"), Some(6));
     assert_eq!(rt; place_of(rt.alloc(), 121, b"admin\0cli\xffents\0"), Some(6));
-    assert_eq!(rt; place_of(rt.alloc(), 122, b"\x01\x07\0Pau\x1fse\0\0"), Some(3));
-    assert_eq!(rt; place_of(rt.alloc(), 122, b"\x01\x07\0Pau\xffse\0\0"), Some(3));
+    assert_eq!(rt;
+        place_of(rt.alloc(), 122, b"\x01\x07\0Pau\x1fse\0\0"),
+        Some(3)
+    );
+    assert_eq!(rt;
+        place_of(rt.alloc(), 122, b"\x01\x07\0Pau\xffse\0\0"),
+        Some(3)
+    );
 }
 
 #[test]

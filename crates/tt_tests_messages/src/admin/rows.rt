@@ -1,9 +1,9 @@
 //! Every message there and back, cut, lengthened, and with each field past its range.
 //!
 //! One row stands for one message, and the same bytes are written in words in the tests of the crate that shows packets.
-use tt_admin::{AdminMsg, Bad};
 use std::alloc::Global;
 use std::test::Fail;
+use tt_admin::{AdminMsg, Bad};
 
 /// A packet of each number: the number, the place of its last field, and a body that spells a message.
 const ROWS: [(u8, usize, &[u8]); 37] = [
@@ -88,7 +88,11 @@ fn a_packet_that_is_cut_is_malformed_at_its_last_field(rt: HostRuntime) {
         let (kind, place, body) = *row;
         if body.len() > 0 {
             let cut = &body[..body.len() - 1];
-            assert_eq!(rt; place_of(rt.alloc(), kind, cut), Some(place), "number {kind}");
+            assert_eq!(rt;
+                place_of(rt.alloc(), kind, cut),
+                Some(place),
+                "number {kind}"
+            );
         }
     }
 }
@@ -99,7 +103,11 @@ fn a_packet_with_a_byte_behind_is_malformed_there(rt: HostRuntime) -> Result<(),
         let (kind, _, body) = *row;
         let mut long = Vec::from_slice(rt.alloc(), body)?;
         long.push(0)?;
-        assert_eq!(rt; place_of(rt.alloc(), kind, long.as_slice()), Some(body.len()), "number {kind}");
+        assert_eq!(rt;
+            place_of(rt.alloc(), kind, long.as_slice()),
+            Some(body.len()),
+            "number {kind}"
+        );
     }
     Ok(())
 }
@@ -140,6 +148,10 @@ fn refused() -> &'static [(u8, usize, &'static [u8])] {
 fn what_is_refused_is_malformed_at_its_place(rt: HostRuntime) {
     for row in refused().iter() {
         let (kind, place, body) = *row;
-        assert_eq!(rt; place_of(rt.alloc(), kind, body), Some(place), "number {kind}");
+        assert_eq!(rt;
+            place_of(rt.alloc(), kind, body),
+            Some(place),
+            "number {kind}"
+        );
     }
 }

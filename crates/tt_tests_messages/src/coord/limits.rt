@@ -96,7 +96,11 @@ fn a_text_has_at_most_its_limit(rt: HostRuntime) -> Result<(), Fail> {
         let longest = with_text(rt.alloc(), front, limit, behind)?;
         assert!(rt; again(rt.alloc(), family, kind, longest.as_slice()).is_ok());
         let past = with_text(rt.alloc(), front, limit + 1, behind)?;
-        assert_eq!(rt; place_of(rt.alloc(), family, kind, past.as_slice()), Some(front.len()), "number {kind}");
+        assert_eq!(rt;
+            place_of(rt.alloc(), family, kind, past.as_slice()),
+            Some(front.len()),
+            "number {kind}"
+        );
     }
     Ok(())
 }
@@ -107,10 +111,22 @@ fn a_byte_that_no_text_has_is_malformed_at_its_text(rt: HostRuntime) {
     assert_eq!(rt; place_of(rt.alloc(), Family::Coord, 8, control), Some(1));
     assert_eq!(rt; place_of(rt.alloc(), Family::Stun, 0, control), Some(1));
     let no_character = b"\x01tok\xff\0\x01";
-    assert_eq!(rt; place_of(rt.alloc(), Family::Coord, 8, no_character), Some(1));
-    assert_eq!(rt; place_of(rt.alloc(), Family::Stun, 0, no_character), Some(1));
-    assert_eq!(rt; place_of(rt.alloc(), Family::Turn, 2, b"127.0.0.\x1f\0"), Some(0));
-    assert_eq!(rt; place_of(rt.alloc(), Family::Turn, 2, b"127.0.0.\xff\0"), Some(0));
+    assert_eq!(rt;
+        place_of(rt.alloc(), Family::Coord, 8, no_character),
+        Some(1)
+    );
+    assert_eq!(rt;
+        place_of(rt.alloc(), Family::Stun, 0, no_character),
+        Some(1)
+    );
+    assert_eq!(rt;
+        place_of(rt.alloc(), Family::Turn, 2, b"127.0.0.\x1f\0"),
+        Some(0)
+    );
+    assert_eq!(rt;
+        place_of(rt.alloc(), Family::Turn, 2, b"127.0.0.\xff\0"),
+        Some(0)
+    );
 }
 
 /// A body of that many items, behind the bytes that count them.
@@ -135,7 +151,10 @@ fn a_listing_has_at_most_255_servers(rt: HostRuntime) -> Result<(), Fail> {
     let most = with_items(rt.alloc(), &[255, 0], 255, &server)?;
     assert!(rt; is_spelled_again(rt.alloc(), 5, most.as_slice())?);
     let past = with_items(rt.alloc(), &[0, 1], 256, &server)?;
-    assert_eq!(rt; place_of(rt.alloc(), Family::Coord, 5, past.as_slice()), Some(0));
+    assert_eq!(rt;
+        place_of(rt.alloc(), Family::Coord, 5, past.as_slice()),
+        Some(0)
+    );
     Ok(())
 }
 
@@ -145,6 +164,9 @@ fn a_lookup_has_at_most_62_files(rt: HostRuntime) -> Result<(), Fail> {
     let most = with_items(rt.alloc(), &[62], 62, file)?;
     assert!(rt; is_spelled_again(rt.alloc(), 15, most.as_slice())?);
     let past = with_items(rt.alloc(), &[63], 63, file)?;
-    assert_eq!(rt; place_of(rt.alloc(), Family::Coord, 15, past.as_slice()), Some(0));
+    assert_eq!(rt;
+        place_of(rt.alloc(), Family::Coord, 15, past.as_slice()),
+        Some(0)
+    );
     Ok(())
 }

@@ -96,12 +96,7 @@ pub(crate) fn again(alloc: Global, family: Family, kind: u8, body: &[u8]) -> Res
 }
 
 /// The place where this body stops, if it spells nothing.
-pub(crate) fn place_of(
-    alloc: Global,
-    family: Family,
-    kind: u8,
-    body: &[u8],
-) -> Option<usize> {
+pub(crate) fn place_of(alloc: Global, family: Family, kind: u8, body: &[u8]) -> Option<usize> {
     match again(alloc, family, kind, body) {
         Err(Bad::Malformed { at }) => Some(at),
         _ => None,
@@ -127,7 +122,11 @@ fn a_packet_that_is_cut_is_malformed_at_its_last_field(rt: HostRuntime) {
         let (family, kind, place, body) = *row;
         if body.len() > 0 {
             let cut = &body[..body.len() - 1];
-            assert_eq!(rt; place_of(rt.alloc(), family, kind, cut), Some(place), "number {kind}");
+            assert_eq!(rt;
+                place_of(rt.alloc(), family, kind, cut),
+                Some(place),
+                "number {kind}"
+            );
         }
     }
 }
@@ -138,7 +137,11 @@ fn a_packet_with_a_byte_behind_is_malformed_there(rt: HostRuntime) -> Result<(),
         let (family, kind, _, body) = *row;
         let mut long = Vec::from_slice(rt.alloc(), body)?;
         long.push(0)?;
-        assert_eq!(rt; place_of(rt.alloc(), family, kind, long.as_slice()), Some(body.len()), "number {kind}");
+        assert_eq!(rt;
+            place_of(rt.alloc(), family, kind, long.as_slice()),
+            Some(body.len()),
+            "number {kind}"
+        );
     }
     Ok(())
 }
@@ -231,6 +234,10 @@ fn refused() -> &'static [(Family, u8, usize, &'static [u8])] {
 fn what_is_refused_is_malformed_at_its_place(rt: HostRuntime) {
     for row in refused().iter() {
         let (family, kind, place, body) = *row;
-        assert_eq!(rt; place_of(rt.alloc(), family, kind, body), Some(place), "number {kind}");
+        assert_eq!(rt;
+            place_of(rt.alloc(), family, kind, body),
+            Some(place),
+            "number {kind}"
+        );
     }
 }

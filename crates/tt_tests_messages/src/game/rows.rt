@@ -1,7 +1,7 @@
 //! Every message there and back, cut, lengthened, and with each field past its range.
-use tt_game::{Bad, File, Files, GameMsg, MapPiece};
 use std::alloc::Global;
 use std::test::Fail;
+use tt_game::{Bad, File, Files, GameMsg, MapPiece};
 
 /// A packet of each number: the number, the place of its last field, and a body that spells a message.
 const ROWS: [(u8, usize, &[u8]); 39] = [
@@ -84,7 +84,11 @@ fn a_packet_that_is_cut_is_malformed_at_its_last_field(rt: HostRuntime) {
         let (kind, place, body) = *row;
         if body.len() > 0 && kind != 17 {
             let cut = &body[..body.len() - 1];
-            assert_eq!(rt; place_of(rt.alloc(), kind, cut), Some(place), "number {kind}");
+            assert_eq!(rt;
+                place_of(rt.alloc(), kind, cut),
+                Some(place),
+                "number {kind}"
+            );
         }
     }
 }
@@ -96,7 +100,11 @@ fn a_packet_with_a_byte_behind_is_malformed_there(rt: HostRuntime) -> Result<(),
         if kind != 17 {
             let mut long = Vec::from_slice(rt.alloc(), body)?;
             long.push(0)?;
-            assert_eq!(rt; place_of(rt.alloc(), kind, long.as_slice()), Some(body.len()), "number {kind}");
+            assert_eq!(rt;
+                place_of(rt.alloc(), kind, long.as_slice()),
+                Some(body.len()),
+                "number {kind}"
+            );
         }
     }
     Ok(())
@@ -129,7 +137,11 @@ fn above() -> &'static [(u8, usize, &'static [u8])] {
 fn a_field_above_its_range_is_malformed_at_its_place(rt: HostRuntime) {
     for row in above().iter() {
         let (kind, place, body) = *row;
-        assert_eq!(rt; place_of(rt.alloc(), kind, body), Some(place), "number {kind}");
+        assert_eq!(rt;
+            place_of(rt.alloc(), kind, body),
+            Some(place),
+            "number {kind}"
+        );
     }
 }
 
