@@ -119,7 +119,14 @@ module _ {C L : Type 0} (now : L → LinkNow) (told : List Event → ℕ → Lis
           | inr (inr short) ↦ inr (inr short)
         ];
         shut_is = elim o.shut_is [
-          | inl none ↦ inl none.0
+          | inl none ↦ inl (
+            none.0,
+            elim none.1 [
+              | inl done ↦ inl done
+              | inr (inl gone) ↦ inr (inl (dead gone))
+              | inr (inr short) ↦ inr (inr short)
+            ],
+          )
           | inr one ↦ inr one
         ];
         out = o.out;

@@ -61,8 +61,10 @@ module _ {L : Type 0} (now : L → LinkNow) (told : List Event → ℕ → List 
     -- and all of them, unless the core had ended the connection, or its end is Memory
     pub whole : (packets : List Packet) (e : End) → Reads 32767 bytes packets e
         → (events_of heard ≡ stream_events row.served.conn packets e) ⊎ (((shut ≡ []) × (live history row.served.conn ≡ false)) ⊎ (row.served.end ≡ end.Memory))
-    -- a Shut stands there only where the link told its end, failed, took nothing for too long, or memory ran out
-    pub shut_is : (shut ≡ []) ⊎ ((at : ℕ) × (shut ≡ (at, event.Shut row.served.conn) ∷ []) × HasCause (now row.came).counts (now row.gone).counts row.served.end)
+    -- A Shut stands there only where the link told its end, failed, took nothing for too long, or memory ran out; and it is
+    -- missing only at Done, where the core had ended the connection, or where memory ran out.
+    pub shut_is : ((shut ≡ []) × ((row.served.end ≡ end.Done) ⊎ ((live history row.served.conn ≡ false) ⊎ (row.served.end ≡ end.Memory))))
+        ⊎ ((at : ℕ) × (shut ≡ (at, event.Shut row.served.conn) ∷ []) × HasCause (now row.came).counts (now row.gone).counts row.served.end)
     -- the bytes that were written to it are the first of what its connection is told
     pub out : List ℕ
     pub held : Appends (now row.came).held (now row.gone).held out
