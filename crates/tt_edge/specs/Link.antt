@@ -54,7 +54,8 @@ ReadFits room got.Failed = Unit {0}
 -- a write that answers no count raises the one count that goes with its answer, and `stalled` counts those that answer Nothing
 abbrev pub WriteCounts : LinkCounts → LinkCounts → LinkWrote → Type 0
 WriteCounts before after (wrote.Count n) = after ≡ record before { stalled = 0 }
-WriteCounts before after wrote.Nothing = Rises before.idle_writes after.idle_writes × (after ≡ record before { idle_writes = after.idle_writes; stalled = min (before.stalled + 1) (2 ^ 64 - 1) })
+WriteCounts before after wrote.Nothing = Rises before.idle_writes after.idle_writes
+    × (after ≡ record before { idle_writes = after.idle_writes; stalled = min (before.stalled + 1) (2 ^ 64 - 1) })
 WriteCounts before after wrote.Failed = Rises before.faults after.faults × (after ≡ record before { faults = after.faults })
 
 -- the first bytes are appended to what is held

@@ -25,7 +25,8 @@ length_map g (x ∷ xs) = omega (arith, length_map g xs)
 at_each : {A B : Type 0} (P : B → Type 0) (g : A → B) (xs : List A) → All P (map g xs) → All (λ x. P (g x)) xs
 at_each P g xs all i d less = subst P (get_or-map g xs i d (g d) less) (all i (g d) (omega (arith, less, length_map g xs)))
 
-pub gathered : {C M L K A B T : Type 0} (made : C → M) (events : C → List Event) (taken : C → ℕ → ℕ) (room : Room C M) (k : CoreView) (game : DoorView L K) (admin : DoorView A B) (ticker : TickView T) → Gathering made events taken room k game admin ticker
+pub gathered : {C M L K A B T : Type 0} (made : C → M) (events : C → List Event) (taken : C → ℕ → ℕ) (room : Room C M) (k : CoreView)
+    (game : DoorView L K) (admin : DoorView A B) (ticker : TickView T) → Gathering made events taken room k game admin ticker
 gathered {C} {M} {L} {K} {A} {B} {T} made events taken room k game admin ticker core before after same fresh ran closed = record {
   parts = λ i d less.
       let w = slice_index_or before i d in
@@ -33,8 +34,10 @@ gathered {C} {M} {L} {K} {A} {B} {T} made events taken room k game admin ticker 
       let work = ran i d less in
       let none : mine w.pass ≡ [] = fresh i d less in
       let own : mine w'.pass ≡ work.part = work.own_events ∙ ap (λ (m : List (ℕ × Event)). m ++ work.part) none in
-      let begins : IsPrefix (seen w'.pass) (events core) = at_each (λ (p : Pass C). IsPrefix (seen p) (events core)) (λ (x : Worker C L A T). x.pass) after closed.all_seen i d (omega (arith, less, same)) in
-      subst (λ (part : List (ℕ × Event)). Gathers k game admin ticker (events core) w.role w'.role part w'.end) (sym own) (work.gathers (events core) begins);
+      let begins : IsPrefix (seen w'.pass) (events core) = at_each (λ (p : Pass C). IsPrefix (seen p) (events core))
+      (λ (x : Worker C L A T). x.pass) after closed.all_seen i d (omega (arith, less, same)) in
+      subst (λ (part : List (ℕ × Event)). Gathers k game admin ticker (events core) w.role w'.role part w'.end) (sym own)
+      (work.gathers (events core) begins);
   there = at_each (λ (p : Pass C). Stands (events core) (mine p)) (λ (x : Worker C L A T). x.pass) after closed.all_mine;
   once = λ place. sym (total_map (λ (p : Pass C). times place (mine p)) (λ (x : Worker C L A T). x.pass) after) ∙ closed.once place;
 }

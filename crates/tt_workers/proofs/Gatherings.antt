@@ -1,5 +1,6 @@
 -- A worker's part, told over the whole history.
-use Rattle.std.proofs.Common.{◌≡◌, ℕ, suc, ◌+◌, ◌-◌, ◌≤◌, ◌<◌, ◌⊎◌, inl, inr, List, [], ◌∷◌, ◌++◌, length, take, drop, take-add, refl, sym, ap, ◌∙◌, subst, append_assoc, arith, length-append}
+use Rattle.std.proofs.Common.{◌≡◌, ℕ, suc, ◌+◌, ◌-◌, ◌≤◌, ◌<◌, ◌⊎◌, inl, inr, List, [], ◌∷◌, ◌++◌, length, take, drop, take-add, refl}
+use Rattle.std.proofs.Common.{sym, ap, ◌∙◌, subst, append_assoc, arith, length-append}
 use Rattle.std.specs.Prelude.{Bool, true, false, map, max, Option}
 use Rattle.std.specs.List.{AllByRecursion}
 use Rattle.std.proofs.lemmas.List.{append-nil, take-append-drop}
@@ -47,29 +48,39 @@ front_is list more history longer =
     take_front [] ys = refl
     take_front (x ∷ xs) ys = ap (λ (zs : List Event). x ∷ zs) (take_front xs ys)
 
-over_more : (over : List Event → Bool) → ((before : List Event) (e : Event) → over before ≡ true → over (before ++ e ∷ []) ≡ true) → (before rest : List Event) → over before ≡ true → over (before ++ rest) ≡ true
+over_more : (over : List Event → Bool) → ((before : List Event) (e : Event) → over before ≡ true → over (before ++ e ∷ []) ≡ true)
+    → (before rest : List Event) → over before ≡ true → over (before ++ rest) ≡ true
 over_more over last before [] is = ap over (append-nil before) ∙ is
-over_more over last before (e ∷ es) is = ap over (sym (append_assoc before (e ∷ []) es)) ∙ over_more over last (before ++ e ∷ []) es (last before e is)
+over_more over last before (e ∷ es) is = ap over (sym (append_assoc before (e ∷ []) es)) ∙ over_more over last (before ++ e ∷ []) es
+    (last before e is)
 
 -- what is over stays over
-pub over_later : (over : List Event → Bool) → ((before : List Event) (e : Event) → over before ≡ true → over (before ++ e ∷ []) ≡ true) → (before after : List Event) → IsPrefix before after → over before ≡ true → over after ≡ true
+pub over_later : (over : List Event → Bool) → ((before : List Event) (e : Event) → over before ≡ true → over (before ++ e ∷ []) ≡ true)
+    → (before after : List Event) → IsPrefix before after → over before ≡ true → over after ≡ true
 over_later over last before after longer is = ap over (sym longer.1) ∙ over_more over last before longer.0 is
 
 -- ---- one link
 
 module _ (told : List Event → List ℕ) (live : List Event → Bool) (conn : ℕ)
     (grows : (before : List Event) (event : Event) → GrowsTo (told before) (told (before ++ event ∷ [])))
-    (stays : (before : List Event) (event : Event) → conn ≤ opens before → live before ≡ false → (live (before ++ event ∷ []) ≡ false) × (told (before ++ event ∷ []) ≡ told before)) where
+    (stays : (before : List Event) (event : Event) → conn ≤ opens before → live before ≡ false → (live (before ++ event ∷ []) ≡ false)
+    × (told (before ++ event ∷ []) ≡ told before)) where
   -- where all was written that was told up to the last of some events, so it was up to each
-  up_to_each : (history : List Event) (out : List ℕ) (n : ℕ) (own : List (ℕ × Event)) → behind own ≤ n → IsPrefix (told (take n history)) out → AllByRecursion (λ x. IsPrefix (told (take (x.0 + 1) history)) out) own
+  up_to_each : (history : List Event) (out : List ℕ) (n : ℕ) (own : List (ℕ × Event)) → behind own ≤ n → IsPrefix (told (take n history))
+      out → AllByRecursion (λ x. IsPrefix (told (take (x.0 + 1) history)) out) own
   up_to_each history out n [] less all = tt
   up_to_each history out n (x ∷ xs) less all = (
-    prefix_trans (told (take (x.0 + 1) history)) (told (take n history)) out (told_grows told grows (take (x.0 + 1) history) (take n history) (front_of_longer (x.0 + 1) n history (omega (arith, less)))) all,
+    prefix_trans (told (take (x.0 + 1) history)) (told (take n history)) out (told_grows told grows (take (x.0 + 1) history)
+        (take n history) (front_of_longer (x.0 + 1) n history (omega (arith, less)))) all,
     up_to_each history out n xs (omega (arith, less)) all,
   )
 
-  ends_in : (seen history : List Event) (own : List (ℕ × Event)) (c c' : LinkCounts) (out : List ℕ) (e : LinkEnd) → IsPrefix seen history → conn ≤ opens seen → EndsSo told (live seen) seen own c c' out e → EndsIn told (live history) history own c c' out e
-  ends_in seen history own c c' out end.Done longer known ended = (dead_on told live conn grows stays seen history longer known ended.0, ended.1 history longer)
+  ends_in : (seen history : List Event) (own : List (ℕ × Event)) (c c' : LinkCounts) (out : List ℕ) (e : LinkEnd) → IsPrefix seen history
+      → conn ≤ opens seen → EndsSo told (live seen) seen own c c' out e → EndsIn told (live history) history own c c' out e
+  ends_in seen history own c c' out end.Done longer known ended = (
+    dead_on told live conn grows stays seen history longer known ended.0,
+    ended.1 history longer,
+  )
   ends_in seen history own c c' out end.PeerEnd longer known ended = (
     ended.0,
     elim ended.1 [
@@ -83,7 +94,8 @@ module _ (told : List Event → List ℕ) (live : List Event → Bool) (conn : �
   ends_in seen history own c c' out end.Slow longer known ended = let rest = ended.1 history longer in (ended.0, rest.0, rest.1, rest.2)
 
 -- an end whose cause is that all is over
-ends_over : {L : Type 0} (rows : List (Row L)) (b b' : Bool) (c c' : DoorCounts) (e : WorkerEnd) → (b ≡ true → b' ≡ true) → AttendsEndSo rows b c c' e → AttendsEndSo rows b' c c' e
+ends_over : {L : Type 0} (rows : List (Row L)) (b b' : Bool) (c c' : DoorCounts) (e : WorkerEnd) → (b ≡ true → b' ≡ true)
+    → AttendsEndSo rows b c c' e → AttendsEndSo rows b' c c' e
 ends_over rows b b' c c' worker.Fresh on ended = ended
 ends_over rows b b' c c' worker.Over on ended = (ended.0, on ended.1, ended.2, ended.3)
 ends_over rows b b' c c' worker.ListenFault on ended = ended
@@ -91,17 +103,27 @@ ends_over rows b b' c c' worker.TickFault on ended = ended
 ends_over rows b b' c c' worker.Stopped on ended = ended
 ends_over rows b b' c c' worker.Memory on ended = ended
 
-module _ {C L : Type 0} (now : L → LinkNow) (told : List Event → ℕ → List ℕ) (live : List Event → ℕ → Bool) (over : List Event → Bool) (door : Door)
+module _ {C L : Type 0} (now : L → LinkNow) (told : List Event → ℕ → List ℕ) (live : List Event → ℕ → Bool) (over : List Event → Bool)
+    (door : Door)
     (grows : (conn : ℕ) (before : List Event) (event : Event) → GrowsTo (told before conn) (told (before ++ event ∷ []) conn))
-    (stays : (conn : ℕ) (before : List Event) (event : Event) → conn ≤ opens before → live before conn ≡ false → (live (before ++ event ∷ []) conn ≡ false) × (told (before ++ event ∷ []) conn ≡ told before conn))
+    (stays : (conn : ℕ) (before : List Event) (event : Event) → conn ≤ opens before → live before conn ≡ false
+    → (live (before ++ event ∷ []) conn ≡ false) × (told (before ++ event ∷ []) conn ≡ told before conn))
     (last : (before : List Event) (event : Event) → over before ≡ true → over (before ++ event ∷ []) ≡ true) where
-  opened_in : (p p' : Pass C) (history : List Event) (row : Row L) → IsPrefix (seen p') history → (o : Opened told live door row.peer p p' (now row.came) (now row.gone) row.served)
+  opened_in : (p p' : Pass C) (history : List Event) (row : Row L) → IsPrefix (seen p') history
+      → (o : Opened told live door row.peer p p' (now row.came) (now row.gone) row.served)
       → IsOpened now told live over history door row (((length o.list, event.Open door row.peer) ∷ o.heard) ++ o.shut)
   opened_in p p' history row longer o =
       let conn = row.served.conn in
       let whole = prefix_trans (o.list ++ event.Open door row.peer ∷ []) (seen p') history o.opening longer in
-      let known : conn ≤ opens (seen p') = omega (arith, o.conn_is, opens_push o.list (event.Open door row.peer), opens_later (o.list ++ event.Open door row.peer ∷ []) (seen p') o.opening) in
-      let dead : live (seen p') conn ≡ false → live history conn ≡ false = dead_on (λ es. told es conn) (λ es. live es conn) conn (grows conn) (stays conn) (seen p') history longer known in
+      let known : conn ≤ opens (seen p') = omega (
+        arith,
+        o.conn_is,
+        opens_push o.list (event.Open door row.peer),
+        opens_later
+            (o.list ++ event.Open door row.peer ∷ []) (seen p') o.opening,
+      ) in
+      let dead : live (seen p') conn ≡ false → live history conn ≡ false = dead_on (λ es. told es conn) (λ es. live es conn) conn
+      (grows conn) (stays conn) (seen p') history longer known in
       let first = o.told_first history longer in
       record {
         place = length o.list;
@@ -133,10 +155,13 @@ module _ {C L : Type 0} (now : L → LinkNow) (told : List Event → ℕ → Lis
         held = o.held;
         written_is = o.written_is;
         first = prefix_trans o.out (o.out ++ o.unsent) (told history conn) (o.unsent, refl) first;
-        ended = ends_in (λ es. told es conn) (λ es. live es conn) conn (grows conn) (stays conn) (seen p') history ((length o.list, event.Open door row.peer) ∷ o.heard) (now row.came).counts (now row.gone).counts o.out row.served.end longer known o.ended;
+        ended = ends_in (λ es. told es conn) (λ es. live es conn) conn (grows conn) (stays conn) (seen p') history
+            ((length o.list, event.Open door row.peer) ∷ o.heard) (now row.came).counts (now row.gone).counts o.out row.served.end longer
+            known o.ended;
       }
 
-  refused_in : (p p' : Pass C) (history : List Event) (row : Row L) → IsPrefix (seen p') history → Refused over p p' (now row.came) (now row.gone) row.served → IsRefused now told live over history door row []
+  refused_in : (p p' : Pass C) (history : List Event) (row : Row L) → IsPrefix (seen p') history → Refused over p p' (now row.came)
+      (now row.gone) row.served → IsRefused now told live over history door row []
   refused_in p p' history row longer r = record {
     events = refl;
     number = r.conn_is;
@@ -150,13 +175,21 @@ module _ {C L : Type 0} (now : L → LinkNow) (told : List Event → ℕ → Lis
 
   -- the part of one link
   served_in : (p p' : Pass C) (row : Row L) → Serves told live over door row.peer p p' (now row.came) (now row.gone) row.served
-      → (own : List (ℕ × Event)) × (mine p' ≡ mine p ++ own) × ((history : List Event) → IsPrefix (seen p') history → IsOpened now told live over history door row own ⊎ IsRefused now told live over history door row own)
-  served_in p p' row (inl o) = (((length o.list, event.Open door row.peer) ∷ o.heard) ++ o.shut, o.own_events ∙ append_assoc (mine p) ((length o.list, event.Open door row.peer) ∷ o.heard) o.shut, λ history longer. inl (opened_in p p' history row longer o))
+      → (own : List (ℕ × Event)) × (mine p' ≡ mine p ++ own) × ((history : List Event) → IsPrefix (seen p') history
+      → IsOpened now told live over history door row own ⊎ IsRefused now told live over history door row own)
+  served_in p p' row (inl o) = (
+    ((length o.list, event.Open door row.peer) ∷ o.heard) ++ o.shut,
+    o.own_events
+        ∙ append_assoc (mine p) ((length o.list, event.Open door row.peer) ∷ o.heard) o.shut,
+    λ history longer. inl
+        (opened_in p p' history row longer o),
+  )
   served_in p p' row (inr r) = ([], r.own_events ∙ sym (append-nil (mine p)), λ history longer. inr (refused_in p p' history row longer r))
 
   -- the part of all links
   pub links_in : (rows : List (Row L)) (a b : Pass C) → Attends now told live over door rows a b
-      → (part : List (ℕ × Event)) × (mine b ≡ mine a ++ part) × IsPrefix (seen a) (seen b) × ((history : List Event) → IsPrefix (seen b) history → AreLinks now told live over history door rows part)
+      → (part : List (ℕ × Event)) × (mine b ≡ mine a ++ part) × IsPrefix (seen a) (seen b)
+      × ((history : List Event) → IsPrefix (seen b) history → AreLinks now told live over history door rows part)
   links_in [] a b waits = ([], waits.1 ∙ sym (append-nil (mine a)), waits.0, λ history longer. refl)
   links_in (row ∷ rows) a b x =
       let start = x.0 in
@@ -164,14 +197,25 @@ module _ {C L : Type 0} (now : L → LinkNow) (told : List Event → ℕ → Lis
       let one = served_in start next row x.5 in
       let rest = links_in rows next b x.6 in (
         one.0 ++ rest.0,
-        rest.1 ∙ ap (λ (m : List (ℕ × Event)). m ++ rest.0) (one.1 ∙ ap (λ (m : List (ℕ × Event)). m ++ one.0) x.2.1) ∙ append_assoc (mine a) one.0 rest.0,
+        rest.1 ∙ ap (λ (m : List (ℕ × Event)). m ++ rest.0) (one.1 ∙ ap (λ (m : List (ℕ × Event)). m ++ one.0) x.2.1)
+            ∙ append_assoc (mine a) one.0 rest.0,
         prefix_trans (seen a) (seen start) (seen b) x.2.0 (prefix_trans (seen start) (seen next) (seen b) x.4 rest.2),
-        λ history longer. (one.0, rest.0, refl, x.3, one.2 history (prefix_trans (seen next) (seen b) history rest.2 longer), rest.3 history longer),
+        λ history longer. (
+          one.0,
+          rest.0,
+          refl,
+          x.3,
+          one.2 history (prefix_trans (seen next) (seen b) history rest.2 longer),
+          rest.3
+              history longer,
+        ),
       )
 
   -- the part of a connection worker
-  pub gathers_links : (a b : Pass C) (c c' : DoorCounts) (s s' : Option (List (Served × L))) (q q' : Option (List Peer)) (e : WorkerEnd) → Attended now told live over door a b c c' s s' q q' e
-      → (part : List (ℕ × Event)) × (mine b ≡ mine a ++ part) × ((history : List Event) → IsPrefix (seen b) history → GathersLinks now told live over history door c c' s s' q q' part e)
+  pub gathers_links : (a b : Pass C) (c c' : DoorCounts) (s s' : Option (List (Served × L))) (q q' : Option (List Peer)) (e : WorkerEnd)
+      → Attended now told live over door a b c c' s s' q q' e
+      → (part : List (ℕ × Event)) × (mine b ≡ mine a ++ part) × ((history : List Event) → IsPrefix (seen b) history
+      → GathersLinks now told live over history door c c' s s' q q' part e)
   gathers_links a b c c' s s' q q' e t =
       let all = links_in t.rows a b t.attends in (
         all.0,
@@ -187,15 +231,28 @@ module _ {C L : Type 0} (now : L → LinkNow) (told : List Event → ℕ → Lis
 
 -- ---- the ticker
 
-ticks_over : (b b' : Bool) (c c' : TickCounts) (last : Beat) (stop : List Event) (r : TickEnd) → (b ≡ true → b' ≡ true) → TicksEndSo b c c' last stop r → TicksEndSo b' c c' last stop r
+ticks_over : (b b' : Bool) (c c' : TickCounts) (last : Beat) (stop : List Event) (r : TickEnd) → (b ≡ true → b' ≡ true)
+    → TicksEndSo b c c' last stop r → TicksEndSo b' c c' last stop r
 ticks_over b b' c c' last stop tick.Over on ended = (ended.0, ended.1, on ended.2, ended.3)
-ticks_over b b' c c' last stop tick.Stopped on ended = (ended.0, elim ended.1 [ inl one ↦ inl one | inr none ↦ inr (none.0, on none.1) ], ended.2, ended.3)
-ticks_over b b' c c' last stop tick.Fault on ended = (ended.0, elim ended.1 [ inl one ↦ inl one | inr none ↦ inr (none.0, on none.1) ], ended.2)
+ticks_over b b' c c' last stop tick.Stopped on ended = (
+  ended.0,
+  elim ended.1 [ inl one ↦ inl one | inr none ↦ inr (none.0, on none.1) ],
+  ended.2,
+  ended.3,
+)
+ticks_over b b' c c' last stop tick.Fault on ended = (
+  ended.0,
+  elim ended.1 [ inl one ↦ inl one | inr none ↦ inr (none.0, on none.1) ],
+  ended.2,
+)
 ticks_over b b' c c' last stop tick.Memory on ended = ended
 
 -- the part of the ticker's worker
-pub gathers_ticks : {C : Type 0} (over : List Event → Bool) → ((before : List Event) (e : Event) → over before ≡ true → over (before ++ e ∷ []) ≡ true) → (a b : Pass C) (c c' : TickCounts) (t t' : Option (List Beat)) (r : TickEnd) → Ticks (over (seen b)) a b c c' t t' r
-    → (part : List (ℕ × Event)) × (mine b ≡ mine a ++ part) × ((history : List Event) → IsPrefix (seen b) history → GathersTicks (over history) c c' t t' part r)
+pub gathers_ticks : {C : Type 0} (over : List Event → Bool) → ((before : List Event) (e : Event) → over before ≡ true
+    → over (before ++ e ∷ []) ≡ true) → (a b : Pass C) (c c' : TickCounts) (t t' : Option (List Beat)) (r : TickEnd)
+    → Ticks (over (seen b)) a b c c' t t' r
+    → (part : List (ℕ × Event)) × (mine b ≡ mine a ++ part) × ((history : List Event) → IsPrefix (seen b) history
+    → GathersTicks (over history) c c' t t' part r)
 gathers_ticks over stays_over a b c c' t t' r ticks = (
   ticks.put,
   ticks.own_events,
@@ -205,6 +262,7 @@ gathers_ticks over stays_over a b c c' t t' r ticks = (
     stop = ticks.stop;
     told = ticks.beats;
     events = ticks.events;
-    ended = ticks_over (over (seen b)) (over history) c c' ticks.last ticks.stop r (over_later over stays_over (seen b) history longer) ticks.ended;
+    ended = ticks_over (over (seen b)) (over history) c c' ticks.last ticks.stop r (over_later over stays_over (seen b) history longer)
+        ticks.ended;
   },
 )

@@ -43,7 +43,8 @@ EndsIn told live history own c c' out end.Memory = Unit {0}
 -- 2,400 writes in a row answered Nothing, and not all was written that it is told
 EndsIn told live history own c c' out end.Slow = (2400 ≤ c'.stalled) × (more : List ℕ) × (0 < length more) × (out ++ more ≡ told history)
 
-module _ {L : Type 0} (now : L → LinkNow) (told : List Event → ℕ → List ℕ) (live : List Event → ℕ → Bool) (over : List Event → Bool) (history : List Event) (door : Door) where
+module _ {L : Type 0} (now : L → LinkNow) (told : List Event → ℕ → List ℕ) (live : List Event → ℕ → Bool) (over : List Event → Bool)
+    (history : List Event) (door : Door) where
   -- a link whose connection was opened: `own` are the events of that connection, each with its place in the history
   pub record IsOpened (row : Row L) (own : List (ℕ × Event)) : Type 0 where
     -- first its opening, by this door and from the link's peer; then packets, and a Shut perhaps
@@ -57,10 +58,12 @@ module _ {L : Type 0} (now : L → LinkNow) (told : List Event → ℕ → List 
     pub bytes : List ℕ
     pub read : Appends (now row.came).read (now row.gone).read bytes
     pub read_is : row.served.read ≡ capped (length bytes)
-    pub in_order : (packets : List Packet) (e : End) → Reads 32767 bytes packets e → IsPrefix (events_of heard) (stream_events row.served.conn packets e)
+    pub in_order : (packets : List Packet) (e : End) → Reads 32767 bytes packets e → IsPrefix (events_of heard)
+        (stream_events row.served.conn packets e)
     -- and all of them, unless the core had ended the connection, or its end is Memory
     pub whole : (packets : List Packet) (e : End) → Reads 32767 bytes packets e
-        → (events_of heard ≡ stream_events row.served.conn packets e) ⊎ (((shut ≡ []) × (live history row.served.conn ≡ false)) ⊎ (row.served.end ≡ end.Memory))
+        → (events_of heard ≡ stream_events row.served.conn packets e) ⊎ (((shut ≡ []) × (live history row.served.conn ≡ false))
+        ⊎ (row.served.end ≡ end.Memory))
     -- A Shut stands there only where the link told its end, failed, took nothing for too long, or memory ran out; and it is
     -- missing only at Done, where the core had ended the connection, or where memory ran out.
     pub shut_is : ((shut ≡ []) × ((row.served.end ≡ end.Done) ⊎ ((live history row.served.conn ≡ false) ⊎ (row.served.end ≡ end.Memory))))
@@ -70,7 +73,8 @@ module _ {L : Type 0} (now : L → LinkNow) (told : List Event → ℕ → List 
     pub held : Appends (now row.came).held (now row.gone).held out
     pub written_is : row.served.written ≡ capped (length out)
     pub first : IsPrefix out (told history row.served.conn)
-    pub ended : EndsIn (λ events. told events row.served.conn) (live history row.served.conn) history ((place, event.Open door row.peer) ∷ heard)
+    pub ended : EndsIn (λ events. told events row.served.conn) (live history row.served.conn) history ((place, event.Open door row.peer)
+        ∷ heard)
         (now row.came).counts (now row.gone).counts out row.served.end
 
   -- a link whose opening was refused: it has no event and no number, and nothing was read from it or written to it
@@ -89,7 +93,8 @@ module _ {L : Type 0} (now : L → LinkNow) (told : List Event → ℕ → List 
 
   -- The part of a connection worker. The links are those that its listener gave in this run, with their peers, and each came
   -- back with its end.
-  pub record GathersLinks (c c' : DoorCounts) (served served' : Option (List (Served × L))) (peers peers' : Option (List Peer)) (part : List (ℕ × Event)) (e : WorkerEnd) : Type 0 where
+  pub record GathersLinks (c c' : DoorCounts) (served served' : Option (List (Served × L))) (peers peers' : Option (List Peer))
+      (part : List (ℕ × Event)) (e : WorkerEnd) : Type 0 where
     pub rows : List (Row L)
     pub links : AreLinks rows part
     pub given : Adds peers peers' (map (λ (row : Row L). row.peer) rows)
@@ -98,7 +103,8 @@ module _ {L : Type 0} (now : L → LinkNow) (told : List Event → ℕ → List 
 
 -- The part of the ticker's worker: as many Ticks as the ticker told, but for the one with which it ended, perhaps; then a Stop
 -- perhaps. What the last beat was, and whether a Stop was handed over, is said by its end.
-pub record GathersTicks (over : Bool) (c c' : TickCounts) (beats beats' : Option (List Beat)) (part : List (ℕ × Event)) (e : TickEnd) : Type 0 where
+pub record GathersTicks (over : Bool) (c c' : TickCounts) (beats beats' : Option (List Beat)) (part : List (ℕ × Event)) (e : TickEnd) :
+    Type 0 where
   pub count : ℕ
   pub last : Beat
   pub stop : List Event
