@@ -297,21 +297,17 @@ fn a_listener_that_fails_ends_its_worker_alone(rt: HostRuntime) -> Result<(), Fa
     Ok(())
 }
 
-/// A clock in memory, beside such handles.
-fn ticking<'a>(ticker: MemTicker) -> Role<Watched<'a>, Watched<'a>, MemTicker> {
-    Role::Ticker(ticker)
-}
-
 /// The roles of a ticker and of one handle, which gives one link.
-fn two_roles<'a>(
+fn two_roles(
     alloc: Global,
     ticker: MemTicker,
-    back: &'a AtomicU64,
-) -> Result<Vec<Role<Watched<'a>, Watched<'a>, MemTicker>>, Fail> {
+) -> Result<Vec<Role<MemListener, MemListener, MemTicker>>, Fail> {
+    let mut coming = Vec::new(alloc);
+    coming.push((link(alloc, 9, LinkPlan::working(alloc))?, HOME))?;
+    let door = MemListener::new(alloc, coming, Vec::new(alloc), Vec::new(alloc))?;
     let mut roles = Vec::new(alloc);
-    roles.push(ticking(ticker))?;
-    let link = link(alloc, 9, LinkPlan::working(alloc))?;
-    roles.push(handle(alloc, link, &[], back)?)?;
+    roles.push(Role::Ticker(ticker))?;
+    roles.push(Role::Game(door))?;
     Ok(roles)
 }
 
@@ -321,8 +317,7 @@ fn ends<R: Threads + Wait + Clock + Abort + Sync>(
     alloc: Global,
     ticker: MemTicker,
 ) -> Result<(WorkerEnd, WorkerEnd), Fail> {
-    let back = AtomicU64::new(0);
-    let roles = two_roles(alloc, ticker, &back)?;
+    let roles = two_roles(alloc, ticker)?;
     let workers = run(rt, alloc, roles, &OpenGate).ok_or(SHORT)?;
     assert_eq!(rt; workers.len(), 2);
     Ok((workers[1].end, workers[0].end))

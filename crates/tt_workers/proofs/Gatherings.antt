@@ -1,32 +1,6 @@
 -- A worker's part, told over the whole history.
-use Rattle.std.proofs.Common.{
-  ◌≡◌,
-  ℕ,
-  suc,
-  ◌+◌,
-  ◌-◌,
-  ◌≤◌,
-  ◌<◌,
-  ◌⊎◌,
-  inl,
-  inr,
-  List,
-  [],
-  ◌∷◌,
-  ◌++◌,
-  length,
-  take,
-  drop,
-  take-add,
-  refl,
-  sym,
-  ap,
-  ◌∙◌,
-  subst,
-  append_assoc,
-  arith,
-  length-append,
-}
+use Rattle.std.proofs.Common.{◌≡◌, ℕ, suc, ◌+◌, ◌-◌, ◌≤◌, ◌<◌, ◌⊎◌, inl, inr, List, [], ◌∷◌, ◌++◌, length, take, drop, take-add, refl}
+use Rattle.std.proofs.Common.{sym, ap, ◌∙◌, subst, append_assoc, arith, length-append}
 use Rattle.std.specs.Prelude.{Bool, true, false, map, max, Option}
 use Rattle.std.specs.List.{AllByRecursion}
 use Rattle.std.proofs.lemmas.List.{append-nil, take-append-drop}
@@ -77,8 +51,8 @@ front_is list more history longer =
 over_more : (over : List Event → Bool) → ((before : List Event) (e : Event) → over before ≡ true → over (before ++ e ∷ []) ≡ true)
     → (before rest : List Event) → over before ≡ true → over (before ++ rest) ≡ true
 over_more over last before [] is = ap over (append-nil before) ∙ is
-over_more over last before (e ∷ es) is =
-    ap over (sym (append_assoc before (e ∷ []) es)) ∙ over_more over last (before ++ e ∷ []) es (last before e is)
+over_more over last before (e ∷ es) is = ap over (sym (append_assoc before (e ∷ []) es)) ∙ over_more over last (before ++ e ∷ []) es
+    (last before e is)
 
 -- what is over stays over
 pub over_later : (over : List Event → Bool) → ((before : List Event) (e : Event) → over before ≡ true → over (before ++ e ∷ []) ≡ true)
@@ -92,8 +66,8 @@ module _ (told : List Event → List ℕ) (live : List Event → Bool) (conn : �
     (stays : (before : List Event) (event : Event) → conn ≤ opens before → live before ≡ false → (live (before ++ event ∷ []) ≡ false)
     × (told (before ++ event ∷ []) ≡ told before)) where
   -- where all was written that was told up to the last of some events, so it was up to each
-  up_to_each : (history : List Event) (out : List ℕ) (n : ℕ) (own : List (ℕ × Event)) → behind own ≤ n
-      → IsPrefix (told (take n history)) out → AllByRecursion (λ x. IsPrefix (told (take (x.0 + 1) history)) out) own
+  up_to_each : (history : List Event) (out : List ℕ) (n : ℕ) (own : List (ℕ × Event)) → behind own ≤ n → IsPrefix (told (take n history))
+      out → AllByRecursion (λ x. IsPrefix (told (take (x.0 + 1) history)) out) own
   up_to_each history out n [] less all = tt
   up_to_each history out n (x ∷ xs) less all = (
     prefix_trans (told (take (x.0 + 1) history)) (told (take n history)) out (told_grows told grows (take (x.0 + 1) history)
@@ -103,8 +77,10 @@ module _ (told : List Event → List ℕ) (live : List Event → Bool) (conn : �
 
   ends_in : (seen history : List Event) (own : List (ℕ × Event)) (c c' : LinkCounts) (out : List ℕ) (e : LinkEnd) → IsPrefix seen history
       → conn ≤ opens seen → EndsSo told (live seen) seen own c c' out e → EndsIn told (live history) history own c c' out e
-  ends_in seen history own c c' out end.Done longer known ended =
-      (dead_on told live conn grows stays seen history longer known ended.0, ended.1 history longer)
+  ends_in seen history own c c' out end.Done longer known ended = (
+    dead_on told live conn grows stays seen history longer known ended.0,
+    ended.1 history longer,
+  )
   ends_in seen history own c c' out end.PeerEnd longer known ended = (
     ended.0,
     elim ended.1 [
@@ -127,8 +103,8 @@ ends_over rows b b' c c' worker.TickFault on ended = ended
 ends_over rows b b' c c' worker.Stopped on ended = ended
 ends_over rows b b' c c' worker.Memory on ended = ended
 
-module _ {C L : Type 0} (now : L → LinkNow) (told : List Event → ℕ → List ℕ) (live : List Event → ℕ → Bool) (over : List Event
-    → Bool) (door : Door)
+module _ {C L : Type 0} (now : L → LinkNow) (told : List Event → ℕ → List ℕ) (live : List Event → ℕ → Bool) (over : List Event → Bool)
+    (door : Door)
     (grows : (conn : ℕ) (before : List Event) (event : Event) → GrowsTo (told before conn) (told (before ++ event ∷ []) conn))
     (stays : (conn : ℕ) (before : List Event) (event : Event) → conn ≤ opens before → live before conn ≡ false
     → (live (before ++ event ∷ []) conn ≡ false) × (told (before ++ event ∷ []) conn ≡ told before conn))
@@ -143,11 +119,11 @@ module _ {C L : Type 0} (now : L → LinkNow) (told : List Event → ℕ → Lis
         arith,
         o.conn_is,
         opens_push o.list (event.Open door row.peer),
-        opens_later (o.list
-            ++ event.Open door row.peer ∷ []) (seen p') o.opening,
+        opens_later
+            (o.list ++ event.Open door row.peer ∷ []) (seen p') o.opening,
       ) in
-      let dead : live (seen p') conn ≡ false → live history conn ≡ false =
-      dead_on (λ es. told es conn) (λ es. live es conn) conn (grows conn) (stays conn) (seen p') history longer known in
+      let dead : live (seen p') conn ≡ false → live history conn ≡ false = dead_on (λ es. told es conn) (λ es. live es conn) conn
+      (grows conn) (stays conn) (seen p') history longer known in
       let first = o.told_first history longer in
       record {
         place = length o.list;
@@ -165,7 +141,14 @@ module _ {C L : Type 0} (now : L → LinkNow) (told : List Event → ℕ → Lis
           | inr (inr short) ↦ inr (inr short)
         ];
         shut_is = elim o.shut_is [
-          | inl none ↦ inl none.0
+          | inl none ↦ inl (
+            none.0,
+            elim none.1 [
+              | inl done ↦ inl done
+              | inr (inl gone) ↦ inr (inl (dead gone))
+              | inr (inr short) ↦ inr (inr short)
+            ],
+          )
           | inr one ↦ inr one
         ];
         out = o.out;
@@ -177,8 +160,8 @@ module _ {C L : Type 0} (now : L → LinkNow) (told : List Event → ℕ → Lis
             known o.ended;
       }
 
-  refused_in : (p p' : Pass C) (history : List Event) (row : Row L) → IsPrefix (seen p') history
-      → Refused over p p' (now row.came) (now row.gone) row.served → IsRefused now told live over history door row []
+  refused_in : (p p' : Pass C) (history : List Event) (row : Row L) → IsPrefix (seen p') history → Refused over p p' (now row.came)
+      (now row.gone) row.served → IsRefused now told live over history door row []
   refused_in p p' history row longer r = record {
     events = refl;
     number = r.conn_is;
@@ -198,15 +181,15 @@ module _ {C L : Type 0} (now : L → LinkNow) (told : List Event → ℕ → Lis
     ((length o.list, event.Open door row.peer) ∷ o.heard) ++ o.shut,
     o.own_events
         ∙ append_assoc (mine p) ((length o.list, event.Open door row.peer) ∷ o.heard) o.shut,
-    λ history longer. inl (opened_in p p' history
-        row longer o),
+    λ history longer. inl
+        (opened_in p p' history row longer o),
   )
   served_in p p' row (inr r) = ([], r.own_events ∙ sym (append-nil (mine p)), λ history longer. inr (refused_in p p' history row longer r))
 
   -- the part of all links
   pub links_in : (rows : List (Row L)) (a b : Pass C) → Attends now told live over door rows a b
-      → (part : List (ℕ × Event)) × (mine b ≡ mine a ++ part) × IsPrefix (seen a) (seen b) × ((history : List Event)
-      → IsPrefix (seen b) history → AreLinks now told live over history door rows part)
+      → (part : List (ℕ × Event)) × (mine b ≡ mine a ++ part) × IsPrefix (seen a) (seen b)
+      × ((history : List Event) → IsPrefix (seen b) history → AreLinks now told live over history door rows part)
   links_in [] a b waits = ([], waits.1 ∙ sym (append-nil (mine a)), waits.0, λ history longer. refl)
   links_in (row ∷ rows) a b x =
       let start = x.0 in
@@ -223,7 +206,8 @@ module _ {C L : Type 0} (now : L → LinkNow) (told : List Event → ℕ → Lis
           refl,
           x.3,
           one.2 history (prefix_trans (seen next) (seen b) history rest.2 longer),
-          rest.3 history longer,
+          rest.3
+              history longer,
         ),
       )
 
@@ -250,10 +234,17 @@ module _ {C L : Type 0} (now : L → LinkNow) (told : List Event → ℕ → Lis
 ticks_over : (b b' : Bool) (c c' : TickCounts) (last : Beat) (stop : List Event) (r : TickEnd) → (b ≡ true → b' ≡ true)
     → TicksEndSo b c c' last stop r → TicksEndSo b' c c' last stop r
 ticks_over b b' c c' last stop tick.Over on ended = (ended.0, ended.1, on ended.2, ended.3)
-ticks_over b b' c c' last stop tick.Stopped on ended =
-    (ended.0, elim ended.1 [ inl one ↦ inl one | inr none ↦ inr (none.0, on none.1) ], ended.2, ended.3)
-ticks_over b b' c c' last stop tick.Fault on ended =
-    (ended.0, elim ended.1 [ inl one ↦ inl one | inr none ↦ inr (none.0, on none.1) ], ended.2)
+ticks_over b b' c c' last stop tick.Stopped on ended = (
+  ended.0,
+  elim ended.1 [ inl one ↦ inl one | inr none ↦ inr (none.0, on none.1) ],
+  ended.2,
+  ended.3,
+)
+ticks_over b b' c c' last stop tick.Fault on ended = (
+  ended.0,
+  elim ended.1 [ inl one ↦ inl one | inr none ↦ inr (none.0, on none.1) ],
+  ended.2,
+)
 ticks_over b b' c c' last stop tick.Memory on ended = ended
 
 -- the part of the ticker's worker

@@ -1,26 +1,6 @@
 -- Ticks, one after another.
-use Rattle.std.proofs.Common.{
-  ◌≡◌,
-  ℕ,
-  zero,
-  suc,
-  ◌⊎◌,
-  inl,
-  inr,
-  List,
-  [],
-  ◌∷◌,
-  ◌++◌,
-  Option,
-  Some,
-  None,
-  refl,
-  sym,
-  ap,
-  ◌∙◌,
-  subst,
-  append_assoc,
-}
+use Rattle.std.proofs.Common.{◌≡◌, ℕ, zero, suc, ◌⊎◌, inl, inr, List, [], ◌∷◌, ◌++◌, Option, Some, None, refl, sym, ap, ◌∙◌, subst}
+use Rattle.std.proofs.Common.{append_assoc}
 use Rattle.std.specs.Prelude.{Bool, true, replicate}
 use Rattle.std.proofs.lemmas.List.{append-nil}
 use Rattle.tt_edge.specs.declared.event.Event.{Event}
@@ -53,8 +33,8 @@ one_more zero x = refl
 one_more (suc n) x = ap (λ xs. x ∷ xs) (one_more n x)
 
 -- the loop ends with a Stop, or tries to
-pub ticks_stopped : {C : Type 0} (over : Bool) (p0 p p' : Pass C) (c c' : TickCounts) (b b1 b' : Option (List Beat)) (n : ℕ) (put : List (ℕ
-    × Event)) (last : Beat) (e r : TickEnd)
+pub ticks_stopped : {C : Type 0} (over : Bool) (p0 p p' : Pass C) (c c' : TickCounts) (b b1 b' : Option (List Beat)) (n : ℕ)
+    (put : List (ℕ × Event)) (last : Beat) (e r : TickEnd)
     → Adds b b1 (replicate n beat.Tick) → Adds b1 b' (told_by last) → mine p ≡ mine p0 ++ put → events_of put ≡ replicate n event.Tick
     → Stops over p p' e r
     → ((stop : List Event) → (stop ≡ event.Stop ∷ []) ⊎ ((stop ≡ []) × (over ≡ true)) → TicksEndSo over c c' last stop e)
@@ -64,8 +44,8 @@ ticks_stopped over p0 p p' c c' b b1 b' n put last e r beats more own same (inl 
   last = last;
   beats = adds_then b b1 b' (replicate n beat.Tick) (told_by last) beats more;
   put = put ++ (stop.0, event.Stop) ∷ [];
-  own_events =
-      stop.1 ∙ ap (λ (m : List (ℕ × Event)). m ++ (stop.0, event.Stop) ∷ []) own ∙ append_assoc (mine p0) put ((stop.0, event.Stop) ∷ []);
+  own_events = stop.1 ∙ ap (λ (m : List (ℕ × Event)). m ++ (stop.0, event.Stop) ∷ []) own ∙ append_assoc (mine p0) put
+      ((stop.0, event.Stop) ∷ []);
   stop = event.Stop ∷ [];
   events = events_push put stop.0 event.Stop ∙ ap (λ (es : List Event). es ++ event.Stop ∷ []) same;
   ended = subst (TicksEndSo over c c' last (event.Stop ∷ [])) (sym stop.2) (ends (event.Stop ∷ []) (inl refl));
@@ -92,8 +72,8 @@ ticks_stopped over p0 p p' c c' b b1 b' n put last e r beats more own same (inr 
 }
 
 -- the last Tick was refused, since all is over
-pub ticks_over : {C : Type 0} (over : Bool) (p0 p p' : Pass C) (c c' : TickCounts) (b b1 b' : Option (List Beat)) (n : ℕ) (put : List (ℕ
-    × Event))
+pub ticks_over : {C : Type 0} (over : Bool) (p0 p p' : Pass C) (c c' : TickCounts) (b b1 b' : Option (List Beat)) (n : ℕ)
+    (put : List (ℕ × Event))
     → Adds b b1 (replicate n beat.Tick) → Adds b1 b' (beat.Tick ∷ []) → mine p ≡ mine p0 ++ put → events_of put ≡ replicate n event.Tick
     → mine p' ≡ mine p → over ≡ true → c'.faults ≡ c.faults → Ticks over p0 p' c c' b b' end.Over
 ticks_over over p0 p p' c c' b b1 b' n put beats more own same kept is faults = record {

@@ -29,5 +29,5 @@ Gathering {C} {M} {L} {K} {A} {B} {T} made events taken room k game admin ticker
     (core : C) (before after : List (Worker C L A T)) → length after ≡ length before → All (λ (w : Worker C L A T). mine w.pass ≡ []) before
     → ((i : ℕ) (d : Worker C L A T) → i < length before → Works room k game admin ticker (slice_index_or before i d)
     (slice_index_or after i d))
-    → Closes made events taken room (map (λ (w : Worker C L A T). w.pass) after) core → IsGathered k game admin ticker (events core) before
-    after
+    → Closes made events taken room (map (λ (w : Worker C L A T). w.pass) after) core → IsGathered k game admin ticker (events core)
+    before after

@@ -43,8 +43,8 @@ EndsIn told live history own c c' out end.Memory = Unit {0}
 -- 2,400 writes in a row answered Nothing, and not all was written that it is told
 EndsIn told live history own c c' out end.Slow = (2400 ≤ c'.stalled) × (more : List ℕ) × (0 < length more) × (out ++ more ≡ told history)
 
-module _ {L : Type 0} (now : L → LinkNow) (told : List Event → ℕ → List ℕ) (live : List Event → ℕ → Bool) (over : List Event
-    → Bool) (history : List Event) (door : Door) where
+module _ {L : Type 0} (now : L → LinkNow) (told : List Event → ℕ → List ℕ) (live : List Event → ℕ → Bool) (over : List Event → Bool)
+    (history : List Event) (door : Door) where
   -- a link whose connection was opened: `own` are the events of that connection, each with its place in the history
   pub record IsOpened (row : Row L) (own : List (ℕ × Event)) : Type 0 where
     -- first its opening, by this door and from the link's peer; then packets, and a Shut perhaps
@@ -58,22 +58,23 @@ module _ {L : Type 0} (now : L → LinkNow) (told : List Event → ℕ → List 
     pub bytes : List ℕ
     pub read : Appends (now row.came).read (now row.gone).read bytes
     pub read_is : row.served.read ≡ capped (length bytes)
-    pub in_order : (packets : List Packet) (e : End) → Reads 32767 bytes packets e
-        → IsPrefix (events_of heard) (stream_events row.served.conn packets e)
+    pub in_order : (packets : List Packet) (e : End) → Reads 32767 bytes packets e → IsPrefix (events_of heard)
+        (stream_events row.served.conn packets e)
     -- and all of them, unless the core had ended the connection, or its end is Memory
     pub whole : (packets : List Packet) (e : End) → Reads 32767 bytes packets e
         → (events_of heard ≡ stream_events row.served.conn packets e) ⊎ (((shut ≡ []) × (live history row.served.conn ≡ false))
         ⊎ (row.served.end ≡ end.Memory))
-    -- a Shut stands there only where the link told its end, failed, took nothing for too long, or memory ran out
-    pub shut_is : (shut ≡ []) ⊎ ((at : ℕ) × (shut ≡ (at, event.Shut row.served.conn) ∷ [])
-        × HasCause (now row.came).counts (now row.gone).counts row.served.end)
+    -- A Shut stands there only where the link told its end, failed, took nothing for too long, or memory ran out; and it is
+    -- missing only at Done, where the core had ended the connection, or where memory ran out.
+    pub shut_is : ((shut ≡ []) × ((row.served.end ≡ end.Done) ⊎ ((live history row.served.conn ≡ false) ⊎ (row.served.end ≡ end.Memory))))
+        ⊎ ((at : ℕ) × (shut ≡ (at, event.Shut row.served.conn) ∷ []) × HasCause (now row.came).counts (now row.gone).counts row.served.end)
     -- the bytes that were written to it are the first of what its connection is told
     pub out : List ℕ
     pub held : Appends (now row.came).held (now row.gone).held out
     pub written_is : row.served.written ≡ capped (length out)
     pub first : IsPrefix out (told history row.served.conn)
-    pub ended : EndsIn (λ events. told events row.served.conn) (live history row.served.conn) history ((place, event.Open door row.peer) ∷
-        heard)
+    pub ended : EndsIn (λ events. told events row.served.conn) (live history row.served.conn) history ((place, event.Open door row.peer)
+        ∷ heard)
         (now row.came).counts (now row.gone).counts out row.served.end
 
   -- a link whose opening was refused: it has no event and no number, and nothing was read from it or written to it

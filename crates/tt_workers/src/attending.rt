@@ -86,8 +86,10 @@ fn ask<R: Wait + Clock, C: Servable, D: Listener, G: Gate>(
     requires framer { framer.old ≡ empty_of 32767 }
     ensures on { GoesOn room.now pass.old pass.new }
     ensures framer { framer.new ≡ empty_of 32767 }
-    ensures asks { Asks (link_now D.Link.counts D.Link.left D.Link.was_read D.Link.held) (C.sent (C.made (start_of room.now))) (C.is_live (C.made (start_of room.now))) (C.is_over (C.made (start_of room.now))) door
-        pass.old pass.new (D.counts listener.old) (D.counts listener.new) (D.served listener.old) (D.served listener.new) (D.peers listener.old) (D.peers listener.new) short.old short.new result }
+    ensures asks { Asks (link_now D.Link.counts D.Link.left D.Link.was_read D.Link.held) (C.sent (C.made (start_of room.now)))
+        (C.is_live (C.made (start_of room.now))) (C.is_over (C.made (start_of room.now))) door
+        pass.old pass.new (D.counts listener.old) (D.counts listener.new) (D.served listener.old) (D.served listener.new)
+        (D.peers listener.old) (D.peers listener.new) short.old short.new result }
 {
     match listener.accept() {
         Accepted::Link(link, peer) => {
@@ -123,8 +125,10 @@ pub fn attend<R: Wait + Clock, C: Servable, D: Listener, G: Gate>(
     requires framer { framer.old ≡ empty_of 32767 }
     ensures on { GoesOn room.now pass.old pass.new }
     ensures framer { framer.new ≡ empty_of 32767 }
-    ensures attended { Attended (link_now D.Link.counts D.Link.left D.Link.was_read D.Link.held) (C.sent (C.made (start_of room.now))) (C.is_live (C.made (start_of room.now))) (C.is_over (C.made (start_of room.now))) door
-        pass.old pass.new (D.counts listener.old) (D.counts listener.new) (D.served listener.old) (D.served listener.new) (D.peers listener.old) (D.peers listener.new) result }
+    ensures attended { Attended (link_now D.Link.counts D.Link.left D.Link.was_read D.Link.held) (C.sent (C.made (start_of room.now)))
+        (C.is_live (C.made (start_of room.now))) (C.is_over (C.made (start_of room.now))) door
+        pass.old pass.new (D.counts listener.old) (D.counts listener.new) (D.served listener.old) (D.served listener.new)
+        (D.peers listener.old) (D.peers listener.new) result }
 {
     let mut short = false;
     'link: for _ in rt.forever() {

@@ -67,7 +67,8 @@ pub fn converse<R: Wait, C: Servable, L: Link, G: Gate>(
     requires ear { ear.old ≡ Ear.Open }
     ensures on { GoesOn room.now pass.old pass.new }
     ensures limit { framer.new.limit ≡ 32767 }
-    ensures conversed { Conversed (λ events. C.sent (C.made (start_of room.now)) events conn) (λ events. C.is_live (C.made (start_of room.now)) events conn) conn
+    ensures conversed { Conversed (λ events. C.sent (C.made (start_of room.now)) events conn)
+        (λ events. C.is_live (C.made (start_of room.now)) events conn) conn
         pass.old pass.new (link_now L.counts L.left L.was_read L.held link.old) (link_now L.counts L.left L.was_read L.held link.new)
         framer.new ear.new read.new out.new result }
 {

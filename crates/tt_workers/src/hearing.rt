@@ -79,7 +79,8 @@ pub fn hand_over<R: Wait, C: Servable, G: Gate>(
     ensures own { own pass.new ≡ own pass.old }
     ensures limit { framer.new.limit ≡ 32767 }
     ensures heard { (put : List (ℕ × Event)) × (mine pass.new ≡ mine pass.old ++ put) × AreBefore (length (seen pass.new)) put
-        × Hears (C.is_live (C.made (start_of room.now)) (seen pass.new) conn) conn (framer.old.held ++ piece.now) (events_of put) framer.new result }
+        × Hears (C.is_live (C.made (start_of room.now)) (seen pass.new) conn) conn (framer.old.held ++ piece.now) (events_of put)
+        framer.new result }
 {
     let mut at = 0;
     'packet: for _ in rt.forever() {

@@ -41,7 +41,8 @@ pub fn listen<R: Wait, C: Servable, L: Link, G: Gate>(
     ensures on { GoesOn room.now pass.old pass.new }
     ensures own { own pass.new ≡ own pass.old }
     ensures limit { framer.new.limit ≡ 32767 }
-    ensures listens { Listens (C.is_live (C.made (start_of room.now)) (seen pass.old) conn) (C.is_live (C.made (start_of room.now)) (seen pass.new) conn) conn
+    ensures listens { Listens (C.is_live (C.made (start_of room.now)) (seen pass.old) conn) (C.is_live (C.made (start_of room.now))
+        (seen pass.new) conn) conn
         pass.old pass.new framer.old framer.new ear.old ear.new read.old read.new
         (link_now L.counts L.left L.was_read L.held link.old) (link_now L.counts L.left L.was_read L.held link.new) result }
 {

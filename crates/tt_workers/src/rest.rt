@@ -1,15 +1,18 @@
 //! How workers to whom nobody came rest, so that many handles on one socket cost little.
+use std::sync::atomic::{AtomicU64, Ordering};
 use std::sync::{Condvar, Mutex, Wait};
 use std::time::{Clock, Duration};
 
-/// How many milliseconds a worker rests for each worker that there is: the more there are, the more are awake meanwhile.
+/// How many milliseconds a worker rests for each worker that there is: so about as many are awake at any time, however many
+/// there are.
 const EACH: u64 = 2;
 
 /// Where workers rest. A worker that met somebody wakes one that rests: more may come.
 pub struct Rest {
     bell: Condvar,
     lock: Mutex<u8>,
-    milliseconds: u64,
+    workers: u64,
+    rests: AtomicU64,
 }
 
 impl Drop for Rest {
@@ -17,7 +20,8 @@ impl Drop for Rest {
         let Rest {
             bell: _,
             lock: _,
-            milliseconds: _,
+            workers: _,
+            rests: _,
         } = self;
     }
 }
@@ -28,13 +32,16 @@ impl Rest {
         Rest {
             bell: Condvar::new(),
             lock: Mutex::new(0),
-            milliseconds: (workers as u64).saturating_mul(EACH),
+            workers: workers as u64,
+            rests: AtomicU64::new(0),
         }
     }
 
-    /// Rests, until the time is up or somebody wakes it.
+    /// Rests, until the time is up or somebody wakes it. The first rests are of different length, since the workers begin
+    /// together and would rest together for ever.
     pub fn rest<R: Wait + Clock>(&self, rt: &R) {
-        let time = Duration::from_millis(self.milliseconds);
+        let turn = self.rests.fetch_add(1, Ordering::SeqCst).saturating_add(1);
+        let time = Duration::from_millis(turn.min(self.workers).saturating_mul(EACH));
         let _ = self.bell.wait_timeout(rt, self.lock.lock(rt), time);
     }
 

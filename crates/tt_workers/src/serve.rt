@@ -63,8 +63,10 @@ pub fn serve_link<R: Wait, C: Servable, L: Link, G: Gate>(
     requires framer { framer.old ≡ empty_of 32767 }
     ensures on { GoesOn room.now pass.old pass.new }
     ensures limit { framer.new.limit ≡ 32767 }
-    ensures serves { Serves (C.sent (C.made (start_of room.now))) (C.is_live (C.made (start_of room.now))) (C.is_over (C.made (start_of room.now)))
-        door peer pass.old pass.new (link_now L.counts L.left L.was_read L.held link.old) (link_now L.counts L.left L.was_read L.held link.new) result }
+    ensures serves { Serves (C.sent (C.made (start_of room.now))) (C.is_live (C.made (start_of room.now)))
+        (C.is_over (C.made (start_of room.now)))
+        door peer pass.old pass.new (link_now L.counts L.left L.was_read L.held link.old) (link_now L.counts L.left L.was_read L.held
+        link.new) result }
 {
     let conn = match room.event(rt, pass, Event::Open { door, peer }) {
         Ok(conn) => conn,

@@ -46,7 +46,8 @@ pub fn tick_loop<R: Wait, C: Servable, T: Ticker>(
     requires { IsOf room.now pass.old }
     ensures on { GoesOn room.now pass.old pass.new }
     ensures own { own pass.new ≡ own pass.old }
-    ensures ticks { Ticks (C.is_over (C.made (start_of room.now)) (seen pass.new)) pass.old pass.new (T.counts ticker.old) (T.counts ticker.new) (T.beats ticker.old) (T.beats ticker.new) result }
+    ensures ticks { Ticks (C.is_over (C.made (start_of room.now)) (seen pass.new)) pass.old pass.new (T.counts ticker.old)
+        (T.counts ticker.new) (T.beats ticker.old) (T.beats ticker.new) result }
 {
     'beat: for _ in rt.forever() {
         match ticker.wait() {

@@ -71,7 +71,8 @@ fn run<R: Wait + Clock, C: Servable, L: Listener, A: Listener, T: Ticker, G: Gat
     worker: &mut Worker<C, L, A, T>,
 )
     requires { IsReady room.now worker.old }
-    ensures { Works room.now (core_view (C.sent (C.made (start_of room.now))) (C.is_live (C.made (start_of room.now))) (C.is_over (C.made (start_of room.now))))
+    ensures { Works room.now (core_view (C.sent (C.made (start_of room.now))) (C.is_live (C.made (start_of room.now)))
+        (C.is_over (C.made (start_of room.now))))
         (door_view L.counts L.served L.peers (link_now L.Link.counts L.Link.left L.Link.was_read L.Link.held))
         (door_view A.counts A.served A.peers (link_now A.Link.counts A.Link.left A.Link.was_read A.Link.held))
         (tick_view T.counts T.beats) worker.old worker.new }
@@ -144,7 +145,8 @@ where
         threads,
         &|_, worker: &mut Worker<C, L, A, T>|
             requires { IsReady room.now worker.old }
-            ensures { Works room.entry.now (core_view (C.sent (C.made (start_of room.entry.now))) (C.is_live (C.made (start_of room.entry.now))) (C.is_over (C.made (start_of room.entry.now))))
+            ensures { Works room.entry.now (core_view (C.sent (C.made (start_of room.entry.now)))
+                (C.is_live (C.made (start_of room.entry.now))) (C.is_over (C.made (start_of room.entry.now))))
                 (door_view L.counts L.served L.peers (link_now L.Link.counts L.Link.left L.Link.was_read L.Link.held))
                 (door_view A.counts A.served A.peers (link_now A.Link.counts A.Link.left A.Link.was_read A.Link.held))
                 (tick_view T.counts T.beats) worker.old worker.new }

@@ -21,8 +21,8 @@ returns-in-Game g c =
     let d = g.L.Listener in
     let run = c.attend-worker in
     let w = c.args.worker.now in
-    let all = gathers_links now told live over Main (λ conn before e. g.met.C.Core.sent_grows m before e conn) (λ conn before e within
-    dead. g.met.C.Core.ended_stays m before e conn within dead)
+    let all = gathers_links now told live over Main (λ conn before e. g.met.C.Core.sent_grows m before e conn)
+    (λ conn before e within dead. g.met.C.Core.ended_stays m before e conn within dead)
     (λ before e is. (g.met.C.Core.over_is_last m before e 0 is).1) w.pass run.new.pass (d.counts c.in-Game.listener)
     (d.counts run.new.listener) (d.served c.in-Game.listener) (d.served run.new.listener)
     (d.peers c.in-Game.listener) (d.peers run.new.listener) run.result run.ensures.attended in
@@ -48,8 +48,8 @@ returns-in-Admin g c =
     let d = g.A.Listener in
     let run = c.attend-worker-in-Admin in
     let w = c.args.worker.now in
-    let all = gathers_links now told live over Side (λ conn before e. g.met.C.Core.sent_grows m before e conn) (λ conn before e within
-    dead. g.met.C.Core.ended_stays m before e conn within dead)
+    let all = gathers_links now told live over Side (λ conn before e. g.met.C.Core.sent_grows m before e conn)
+    (λ conn before e within dead. g.met.C.Core.ended_stays m before e conn within dead)
     (λ before e is. (g.met.C.Core.over_is_last m before e 0 is).1) w.pass run.new.pass (d.counts c.in-Admin.listener)
     (d.counts run.new.listener) (d.served c.in-Admin.listener) (d.served run.new.listener)
     (d.peers c.in-Admin.listener) (d.peers run.new.listener) run.result run.ensures.attended in
@@ -81,8 +81,9 @@ returns-in-Ticker g c =
       framer = c.requires.framer;
       part = all.0;
       own_events = all.1;
-      gathers = λ history longer. subst (λ (r : Role g.row.L.Denot g.row.A.Denot g.row.T.Denot). Gathers (core_view (g.C.Core.sent m)
-          (g.C.Core.is_live m) over) (door_view g.L.Listener.counts g.L.Listener.served g.L.Listener.peers game)
+      gathers = λ history longer. subst (λ (r : Role g.row.L.Denot g.row.A.Denot g.row.T.Denot). Gathers
+          (core_view (g.C.Core.sent m) (g.C.Core.is_live m) over) (door_view g.L.Listener.counts g.L.Listener.served g.L.Listener.peers
+          game)
           (door_view g.A.Listener.counts g.A.Listener.served g.A.Listener.peers admin) (tick_view t.counts t.beats) history r
           (role.Ticker run.new.ticker) all.0 c.tick_end-worker.result) (sym c.in-Ticker.is)
           (run.result, all.2 history longer, c.tick_end-worker.ensures);
