@@ -28,7 +28,6 @@ fn standing(status: Status) -> Standing {
         waiting: 0,
         acked: 10,
         told: 20,
-        token: 7,
     }
 }
 
@@ -73,13 +72,7 @@ fn joining(digest: Digest) -> [(GameMsg, &'static [usize]); 8] {
         (GameMsg::ClientCompanyPassword { digest }, &[3]),
         (GameMsg::ClientGetmap, &[4]),
         (GameMsg::ClientMapOk, &[7]),
-        (
-            GameMsg::ClientAck {
-                frame: 15,
-                token: 7,
-            },
-            &[8, 9],
-        ),
+        (GameMsg::ClientAck { frame: 15 }, &[8, 9]),
     ]
 }
 
