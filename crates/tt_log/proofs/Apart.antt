@@ -103,18 +103,18 @@ says c t to w not_in = passes c t _ t refl (λ a. record { apart = a; misses = (
 abbrev PassesBy : ℕ → Table → List Step → Table → Type 0
 PassesBy c t steps u = Passes c t steps u
 
-apart-base : (c : ℕ) (o : Origin) → Base o (PassesBy c)
-apart-base c o = record {
+apart-base : (c : ℕ) (o : Origin) (e : Event) → Base o e (PassesBy c)
+apart-base c o e = record {
   still = λ t. still-passes c t;
   joins = λ t u v xs ys a b. then-passes c t u v xs ys a b;
-  turns = λ k t m on may. passes c t _ _ refl (λ a. record { apart = put-apart c (turned k t m) t a; misses = own-missed c m.conn (told_with k o t m) (among-not c m t.members on a.members) });
+  turns = λ k t m on may by. passes c t _ _ refl (λ a. record { apart = put-apart c (turned k t m) t a; misses = own-missed c m.conn (told_with k o t m) (among-not c m t.members on a.members) });
   tells_one = λ t m msg on talk. says c t (m.conn ∷ []) _ (λ a. (among-not c m t.members on a.members, tt));
   tells_some = λ t to w there news. says c t to w (λ a. there c (playing-not c t a));
   tells_admins = λ t to msg there. says c t to _ (λ a. there c a.admins);
 }
 
-apart-moves : (c : ℕ) (o : Origin) → Moves o (PassesBy c)
-apart-moves c o = record {
+apart-moves : (c : ℕ) (o : Origin) (e : Event) → Moves o e (PassesBy c)
+apart-moves c o e = record {
   moving = λ v t m on may. passes c t _ _ refl (λ a. record { apart = put-apart c (moved v t m) t a; misses = moved-missed c v m (among-not c m t.members on a.members) });
   recalls = λ t m on at. says c t (m.conn ∷ []) _ (λ a. (among-not c m t.members on a.members, tt));
   waits_on = λ t conn n there. says c t (conn ∷ []) _ (λ a. there c a.queue);
@@ -127,14 +127,14 @@ apart-moves c o = record {
   greets = λ t m on at. passes c t _ _ refl (λ a. record { apart = put-apart c _ t a; misses = ((among-not c m t.members on a.members, tt), tt) });
 }
 
-apart-walk : (c : ℕ) (o : Origin) → Walk o (PassesBy c)
-apart-walk c o = record {
-  base = apart-base c o;
+apart-walk : (c : ℕ) (o : Origin) (e : Event) → Walk o e (PassesBy c)
+apart-walk c o e = record {
+  base = apart-base c o e;
   locks = λ t m digest on allowed. passes c t [] _ refl (λ a. record { apart = record { members = a.members; admins = a.admins; queue = a.queue }; misses = tt });
   orders = λ t k is. passes c t [] _ refl (λ a. record { apart = record { members = a.members; admins = a.admins; queue = a.queue }; misses = tt });
-  asks_map = λ t m on at. of-asks o (PassesBy c) (apart-base c o) (apart-moves c o) t m on at;
-  enters_game = λ t m on at. of-enters o (PassesBy c) (apart-base c o) (apart-moves c o) t m on at;
-  goes = λ t m farewell on. of-leaves o (PassesBy c) (apart-base c o) (apart-moves c o) t m farewell on;
+  asks_map = λ t m on at. of-asks o e (PassesBy c) (apart-base c o e) (apart-moves c o e) t m on at;
+  enters_game = λ t m on at. of-enters o e (PassesBy c) (apart-base c o e) (apart-moves c o e) t m on at;
+  goes = λ t m farewell on. of-leaves o e (PassesBy c) (apart-base c o e) (apart-moves c o e) t m farewell on;
   goes_aside = λ t b on. passes c t _ _ refl (λ a. record { apart = record { members = a.members; admins = all-of-filter (λ (d : Admin). d.conn) (λ d. not (is_admin_on b.conn d)) c t.admins a.admins; queue = a.queue }; misses = ((admin-not c b t.admins on a.admins, tt), tt) });
 }
 
@@ -163,27 +163,27 @@ aside-passes false c t = record {
   };
 }
 
-apart-doors : (c : ℕ) (o : Origin) → Doors o (PassesBy c)
-apart-doors c o = record { comes = λ t. arrives-passes (nat_le o.setup.max_clients (length t.members)) c t; comes_aside = λ t. aside-passes (nat_le most_admins (length t.admins)) c t }
+apart-doors : (c : ℕ) (o : Origin) (e : Event) → Doors o e (PassesBy c)
+apart-doors c o e = record { comes = λ t. arrives-passes (nat_le o.setup.max_clients (length t.members)) c t; comes_aside = λ t. aside-passes (nat_le most_admins (length t.admins)) c t }
 
 running-passes : (b : Bool) (c : ℕ) (o : Origin) (t : Table) → Passes c t [] (running b o t)
 running-passes true c o t = passes c t [] _ refl (λ a. record { apart = record { members = a.members; admins = a.admins; queue = a.queue }; misses = tt })
 running-passes false c o t = passes c t [] _ refl (λ a. record { apart = record { members = a.members; admins = a.admins; queue = a.queue }; misses = tt })
 
-apart-ticks : (c : ℕ) (o : Origin) → Ticks o (PassesBy c)
-apart-ticks c o = record {
+apart-ticks : (c : ℕ) (o : Origin) (e : Event) → Ticks o e (PassesBy c)
+apart-ticks c o e = record {
   stamping = λ t. passes c t [] _ refl (λ a. record { apart = record { members = subst (λ (xs : List ℕ). NotIn c xs) (sym (map-same (λ (m : Member). m.conn) drawn t.members (λ m. refl))) a.members; admins = a.admins; queue = a.queue }; misses = tt });
   running = λ t b is. running-passes b c o t;
 }
 
-apart-closing : (c : ℕ) (o : Origin) → Closing o (PassesBy c)
-apart-closing c o = record {
-  charges = λ t e. passes c t [] _ refl (λ a. record { apart = record { members = a.members; admins = a.admins; queue = a.queue }; misses = tt });
+apart-closing : (c : ℕ) (o : Origin) (e : Event) → Closing o e (PassesBy c)
+apart-closing c o e = record {
+  charges = λ t. passes c t [] _ refl (λ a. record { apart = record { members = a.members; admins = a.admins; queue = a.queue }; misses = tt });
   closes = λ t. passes c t _ _ refl (λ a. record { apart = record { members = tt; admins = tt; queue = tt }; misses = (a.members, (a.admins, (all-append (IsOther c) (conns t.members) (admin_conns t.admins) a.members a.admins, tt))) });
 }
 
 pub step-passes : (c : ℕ) (o : Origin) (e : Event) (t : Table) → Passes c t (deed o e t).told (stepped o t e)
-step-passes c o e t = of-deed o (PassesBy c) (apart-walk c o) (apart-ticks c o) (apart-doors c o) (apart-closing c o) e t
+step-passes c o e t = of-deed o e (PassesBy c) (apart-walk c o e) (apart-ticks c o e) (apart-doors c o e) (apart-closing c o e) t
 
 -- ---- who is apart is not live, and hears nothing
 

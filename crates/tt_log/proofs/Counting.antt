@@ -26,18 +26,18 @@ pub record SameCounts (t u : Table) : Type 0 where
 abbrev KeepsCounts : Table → List Step → Table → Type 0
 KeepsCounts t steps u = SameCounts t u
 
-counts-base : (o : Origin) → Base o KeepsCounts
-counts-base o = record {
+counts-base : (o : Origin) (e : Event) → Base o e KeepsCounts
+counts-base o e = record {
   still = λ t. record { openings = refl; cost = refl };
   joins = λ t u v xs ys a b. record { openings = b.openings ∙ a.openings; cost = b.cost ∙ a.cost };
-  turns = λ k t m on may. record { openings = refl; cost = refl };
+  turns = λ k t m on may by. record { openings = refl; cost = refl };
   tells_one = λ t m msg on talk. record { openings = refl; cost = refl };
   tells_some = λ t to w there news. record { openings = refl; cost = refl };
   tells_admins = λ t to msg there. record { openings = refl; cost = refl };
 }
 
-counts-moves : (o : Origin) → Moves o KeepsCounts
-counts-moves o = record {
+counts-moves : (o : Origin) (e : Event) → Moves o e KeepsCounts
+counts-moves o e = record {
   moving = λ v t m on may. record { openings = refl; cost = refl };
   recalls = λ t m on at. record { openings = refl; cost = refl };
   waits_on = λ t conn n there. record { openings = refl; cost = refl };
@@ -47,14 +47,14 @@ counts-moves o = record {
   greets = λ t m on at. record { openings = refl; cost = refl };
 }
 
-counts-walk : (o : Origin) → Walk o KeepsCounts
-counts-walk o = record {
-  base = counts-base o;
+counts-walk : (o : Origin) (e : Event) → Walk o e KeepsCounts
+counts-walk o e = record {
+  base = counts-base o e;
   locks = λ t m digest on allowed. record { openings = refl; cost = refl };
   orders = λ t c is. record { openings = refl; cost = refl };
-  asks_map = λ t m on at. of-asks o KeepsCounts (counts-base o) (counts-moves o) t m on at;
-  enters_game = λ t m on at. of-enters o KeepsCounts (counts-base o) (counts-moves o) t m on at;
-  goes = λ t m farewell on. of-leaves o KeepsCounts (counts-base o) (counts-moves o) t m farewell on;
+  asks_map = λ t m on at. of-asks o e KeepsCounts (counts-base o e) (counts-moves o e) t m on at;
+  enters_game = λ t m on at. of-enters o e KeepsCounts (counts-base o e) (counts-moves o e) t m on at;
+  goes = λ t m farewell on. of-leaves o e KeepsCounts (counts-base o e) (counts-moves o e) t m farewell on;
   goes_aside = λ t a on. record { openings = refl; cost = refl };
 }
 
@@ -62,8 +62,8 @@ run-counts : (b : Bool) (o : Origin) (t : Table) → SameCounts t (running b o t
 run-counts true o t = record { openings = refl; cost = refl }
 run-counts false o t = record { openings = refl; cost = refl }
 
-counts-ticks : (o : Origin) → Ticks o KeepsCounts
-counts-ticks o = record { stamping = λ t. record { openings = refl; cost = refl }; running = λ t b is. run-counts b o t }
+counts-ticks : (o : Origin) (e : Event) → Ticks o e KeepsCounts
+counts-ticks o e = record { stamping = λ t. record { openings = refl; cost = refl }; running = λ t b is. run-counts b o t }
 
 -- ---- an event
 
@@ -92,7 +92,7 @@ aside-counts false t = (refl, refl)
 
 still-counts : (o : Origin) (e : Event) (t : Table) → is_tick e ≡ false → is_open e ≡ false → Counts e t (by_event o e t).table
 still-counts o e t still shut =
-    let same : SameCounts t (by_event o e t).table = of-event o KeepsCounts (counts-walk o) e t still shut in
+    let same : SameCounts t (by_event o e t).table = of-event o e KeepsCounts (counts-walk o e) t still shut in
     let clock = event-same o e t still in
     record {
       openings = omega (arith, same.openings, none-if (is_open e) shut);
@@ -107,7 +107,7 @@ event-counts o (Packet conn kind body) t = still-counts o (Packet conn kind body
 event-counts o (Broken conn) t = still-counts o (Broken conn) t refl refl
 event-counts o (Shut conn) t = still-counts o (Shut conn) t refl refl
 event-counts o Tick t =
-    let same : SameCounts t (by_event o Tick t).table = of-ticked o KeepsCounts (counts-walk o) (counts-ticks o) t in
+    let same : SameCounts t (by_event o Tick t).table = of-ticked o Tick KeepsCounts (counts-walk o Tick) (counts-ticks o Tick) t in
     record { openings = none-more _ _ same.openings; frame = (ticked-is o t).frame; cost = same.cost }
 event-counts o Stop t = still-counts o Stop t refl refl
 

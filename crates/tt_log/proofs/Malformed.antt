@@ -8,18 +8,18 @@ use Rattle.tt_edge.specs.declared.event.Event.TheVariants.{Open, Packet, Broken,
 use Rattle.tt_edge.specs.Event.{event_cost, is_tick}
 use Rattle.tt_game.specs.declared.message.GameMsg.{GameMsg}
 use Rattle.tt_game.specs.declared.message.GameMsg.TheVariants.{ServerError}
-use Rattle.tt_rules.specs.declared.status.Status.TheVariants.{Map}
+use Rattle.tt_rules.specs.declared.status.Status.TheVariants.{Map, MapWait}
 use Rattle.tt_rules.specs.declared.status.Verdict.{Verdict}
 use Rattle.tt_rules.specs.declared.status.Verdict.TheVariants.{Ends}
 use Rattle.tt_log.specs.declared.deed.Step.{Step}
 use Rattle.tt_log.specs.declared.deed.What.{What}
 use Rattle.tt_log.specs.declared.deed.What.TheVariants.{Msg, ToAdmin, MapBegin, End}
 use Rattle.tt_log.specs.Origin.{Origin}
-use Rattle.tt_log.specs.Member.{Member, is_playing, is_welcomed}
+use Rattle.tt_log.specs.Member.{Member, is_in, is_playing, is_welcomed}
 use Rattle.tt_log.specs.Admin.{Admin, is_automatic, client_updates}
 use Rattle.tt_log.specs.Table.{Table, member_of, admin_of, is_live, with_member, without_member, playing, is_on, is_admin_on}
 use Rattle.tt_log.specs.Deed.{Said, game, Deed, ◌▹◌, where_, where_some, tells, tells_what}
-use Rattle.tt_log.specs.Queue.{moved_up, left_place, leaves_queue, begins, begins_for, downloading, waits}
+use Rattle.tt_log.specs.Queue.{moved_up, left_place, leaves_queue, begins, begins_for, begins_where, downloading, waits}
 use Rattle.tt_log.specs.Ending.{Failing, tells_farewell, leaves, ends}
 use Rattle.tt_log.specs.Judged.{judged}
 use Rattle.tt_log.specs.Desk.{admin_hears}
@@ -62,9 +62,13 @@ silent-told c o f (s ∷ steps) a = silent-step c o f s (filled o f steps) a.0 (
 
 -- ---- the queue moves
 
-begun-silent : (x : Option Member) (c conn : ℕ) (t : Table) → member_of t conn ≡ x → IsOther c conn → Silent c (where_some x begins_for t).told
+where-silent : (b : Bool) (c : ℕ) (m : Member) (t : Table) → IsOther c m.conn → Silent c (where_ b (begins_for m) t).told
+where-silent true c m t other = (inl (other, tt), tt)
+where-silent false c m t other = tt
+
+begun-silent : (x : Option Member) (c conn : ℕ) (t : Table) → member_of t conn ≡ x → IsOther c conn → Silent c (where_some x begins_where t).told
 begun-silent None c conn t is other = tt
-begun-silent (Some m) c conn t is other = (inl (ap (λ (y : ℕ). y == c) (found-on conn t.members m is) ∙ other, tt), tt)
+begun-silent (Some m) c conn t is other = where-silent (is_in MapWait m) c m t (ap (λ (y : ℕ). y == c) (found-on conn t.members m is) ∙ other)
 
 moved-silent : (c place : ℕ) (xs : List ℕ) (t : Table) → NotIn c xs → Silent c (moved_up place xs t).told
 moved-silent c place [] t none = tt
@@ -92,18 +96,18 @@ KeepsRest c t steps u = Rest c t u
 rest-put : (c : ℕ) (n : Member) (t : Table) → NotIn c (conns t.members) → NotIn c (conns (put n t.members))
 rest-put c n t a = subst (λ (xs : List ℕ). NotIn c xs) (sym (put-conns n t.members)) a
 
-rest-base : (c : ℕ) (o : Origin) → Base o (KeepsRest c)
-rest-base c o = record {
+rest-base : (c : ℕ) (o : Origin) (e : Event) → Base o e (KeepsRest c)
+rest-base c o e = record {
   still = λ t. record { admins = refl; own = refl; digests = refl; away = λ a. a };
   joins = λ t u v xs ys a b. record { admins = b.admins ∙ a.admins; own = b.own ∙ a.own; digests = b.digests ∙ a.digests; away = λ h. b.away (a.away h) };
-  turns = λ k t m on may. record { admins = refl; own = refl; digests = refl; away = λ a. rest-put c (turned k t m) t a };
+  turns = λ k t m on may by. record { admins = refl; own = refl; digests = refl; away = λ a. rest-put c (turned k t m) t a };
   tells_one = λ t m msg on talk. record { admins = refl; own = refl; digests = refl; away = λ a. a };
   tells_some = λ t to w there news. record { admins = refl; own = refl; digests = refl; away = λ a. a };
   tells_admins = λ t to msg there. record { admins = refl; own = refl; digests = refl; away = λ a. a };
 }
 
-rest-moves : (c : ℕ) (o : Origin) → Moves o (KeepsRest c)
-rest-moves c o = record {
+rest-moves : (c : ℕ) (o : Origin) (e : Event) → Moves o e (KeepsRest c)
+rest-moves c o e = record {
   moving = λ v t m on may. record { admins = refl; own = refl; digests = refl; away = λ a. rest-put c (moved v t m) t a };
   recalls = λ t m on at. record { admins = refl; own = refl; digests = refl; away = λ a. a };
   waits_on = λ t conn n there. record { admins = refl; own = refl; digests = refl; away = λ a. a };
@@ -160,9 +164,13 @@ module _ (m : Member) (code : ℕ) (over : Bool) (o : Origin) (f : Filling) wher
   abbrev AllEcho : List Step → Type 0
   AllEcho steps = AllByRecursion (Echoes m code over o f) steps
 
-  begun-echo : (x : Option Member) (t : Table) → AllEcho (where_some x begins_for t).told
+  where-echo : (b : Bool) (n : Member) (t : Table) → AllEcho (where_ b (begins_for n) t).told
+  where-echo true n t = ((tt, (tt, tt)), tt)
+  where-echo false n t = tt
+
+  begun-echo : (x : Option Member) (t : Table) → AllEcho (where_some x begins_where t).told
   begun-echo None t = tt
-  begun-echo (Some n) t = ((tt, (tt, tt)), tt)
+  begun-echo (Some n) t = where-echo (is_in MapWait n) n t
 
   moved-echo : (place : ℕ) (xs : List ℕ) (t : Table) → AllEcho (moved_up place xs t).told
   moved-echo place [] t = tt
@@ -204,9 +212,13 @@ begun-here true c conn t u m n frame is found there =
     )
 begun-here false c conn t u m n frame is found there = (n, find-put-other (downloading u m) c u.members is ∙ there, inl refl)
 
-begun-stays : (x : Option Member) (c conn : ℕ) (t u : Table) → u.frame ≡ t.frame → member_of u conn ≡ x → Stays c t u (where_some x begins_for u).table
-begun-stays None c conn t u frame is n there = (n, there, inl refl)
-begun-stays (Some m) c conn t u frame is n there = begun-here (m.conn == c) c conn t u m n frame refl is there
+where-stays : (b : Bool) (c conn : ℕ) (t u : Table) (m : Member) → u.frame ≡ t.frame → member_of u conn ≡ Some m → Stays c t u (where_ b (begins_for m) u).table
+where-stays true c conn t u m frame is = λ n there. begun-here (m.conn == c) c conn t u m n frame refl is there
+where-stays false c conn t u m frame is = λ n there. (n, there, inl refl)
+
+begun-stays : (x : Option Member) (c conn : ℕ) (t u : Table) → u.frame ≡ t.frame → member_of u conn ≡ x → Stays c t u (where_some x begins_where u).table
+begun-stays None c conn t u frame is = λ n there. (n, there, inl refl)
+begun-stays (Some m) c conn t u frame is = where-stays (is_in MapWait m) c conn t u m frame is
 
 later-stays : (c place : ℕ) (xs : List ℕ) (t : Table) → (moved_up (suc place) xs t).table ≡ t
 later-stays c place [] t = refl
@@ -250,9 +262,13 @@ closed-game : (b : Bool) (t : Table) → IsSameGame t (where_ b shut_down t).tab
 closed-game true t = record { frame = refl; top = refl; journal = refl; own = refl; digests = refl; tokens = refl }
 closed-game false t = record { frame = refl; top = refl; journal = refl; own = refl; digests = refl; tokens = refl }
 
-begun-tokens : (x : Option Member) (t : Table) → (where_some x begins_for t).table.tokens ≡ t.tokens
+where-tokens : (b : Bool) (m : Member) (t : Table) → (where_ b (begins_for m) t).table.tokens ≡ t.tokens
+where-tokens true m t = refl
+where-tokens false m t = refl
+
+begun-tokens : (x : Option Member) (t : Table) → (where_some x begins_where t).table.tokens ≡ t.tokens
 begun-tokens None t = refl
-begun-tokens (Some m) t = refl
+begun-tokens (Some m) t = where-tokens (is_in MapWait m) m t
 
 moved-tokens : (place : ℕ) (xs : List ℕ) (t : Table) → (moved_up place xs t).table.tokens ≡ t.tokens
 moved-tokens place [] t = refl
@@ -273,7 +289,7 @@ module _ (o : Origin) (t : Table) (m : Member) (code : ℕ) (on : On t m) (apart
   rest-of : (c : ℕ) → Rest c (gone m t) Left
   rest-of c =
       let u : Table = gone m t in
-      subst (λ (v : Table). Rest c u (leaves_queue m.conn v).table) (sym (farewell-told (is_welcomed m) m code u)) (of-leaves-queue o (KeepsRest c) (rest-base c o) (rest-moves c o) m.conn u)
+      subst (λ (v : Table). Rest c u (leaves_queue m.conn v).table) (sym (farewell-told (is_welcomed m) m code u)) (of-leaves-queue o Stop (KeepsRest c) (rest-base c o Stop) (rest-moves c o Stop) m.conn u)
 
   left-none : NotIn m.conn (conns Left.members)
   left-none = (rest-of m.conn).away (none-left m.conn t.members)
@@ -284,7 +300,7 @@ module _ (o : Origin) (t : Table) (m : Member) (code : ℕ) (on : On t m) (apart
   left-game : IsSameGame t Left
   left-game =
       let u : Table = gone m t in
-      let clock : SameClock t Left = of-leaves o KeepsClock (same-base o) (same-moves o) t m (Failing code) on in
+      let clock : SameClock t Left = of-leaves o Stop KeepsClock (same-base o Stop) (same-moves o Stop) t m (Failing code) on in
       let rest : Rest 0 u Left = rest-of 0 in
       record {
         frame = clock.frame;

@@ -141,18 +141,18 @@ none-ordered openings last some = record { rise = tt; under = tt; clients = tt; 
 
 -- ---- the walk
 
-order-base : (o : Origin) → Base o KeepsOrder
-order-base o = record {
+order-base : (o : Origin) (e : Event) → Base o e KeepsOrder
+order-base o e = record {
   still = λ t h. h;
   joins = λ t u v xs ys a b h. b (a h);
-  turns = λ c t m on may h. put-ordered t (turned c t m) m on (turned-conn c t m) (turned-client c t m) h;
+  turns = λ c t m on may by h. put-ordered t (turned c t m) m on (turned-conn c t m) (turned-client c t m) h;
   tells_one = λ t m msg on talk h. h;
   tells_some = λ t to w there news h. h;
   tells_admins = λ t to msg there h. h;
 }
 
-order-moves : (o : Origin) → Moves o KeepsOrder
-order-moves o = record {
+order-moves : (o : Origin) (e : Event) → Moves o e KeepsOrder
+order-moves o e = record {
   moving = λ v t m on may h. put-ordered t (moved v t m) m on (moved-conn v t m) (moved-client v t m) h;
   recalls = λ t m on at h. h;
   waits_on = λ t conn n there h. h;
@@ -162,14 +162,14 @@ order-moves o = record {
   greets = λ t m on at h. put-ordered t _ m on refl refl h;
 }
 
-order-walk : (o : Origin) → Walk o KeepsOrder
-order-walk o = record {
-  base = order-base o;
+order-walk : (o : Origin) (e : Event) → Walk o e KeepsOrder
+order-walk o e = record {
+  base = order-base o e;
   locks = λ t m digest on allowed h. h;
   orders = λ t c is h. h;
-  asks_map = λ t m on at. of-asks o KeepsOrder (order-base o) (order-moves o) t m on at;
-  enters_game = λ t m on at. of-enters o KeepsOrder (order-base o) (order-moves o) t m on at;
-  goes = λ t m farewell on. of-leaves o KeepsOrder (order-base o) (order-moves o) t m farewell on;
+  asks_map = λ t m on at. of-asks o e KeepsOrder (order-base o e) (order-moves o e) t m on at;
+  enters_game = λ t m on at. of-enters o e KeepsOrder (order-base o e) (order-moves o e) t m on at;
+  goes = λ t m farewell on. of-leaves o e KeepsOrder (order-base o e) (order-moves o e) t m farewell on;
   goes_aside = λ t a on h. fewer-admins (λ b. not (is_admin_on a.conn b)) t h;
 }
 
@@ -223,11 +223,11 @@ aside-ordered false t h =
       apart = all-more (λ a. NotIn a (conns t.members)) (λ (a : Admin). a.conn) t.admins new h.apart (under-not t.openings (t.openings + 1) (conns t.members) (omega arith) h.under);
     }
 
-order-doors : (o : Origin) → Doors o KeepsOrder
-order-doors o = record { comes = λ t h. arrives-ordered (nat_le o.setup.max_clients (length t.members)) t h; comes_aside = λ t h. aside-ordered (nat_le most_admins (length t.admins)) t h }
+order-doors : (o : Origin) (e : Event) → Doors o e KeepsOrder
+order-doors o e = record { comes = λ t h. arrives-ordered (nat_le o.setup.max_clients (length t.members)) t h; comes_aside = λ t h. aside-ordered (nat_le most_admins (length t.admins)) t h }
 
-order-ticks : (o : Origin) → Ticks o KeepsOrder
-order-ticks o = record {
+order-ticks : (o : Origin) (e : Event) → Ticks o e KeepsOrder
+order-ticks o e = record {
   stamping = λ t h. same-ordered t.openings t.clients _ _ _ _ _ (map-same (λ (m : Member). m.conn) drawn t.members (λ m. refl)) (map-same (λ (m : Member). m.client) drawn t.members (λ m. refl)) h;
   running = λ t b is. run-ordered b t;
 }
@@ -236,11 +236,11 @@ order-ticks o = record {
     run-ordered true t h = h
     run-ordered false t h = h
 
-order-closing : (o : Origin) → Closing o KeepsOrder
-order-closing o = record { charges = λ t e h. h; closes = λ t h. none-ordered t.openings t.clients h.some }
+order-closing : (o : Origin) (e : Event) → Closing o e KeepsOrder
+order-closing o e = record { charges = λ t h. h; closes = λ t h. none-ordered t.openings t.clients h.some }
 
 pub step-ordered : (o : Origin) (e : Event) (t : Table) → Ordered t → Ordered (stepped o t e)
-step-ordered o e t h = of-deed o KeepsOrder (order-walk o) (order-ticks o) (order-doors o) (order-closing o) e t h
+step-ordered o e t h = of-deed o e KeepsOrder (order-walk o e) (order-ticks o e) (order-doors o e) (order-closing o e) t h
 
 pub is-ordered : (o : Origin) (es : List Event) → Ordered (table_of o es)
 is-ordered o es = from-all o Ordered (step-ordered o) es (first o) (none-ordered 0 1 (omega arith))

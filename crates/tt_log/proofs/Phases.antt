@@ -15,12 +15,12 @@ use Rattle.tt_log.specs.declared.deed.What.{What}
 use Rattle.tt_log.specs.declared.deed.What.TheVariants.{Msg, ToAdmin, MapBegin, MapPieces, Sync, Entries, Stamp, End}
 use Rattle.tt_rules.specs.declared.status.Status.TheVariants.{MapWait}
 use Rattle.tt_log.specs.Origin.{Origin}
-use Rattle.tt_log.specs.Member.{Member, is_playing, is_welcomed, new_member}
+use Rattle.tt_log.specs.Member.{Member, is_in, is_playing, is_welcomed, new_member}
 use Rattle.tt_log.specs.Table.{Table, member_of, with_member, without_member, playing, welcomed, is_on, now_in}
 use Rattle.tt_log.specs.Deed.{game, Deed, ◌▹◌, where_, where_some, becomes, tells, tells_what, tells_each, tells_playing}
 use Rattle.tt_log.specs.Told.{is_entry}
 use Rattle.tt_log.specs.Frames.{tells_fresh}
-use Rattle.tt_log.specs.Queue.{moved_up, left_place, leaves_queue, begins, begins_for, downloading, waits, asks}
+use Rattle.tt_log.specs.Queue.{moved_up, left_place, leaves_queue, begins, begins_for, begins_where, downloading, waits, asks}
 use Rattle.tt_log.specs.Ending.{Farewell, Quitting, Failing, tells_farewell, leaves}
 use Rattle.tt_log.specs.PacketRules.{client_info, enters, acknowledged, closed_token}
 use Rattle.tt_log.specs.Desk.{admin_arrives, admin_opens, counted_aside, most_admins}
@@ -288,12 +288,12 @@ once-within c (y ∷ ys) a = within-one (y == c) c y (place_in c ys) (length ys)
 abbrev pub MayMove : ℕ → Phase → ℕ → Type 0
 MayMove c p x = (x == c) ≡ true → p ≡ Queued
 
-begins-by : (x : Option Member) (c conn : ℕ) (p : Phase) (t : Table) → MayMove c p conn → member_of t conn ≡ x → Has c p t → KeepsBy c p (where_some x begins_for t)
+begins-by : (x : Option Member) (c conn : ℕ) (p : Phase) (t : Table) → MayMove c p conn → member_of t conn ≡ x → Has c p t → KeepsBy c p (where_some x begins_where t)
 begins-by None c conn p t may is h = still-keeps c p t h
-begins-by (Some m) c conn p t may is h = record {
+begins-by (Some m) c conn p t may is h = where-keeps c p (is_in MapWait m) (begins_for m) t h (λ waiting. record {
   holds = put-holds c p (downloading t m) t (λ own. queued-fits p 6 (omega arith) (omega arith) (may (ap (λ (x : ℕ). x == c) (sym (found-on conn t.members m is)) ∙ own))) h;
   quiet = (refl, tt);
-}
+})
 
 pub begins-keeps : (c : ℕ) (p : Phase) (conn : ℕ) (t : Table) → MayMove c p conn → Has c p t → KeepsBy c p (begins conn t)
 begins-keeps c p conn t may h = begins-by (member_of t conn) c conn p t may refl h

@@ -137,19 +137,19 @@ further-then c t u v xs ys a b p h =
     let next : Goes c first.to v.members v.queue ys = b first.to first.holds in
     record { to = next.to; later = later-then p first.to next.to first.later next.later; holds = next.holds; quiet = while-then first.to next.to c xs ys next.later first.quiet next.quiet }
 
-further-base : (c : ℕ) (o : Origin) → Base o (Further c)
-further-base c o = record {
+further-base : (c : ℕ) (o : Origin) (e : Event) → Base o e (Further c)
+further-base c o e = record {
   still = λ t p h. goes-quiet c p t.members t.queue [] h tt;
   joins = λ t u v xs ys a b. further-then c t u v xs ys a b;
-  turns = λ k t m on may p h. goes-quiet c p _ _ _ (put-holds c p (turned k t m) t (turned-suits k c p o t m may (among-all (Suits c p) m t.members on h.suits)) h) (with-quiet k c o t m);
+  turns = λ k t m on may by p h. goes-quiet c p _ _ _ (put-holds c p (turned k t m) t (turned-suits k c p o t m may (among-all (Suits c p) m t.members on h.suits)) h) (with-quiet k c o t m);
   tells_one = λ t m msg on talk p h. goes-quiet c p _ _ _ h (quiet-if c (m.conn ∷ []) (Msg msg) (talk-quiet msg talk), tt);
   tells_some = λ t to w there news p h. news-goes p c t to w there h;
   tells_admins = λ t to msg there p h. goes-quiet c p _ _ _ h (refl, tt);
 }
 
-further-walk : (c : ℕ) (o : Origin) → Walk o (Further c)
-further-walk c o = record {
-  base = further-base c o;
+further-walk : (c : ℕ) (o : Origin) (e : Event) → Walk o e (Further c)
+further-walk c o e = record {
+  base = further-base c o e;
   locks = λ t m digest on allowed p h. goes-quiet c p _ _ [] (record { suits = h.suits; place = h.place }) tt;
   orders = λ t k is p h. goes-quiet c p _ _ [] (record { suits = h.suits; place = h.place }) tt;
   asks_map = λ t m on at p h. asks-by (m.conn == c) c p m t refl at (among-all (Suits c p) m t.members on h.suits) on h;
@@ -162,8 +162,8 @@ run-goes : (b : Bool) (c : ℕ) (o : Origin) (t : Table) → Further c t [] (run
 run-goes true c o t p h = goes-quiet c p _ _ [] (record { suits = h.suits; place = h.place }) tt
 run-goes false c o t p h = goes-quiet c p _ _ [] (record { suits = h.suits; place = h.place }) tt
 
-further-ticks : (c : ℕ) (o : Origin) → Ticks o (Further c)
-further-ticks c o = record {
+further-ticks : (c : ℕ) (o : Origin) (e : Event) → Ticks o e (Further c)
+further-ticks c o e = record {
   stamping = λ t p h. goes-quiet c p _ _ [] (record {
     suits = all-map (Suits c p) (Suits c p) drawn t.members (λ m s. s) h.suits;
     place = place-live p c t.queue (conns t.members) (conns (map drawn t.members)) (ap (λ (xs : List ℕ). list_any (λ x. x == c) xs) (map-same (λ (m : Member). m.conn) drawn t.members (λ m. refl))) h.place;
@@ -171,9 +171,9 @@ further-ticks c o = record {
   running = λ t b is. run-goes b c o t;
 }
 
-further-closing : (c : ℕ) (o : Origin) → Closing o (Further c)
-further-closing c o = record {
-  charges = λ t e p h. goes-quiet c p _ _ [] (record { suits = h.suits; place = h.place }) tt;
+further-closing : (c : ℕ) (o : Origin) (e : Event) → Closing o e (Further c)
+further-closing c o e = record {
+  charges = λ t p h. goes-quiet c p _ _ [] (record { suits = h.suits; place = h.place }) tt;
   closes = λ t p h. record { to = InGame; later = later-end p; holds = record { suits = tt; place = tt }; quiet = tt };
 }
 
@@ -215,21 +215,21 @@ Opens c p t other = Unit
 event-goes : (c : ℕ) (p : Phase) (o : Origin) (e : Event) (t : Table) → Opens c p t e → Has c p t → GoesBy c p (by_event o e t)
 event-goes c p o (Open Main peer) t early h = arrives-goes (nat_le o.setup.max_clients (length t.members)) c p t early h
 event-goes c p o (Open Side peer) t early h = aside-goes (nat_le most_admins (length t.admins)) c p t h
-event-goes c p o (Packet conn kind body) t early h = of-event o (Further c) (further-walk c o) (Packet conn kind body) t refl refl p h
-event-goes c p o (Broken conn) t early h = of-event o (Further c) (further-walk c o) (Broken conn) t refl refl p h
-event-goes c p o (Shut conn) t early h = of-event o (Further c) (further-walk c o) (Shut conn) t refl refl p h
-event-goes c p o Tick t early h = of-ticked o (Further c) (further-walk c o) (further-ticks c o) t p h
+event-goes c p o (Packet conn kind body) t early h = of-event o (Packet conn kind body) (Further c) (further-walk c o (Packet conn kind body)) t refl refl p h
+event-goes c p o (Broken conn) t early h = of-event o (Broken conn) (Further c) (further-walk c o (Broken conn)) t refl refl p h
+event-goes c p o (Shut conn) t early h = of-event o (Shut conn) (Further c) (further-walk c o (Shut conn)) t refl refl p h
+event-goes c p o Tick t early h = of-ticked o Tick (Further c) (further-walk c o Tick) (further-ticks c o Tick) t p h
 event-goes c p o Stop t early h = goes-quiet c p _ _ [] h tt
 
-closed-goes : (b : Bool) (c : ℕ) (o : Origin) (t : Table) → Further c t (where_ b shut_down t).told (where_ b shut_down t).table
-closed-goes true c o t = (further-closing c o).closes t
-closed-goes false c o t = (further-base c o).still t
+closed-goes : (b : Bool) (c : ℕ) (o : Origin) (e : Event) (t : Table) → Further c t (where_ b shut_down t).told (where_ b shut_down t).table
+closed-goes true c o e t = (further-closing c o e).closes t
+closed-goes false c o e t = (further-base c o e).still t
 
 taken-goes : (c : ℕ) (p : Phase) (o : Origin) (e : Event) (t : Table) → Opens c p t e → Has c p t → GoesBy c p (taken o e t)
 taken-goes c p o e t early h =
     let d : Deed = by_event o e t ▹ charged e in
-    then-goes c p d (closed o (stops o e t)) (then-goes c p (by_event o e t) (charged e) (event-goes c p o e t early h) (λ q k. (further-closing c o).charges (by_event o e t).table e q k))
-    (λ q k. closed-goes (stops o e t || nat_le o.setup.cost d.table.cost || (d.table.frame == last_frame)) c o d.table q k)
+    then-goes c p d (closed o (stops o e t)) (then-goes c p (by_event o e t) (charged e) (event-goes c p o e t early h) (λ q k. (further-closing c o e).charges (by_event o e t).table q k))
+    (λ q k. closed-goes (stops o e t || nat_le o.setup.cost d.table.cost || (d.table.frame == last_frame)) c o e d.table q k)
 
 pub deed-goes : (c : ℕ) (p : Phase) (o : Origin) (e : Event) (t : Table) → Opens c p t e → Has c p t → GoesBy c p (deed o e t)
 deed-goes c p o e t early h = where-goes c p (takes t e) (taken o e) t h (taken-goes c p o e t early h)

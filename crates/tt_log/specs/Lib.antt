@@ -34,4 +34,5 @@ pub mod Tellings
 pub mod Told
 pub mod Stamps
 pub mod Endings
+pub mod Marks
 pub mod Shown

@@ -9,6 +9,7 @@ ghost use Rattle.tt_log.specs.Admin.{Admin};
 ghost use Rattle.tt_log.specs.Events.{deed, last_frame, stepped, takes};
 ghost use Rattle.tt_log.specs.Endings.{EndsWith, IsEcho, IsSameGame, StaysButForQueue};
 ghost use Rattle.tt_log.specs.Judged.{judged};
+ghost use Rattle.tt_log.specs.Marks.{IsMarked};
 ghost use Rattle.tt_rules.specs.Codes.{illegal_packet};
 ghost use Rattle.tt_rules.specs.declared.status.Verdict.TheVariants.{Ends};
 ghost use Rattle.tt_game.specs.declared.message.GameMsg.TheVariants.{ServerError};
@@ -120,6 +121,12 @@ pub fn malformed_ends_its_own()
         → (table_of o (es ++ e ∷ [])).admins ≡ (table_of o es).admins }
     // The game goes on as it was: its frame, the permitted frame, the journal, the server's own list, passwords and tokens.
     ensures game { (o : Origin) (es : List Event) (e : Event) (m : Member) (code : ℕ) → EndsWith o (table_of o es) e m code → IsSameGame (table_of o es) (table_of o (es ++ e ∷ [])) }
+{}
+
+/// How each member stands: what it acknowledged is at most what it was told, and that at most what is permitted; at most
+/// sixteen of its commands wait, and only in the game; and it has at most one open token, and only in the game.
+pub fn members_are_marked()
+    ensures { (o : Origin) (es : List Event) → AllByRecursion (IsMarked (table_of o es).frame (table_of o es).top) (table_of o es).members }
 {}
 
 /// A connection that ended stays so, and is told no more.
