@@ -103,7 +103,7 @@ pub record IsOrdered (openings last : ℕ) (members numbers admins : List ℕ) :
 abbrev pub Ordered : Table → Type 0
 Ordered t = IsOrdered t.openings t.clients (conns t.members) (clients t.members) (admin_conns t.admins)
 
-abbrev KeepsOrder : Table → List Step → Table → Type 0
+abbrev pub KeepsOrder : Table → List Step → Table → Type 0
 KeepsOrder t steps u = Ordered t → Ordered u
 
 same-ordered : (openings last : ℕ) (xs ys ks ls admins : List ℕ) → ys ≡ xs → ls ≡ ks → IsOrdered openings last xs ks admins → IsOrdered openings last ys ls admins
@@ -141,7 +141,7 @@ none-ordered openings last some = record { rise = tt; under = tt; clients = tt; 
 
 -- ---- the walk
 
-order-base : (o : Origin) (e : Event) → Base o e KeepsOrder
+pub order-base : (o : Origin) (e : Event) → Base o e KeepsOrder
 order-base o e = record {
   still = λ t h. h;
   joins = λ t u v xs ys a b h. b (a h);
@@ -151,7 +151,7 @@ order-base o e = record {
   tells_admins = λ t to msg there h. h;
 }
 
-order-moves : (o : Origin) (e : Event) → Moves o e KeepsOrder
+pub order-moves : (o : Origin) (e : Event) → Moves o e KeepsOrder
 order-moves o e = record {
   moving = λ v t m on may h. put-ordered t (moved v t m) m on (moved-conn v t m) (moved-client v t m) h;
   recalls = λ t m on at h. h;
@@ -162,7 +162,7 @@ order-moves o e = record {
   greets = λ t m on at h. put-ordered t _ m on refl refl h;
 }
 
-order-walk : (o : Origin) (e : Event) → Walk o e KeepsOrder
+pub order-walk : (o : Origin) (e : Event) → Walk o e KeepsOrder
 order-walk o e = record {
   base = order-base o e;
   locks = λ t m digest on allowed h. h;
@@ -223,10 +223,10 @@ aside-ordered false t h =
       apart = all-more (λ a. NotIn a (conns t.members)) (λ (a : Admin). a.conn) t.admins new h.apart (under-not t.openings (t.openings + 1) (conns t.members) (omega arith) h.under);
     }
 
-order-doors : (o : Origin) (e : Event) → Doors o e KeepsOrder
+pub order-doors : (o : Origin) (e : Event) → Doors o e KeepsOrder
 order-doors o e = record { comes = λ t h. arrives-ordered (nat_le o.setup.max_clients (length t.members)) t h; comes_aside = λ t h. aside-ordered (nat_le most_admins (length t.admins)) t h }
 
-order-ticks : (o : Origin) (e : Event) → Ticks o e KeepsOrder
+pub order-ticks : (o : Origin) (e : Event) → Ticks o e KeepsOrder
 order-ticks o e = record {
   stamping = λ t h. same-ordered t.openings t.clients _ _ _ _ _ (map-same (λ (m : Member). m.conn) drawn t.members (λ m. refl)) (map-same (λ (m : Member). m.client) drawn t.members (λ m. refl)) h;
   running = λ t b is. run-ordered b t;
@@ -236,7 +236,7 @@ order-ticks o e = record {
     run-ordered true t h = h
     run-ordered false t h = h
 
-order-closing : (o : Origin) (e : Event) → Closing o e KeepsOrder
+pub order-closing : (o : Origin) (e : Event) → Closing o e KeepsOrder
 order-closing o e = record { charges = λ t h. h; closes = λ t h. none-ordered t.openings t.clients h.some }
 
 pub step-ordered : (o : Origin) (e : Event) (t : Table) → Ordered t → Ordered (stepped o t e)

@@ -10,6 +10,7 @@ ghost use Rattle.tt_log.specs.Events.{deed, last_frame, stepped, takes};
 ghost use Rattle.tt_log.specs.Endings.{EndsWith, IsEcho, IsSameGame, StaysButForQueue};
 ghost use Rattle.tt_log.specs.Judged.{judged};
 ghost use Rattle.tt_log.specs.Marks.{IsMarked};
+ghost use Rattle.tt_log.specs.Stamps.{accepted, stamped_of};
 ghost use Rattle.tt_rules.specs.Codes.{illegal_packet};
 ghost use Rattle.tt_rules.specs.declared.status.Verdict.TheVariants.{Ends};
 ghost use Rattle.tt_game.specs.declared.message.GameMsg.TheVariants.{ServerError};
@@ -127,6 +128,15 @@ pub fn malformed_ends_its_own()
 /// sixteen of its commands wait, and only in the game; and it has at most one open token, and only in the game.
 pub fn members_are_marked()
     ensures { (o : Origin) (es : List Event) → AllByRecursion (IsMarked (table_of o es).frame (table_of o es).top) (table_of o es).members }
+{}
+
+/// Each entry of a client was accepted of its connection, with the company for which it was allowed, and stamped once: what was
+/// accepted of a member is, in order, what was stamped of it, and then what waits.
+pub fn stamped_once()
+    ensures clients { (o : Origin) (es : List Event) (conn : ℕ) (m : Member) → member_of (table_of o es) conn ≡ Some m
+        → accepted o es conn ≡ stamped_of m.client (journal_of o es) ++ m.waiting }
+    // Every sender is the server, or a client number that was given.
+    ensures senders { (o : Origin) (es : List Event) → AllByRecursion (λ (e : Entry). e.sender ≤ (table_of o es).clients) (journal_of o es) }
 {}
 
 /// A connection that ended stays so, and is told no more.
