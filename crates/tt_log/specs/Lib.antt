@@ -35,4 +35,5 @@ pub mod Told
 pub mod Stamps
 pub mod Endings
 pub mod Marks
+pub mod Foundings
 pub mod Shown

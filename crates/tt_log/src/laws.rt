@@ -10,6 +10,10 @@ ghost use Rattle.tt_log.specs.Events.{deed, last_frame, stepped, takes};
 ghost use Rattle.tt_log.specs.Endings.{EndsWith, IsEcho, IsSameGame, StaysButForQueue};
 ghost use Rattle.tt_log.specs.Judged.{judged};
 ghost use Rattle.tt_log.specs.Marks.{IsMarked};
+ghost use Rattle.tt_log.specs.Foundings.{foundings_in};
+ghost use Rattle.tt_log.specs.Tick.{foundings};
+ghost use Rattle.tt_rules.specs.Companies.{living};
+ghost use Rattle.tt_world.specs.World.{WorldState};
 ghost use Rattle.tt_log.specs.Stamps.{accepted, stamped_of};
 ghost use Rattle.tt_rules.specs.Codes.{illegal_packet};
 ghost use Rattle.tt_rules.specs.declared.status.Verdict.TheVariants.{Ends};
@@ -137,6 +141,11 @@ pub fn stamped_once()
         → accepted o es conn ≡ stamped_of m.client (journal_of o es) ++ m.waiting }
     // Every sender is the server, or a client number that was given.
     ensures senders { (o : Origin) (es : List Event) → AllByRecursion (λ (e : Entry). e.sender ≤ (table_of o es).clients) (journal_of o es) }
+{}
+
+/// Which companies a frame founds, and for whom, follows from the companies that live and the entries alone.
+pub fn foundings_are_the_worlds()
+    ensures { (w : WorldState) (entries : List Entry) → foundings (living w) entries ≡ foundings_in w entries }
 {}
 
 /// A connection that ended stays so, and is told no more.
