@@ -80,7 +80,8 @@ pub data Move : Type 0 where
 abbrev pub Asks : Origin → Table → Member → List ℕ → ℕ → Type 0
 Asks o t m name asked =
     ((name ≡ m.name) × (asked ≡ m.asked) × (2 ≤ rank m.status) × (rank m.status ≤ 3))
-    ⊎ ((rank m.status ≡ 0) × ((revision : List ℕ) × (grf : ℕ) × (wanted : List ℕ) × (name ≡ given_name t m.conn wanted) × Allows o t m (ClientJoin revision grf wanted asked)))
+    ⊎ ((rank m.status ≡ 0) × ((revision : List ℕ) × (grf : ℕ) × (wanted : List ℕ) × (name ≡ given_name t m.conn wanted)
+        × Allows o t m (ClientJoin revision grf wanted asked)))
 
 -- when it may change so
 abbrev pub May : Origin → Table → Member → Change → Type 0
@@ -90,7 +91,8 @@ May o t m gets_token = (8 ≤ rank m.status) × (m.token ≡ 0)
 May o t m gets_frame = 8 ≤ rank m.status
 May o t m (answers frame token) = Allows o t m (ClientAck frame token)
 May o t m plays = rank m.status ≡ 8
-May o t m (commands company code number to text command) = (command_of code number to text ≡ Some command) × Allows o t m (ClientCommand company code number to text)
+May o t m (commands company code number to text command) = (command_of code number to text ≡ Some command)
+    × Allows o t m (ClientCommand company code number to text)
 May o t m (has_name name) = Allows o t m (ClientSetName name)
 May o t m (goes_to company digest) = Allows o t m (ClientMove company digest)
 May o t m (founds company) = Unit

@@ -82,11 +82,13 @@ record Counts (e : Event) (t u : Table) : Type 0 where
   frame : u.frame ≡ t.frame + one_if (is_tick e)
   cost : u.cost ≡ t.cost
 
-arrives-counts : (full : Bool) (t : Table) → ((arrives full (counted_in t)).table.openings ≡ t.openings + 1) × ((arrives full (counted_in t)).table.cost ≡ t.cost)
+arrives-counts : (full : Bool) (t : Table) → ((arrives full (counted_in t)).table.openings ≡ t.openings + 1)
+    × ((arrives full (counted_in t)).table.cost ≡ t.cost)
 arrives-counts true t = (refl, refl)
 arrives-counts false t = (refl, refl)
 
-aside-counts : (full : Bool) (t : Table) → ((admin_arrives full (counted_aside t)).table.openings ≡ t.openings + 1) × ((admin_arrives full (counted_aside t)).table.cost ≡ t.cost)
+aside-counts : (full : Bool) (t : Table) → ((admin_arrives full (counted_aside t)).table.openings ≡ t.openings + 1)
+    × ((admin_arrives full (counted_aside t)).table.cost ≡ t.cost)
 aside-counts true t = (refl, refl)
 aside-counts false t = (refl, refl)
 
@@ -101,8 +103,10 @@ still-counts o e t still shut =
     }
 
 event-counts : (o : Origin) (e : Event) (t : Table) → Counts e t (by_event o e t).table
-event-counts o (Open Main peer) t = let a = arrives-counts (nat_le o.setup.max_clients (length t.members)) t in record { openings = a.0; frame = none-more _ _ (event-same o (Open Main peer) t refl).frame; cost = a.1 }
-event-counts o (Open Side peer) t = let a = aside-counts (nat_le most_admins (length t.admins)) t in record { openings = a.0; frame = none-more _ _ (event-same o (Open Side peer) t refl).frame; cost = a.1 }
+event-counts o (Open Main peer) t = let a = arrives-counts (nat_le o.setup.max_clients (length t.members)) t in
+    record { openings = a.0; frame = none-more _ _ (event-same o (Open Main peer) t refl).frame; cost = a.1 }
+event-counts o (Open Side peer) t = let a = aside-counts (nat_le most_admins (length t.admins)) t in
+    record { openings = a.0; frame = none-more _ _ (event-same o (Open Side peer) t refl).frame; cost = a.1 }
 event-counts o (Packet conn kind body) t = still-counts o (Packet conn kind body) t refl refl
 event-counts o (Broken conn) t = still-counts o (Broken conn) t refl refl
 event-counts o (Shut conn) t = still-counts o (Shut conn) t refl refl
@@ -122,7 +126,9 @@ pub record Counted (t u : Table) (es : List Event) : Type 0 where
   pub ticks : u.frame ≡ t.frame + ticks_in es
   pub cost : u.cost ≡ t.cost + cost_of es
 
-taken-counts : (b : Bool) (o : Origin) (e : Event) (t : Table) → b ≡ true → ((where_ b (taken o e) t).table.openings ≡ t.openings + one_if (is_open e)) × ((where_ b (taken o e) t).table.frame ≡ t.frame + one_if (is_tick e)) × ((where_ b (taken o e) t).table.cost ≡ t.cost + event_cost e)
+taken-counts : (b : Bool) (o : Origin) (e : Event) (t : Table) → b ≡ true → ((where_ b (taken o e) t).table.openings
+    ≡ t.openings + one_if (is_open e)) × ((where_ b (taken o e) t).table.frame ≡ t.frame + one_if (is_tick e))
+    × ((where_ b (taken o e) t).table.cost ≡ t.cost + event_cost e)
 taken-counts true o e t is =
     let a : Counts e t (by_event o e t).table = event-counts o e t in
     let v : Table = (charged e (by_event o e t).table).table in
@@ -190,11 +196,13 @@ low-by true o e t is h =
     let v : Table = (charged e (by_event o e t).table).table in
     let l : v.frame ≤ last_frame = event-low o e t (h.over (not-over t.over (names_live t e) is)) in
     closed-low (stops o e t || nat_le o.setup.cost v.cost || (v.frame == last_frame)) v l
-    (λ no. let ne : (v.frame == last_frame) ≡ false = or-last (stops o e t) (nat_le o.setup.cost v.cost) (v.frame == last_frame) no in below v.frame l (λ same. eqb-false v.frame last_frame ne same))
+    (λ no. let ne : (v.frame == last_frame) ≡ false = or-last (stops o e t) (nat_le o.setup.cost v.cost) (v.frame == last_frame) no in
+        below v.frame l (λ same. eqb-false v.frame last_frame ne same))
   where
     below : (n : ℕ) → n ≤ last_frame → (n ≡ last_frame → ⊥) → n < last_frame
     below n l apart = omega (arith, l, apart)
 low-by false o e t is h = h
 
 pub is-low : (o : Origin) (es : List Event) → (table_of o es).frame ≤ last_frame
-is-low o es = (from-all o Low (λ e t h. low-by (takes t e) o e t refl h) es (first o) (record { least = omega arith; over = λ going. omega arith })).least
+is-low o es = (from-all o Low (λ e t h. low-by (takes t e) o e t refl h) es (first o)
+    (record { least = omega arith; over = λ going. omega arith })).least

@@ -61,10 +61,13 @@ answered-lives (Some why) old new same = refl
 -- ---- an entry
 
 record Agree (code : Code) (number company to : ℕ) (text : List ℕ) (w : WorldState) : Type 0 where
-  founders : founder_of (founding code (living w)) number ≡ founded_by code (answered (refusal_by code company number to text w) w (done_by code company number to text w)).1 number (new_number w.companies)
-  lives : living (answered (refusal_by code company number to text w) w (done_by code company number to text w)).0 ≡ living_with (founding code (living w)) (living w)
+  founders : founder_of (founding code (living w)) number ≡ founded_by code (answered (refusal_by code company number to text w) w
+      (done_by code company number to text w)).1 number (new_number w.companies)
+  lives : living (answered (refusal_by code company number to text w) w (done_by code company number to text w)).0
+      ≡ living_with (founding code (living w)) (living w)
 
-founds-by : (b : Bool) (number company to : ℕ) (text : List ℕ) (w : WorldState) → list_any is_none w.companies ≡ b → least_free (living w) ≡ cond b (Some (new_number w.companies)) None → Agree NewCompany number company to text w
+founds-by : (b : Bool) (number company to : ℕ) (text : List ℕ) (w : WorldState) → list_any is_none w.companies ≡ b → least_free (living w)
+    ≡ cond b (Some (new_number w.companies)) None → Agree NewCompany number company to text w
 founds-by true number company to text w any free = record {
   founders = rw (any, free) refl;
   lives = rw (any, free) (founded-lives w);
@@ -75,19 +78,27 @@ founds-by false number company to text w any free = record {
 }
 
 agree : (code : Code) (number company to : ℕ) (text : List ℕ) (w : WorldState) → Agree code number company to text w
-agree IncreaseLoan n company to text w = record { founders = refl; lives = answered-lives (refusal_by IncreaseLoan company n to text w) w _ (changed-lives company _ w) }
-agree DecreaseLoan n company to text w = record { founders = refl; lives = answered-lives (refusal_by DecreaseLoan company n to text w) w _ (changed-lives company _ w) }
-agree Give n company to text w = record { founders = refl; lives = answered-lives (refusal_by Give company n to text w) w _ (changed-lives to (richer n) (changed company (poorer n) w) ∙ changed-lives company (poorer n) w) }
+agree IncreaseLoan n company to text w = record { founders = refl; lives = answered-lives (refusal_by IncreaseLoan company n to text w) w _
+    (changed-lives company _ w) }
+agree DecreaseLoan n company to text w = record { founders = refl; lives = answered-lives (refusal_by DecreaseLoan company n to text w) w _
+    (changed-lives company _ w) }
+agree Give n company to text w = record { founders = refl; lives = answered-lives (refusal_by Give company n to text w) w _
+    (changed-lives to (richer n) (changed company (poorer n) w) ∙ changed-lives company (poorer n) w) }
 agree PlaceSign n company to text w = record { founders = refl; lives = answered-lives (refusal_by PlaceSign company n to text w) w _ refl }
-agree RenameSign n company to text w = record { founders = refl; lives = answered-lives (refusal_by RenameSign company n to text w) w _ refl }
-agree RenameCompany n company to text w = record { founders = refl; lives = answered-lives (refusal_by RenameCompany company n to text w) w _ (changed-lives company _ w) }
-agree RenamePresident n company to text w = record { founders = refl; lives = answered-lives (refusal_by RenamePresident company n to text w) w _ (changed-lives company _ w) }
+agree RenameSign n company to text w = record { founders = refl; lives = answered-lives (refusal_by RenameSign company n to text w) w _
+    refl }
+agree RenameCompany n company to text w = record { founders = refl; lives = answered-lives (refusal_by RenameCompany company n to text w) w
+    _ (changed-lives company _ w) }
+agree RenamePresident n company to text w =
+    record { founders = refl; lives = answered-lives (refusal_by RenamePresident company n to text w) w _ (changed-lives company _ w) }
 agree Pause n company to text w = record { founders = refl; lives = answered-lives (refusal_by Pause company n to text w) w _ refl }
 agree NewCompany n company to text w = founds-by (list_any is_none w.companies) n company to text w refl (free-is w.companies)
 
 pub foundings-are : (w : WorldState) (es : List Entry) → foundings (living w) es ≡ foundings_in w es
 foundings-are w [] = refl
 foundings-are w (e ∷ es) =
-    let a : Agree e.command.code e.command.number e.company e.command.to e.command.text w = agree e.command.code e.command.number e.company e.command.to e.command.text w in
+    let a : Agree e.command.code e.command.number e.company e.command.to e.command.text w =
+        agree e.command.code e.command.number e.company e.command.to e.command.text w in
     ap₂ (λ (xs : List (ℕ × ℕ)) (live : List Bool). xs ++ foundings live es) a.founders (sym a.lives)
-    ∙ ap (λ (ys : List (ℕ × ℕ)). founded_by e.command.code (applied w e).1 e.command.number (new_number w.companies) ++ ys) (foundings-are (applied w e).0 es)
+    ∙ ap (λ (ys : List (ℕ × ℕ)). founded_by e.command.code (applied w e).1 e.command.number (new_number w.companies) ++ ys)
+        (foundings-are (applied w e).0 es)

@@ -72,11 +72,13 @@ none-behind : (c : ℕ) (xs ys : List ℕ) → NotIn c (xs ++ ys) → NotIn c ys
 none-behind c [] ys a = a
 none-behind c (x ∷ xs) ys a = none-behind c xs ys a.1
 
-begun-by : (b : Bool) (m : Member) (conns : List ℕ) (t : Table) → Within conns t.queue → Within conns (where_ b (begins_for m) t).table.queue
+begun-by : (b : Bool) (m : Member) (conns : List ℕ) (t : Table) → Within conns t.queue
+    → Within conns (where_ b (begins_for m) t).table.queue
 begun-by true m conns t h = h
 begun-by false m conns t h = h
 
-begun-within : (x : Option Member) (conns : List ℕ) (t : Table) → Within conns t.queue → Within conns (where_some x begins_where t).table.queue
+begun-within : (x : Option Member) (conns : List ℕ) (t : Table) → Within conns t.queue
+    → Within conns (where_some x begins_where t).table.queue
 begun-within None conns t h = h
 begun-within (Some m) conns t h = begun-by (is_in MapWait m) m conns t h
 
@@ -101,7 +103,8 @@ module _ (o : Origin) (e : Event) (P : Table → List Step → Table → Type 0)
   pub record Walk : Type 0 where
     pub base : Base
     -- a company has a password or none; the server orders a command
-    pub locks : (t : Table) (m : Member) (digest : Option (List ℕ)) → On t m → Allows o t m (ClientSetPassword digest) → P t [] (with_digest m.company digest t)
+    pub locks : (t : Table) (m : Member) (digest : Option (List ℕ)) → On t m → Allows o t m (ClientSetPassword digest)
+        → P t [] (with_digest m.company digest t)
     pub orders : (t : Table) (c : Command) → IsOrdered t c → P t [] (record t { own = t.own ++ c ∷ [] })
     -- a member asks for the map, enters the game, or goes
     pub asks_map : (t : Table) (m : Member) → On t m → rank m.status ≡ 4 → Of t (asks m t)
@@ -150,7 +153,8 @@ module _ (o : Origin) (e : Event) (P : Table → List Step → Table → Type 0)
     of-where true rule t h = h refl
     of-where false rule t h = w.still t
 
-    pub of-some : {A : Type 0} (x : Option A) (rule : A → Table → Deed) (t : Table) → ((y : A) → x ≡ Some y → Of t (rule y t)) → Of t (where_some x rule t)
+    pub of-some : {A : Type 0} (x : Option A) (rule : A → Table → Deed) (t : Table) → ((y : A) → x ≡ Some y → Of t (rule y t))
+        → Of t (where_some x rule t)
     of-some None rule t h = w.still t
     of-some (Some y) rule t h = h y refl
 
@@ -163,7 +167,8 @@ module _ (o : Origin) (e : Event) (P : Table → List Step → Table → Type 0)
     of-playing t msg talk = w.tells_some t (playing t) (Msg msg) (λ c h. h) talk
 
     pub of-watched : (kind : ℕ) (msg : AdminMsg) (t : Table) → P t (step (watching kind t) (ToAdmin msg) ∷ []) t
-    of-watched kind msg t = w.tells_admins t (watching kind t) msg (λ c h. all-of-filter (λ (a : Admin). a.conn) (is_automatic kind) c t.admins h)
+    of-watched kind msg t = w.tells_admins t (watching kind t) msg (λ c h. all-of-filter (λ (a : Admin). a.conn)
+        (is_automatic kind) c t.admins h)
 
     of-farewell : (f : Farewell) (m : Member) (t : Table) → Of t (tells_farewell f m t)
     of-farewell Quitting m t = w.joins t t t _ _ (of-playing t _ tt) (of-watched client_updates _ t)
@@ -183,13 +188,15 @@ module _ (o : Origin) (e : Event) (P : Table → List Step → Table → Type 0)
     of-frame-by false t m is on high = w.turns gets_frame t m on high tt
 
     pub of-frame : (t : Table) (m : Member) → On t m → Of t (tells_frame m t)
-    of-frame t m on = of-where (is_playing m) (tells_frame_by (m.token == 0) m) t (λ plays. of-frame-by (m.token == 0) t m refl on (leb-true 8 (rank m.status) plays))
+    of-frame t m on = of-where (is_playing m) (tells_frame_by (m.token == 0) m) t (λ plays. of-frame-by (m.token == 0) t m refl on
+        (leb-true 8 (rank m.status) plays))
 
     pub of-frames : (ms : List Member) (t : Table) → Of t (frames_told ms t)
     of-frames [] t = w.still t
     of-frames (m ∷ ms) t =
         let d : Deed = where_some (member_of t m.conn) tells_frame t in
-        of-then t d (frames_told ms) (of-some (member_of t m.conn) tells_frame t (λ n is. of-frame t n (on-found t m.conn n is))) (of-frames ms d.table)
+        of-then t d (frames_told ms) (of-some (member_of t m.conn) tells_frame t (λ n is. of-frame t n (on-found t m.conn n is)))
+            (of-frames ms d.table)
 
     -- ---- the moves of the queue, where it holds of their parts
 
@@ -198,7 +205,8 @@ module _ (o : Origin) (e : Event) (P : Table → List Step → Table → Type 0)
       of-moved-up place [] t in_queue = w.still t
       of-moved-up zero (conn ∷ conns) t in_queue =
           let d : Deed = begins conn t in
-          of-then t d (moved_up 1 conns) (of-some (member_of t conn) begins_where t (λ m is. of-where (is_in MapWait m) (begins_for m) t (λ waiting. moves.moving begins_map t m (on-found t conn m is) (eqb-true (rank m.status) 5 waiting))))
+          of-then t d (moved_up 1 conns) (of-some (member_of t conn) begins_where t (λ m is. of-where (is_in MapWait m) (begins_for m) t
+              (λ waiting. moves.moving begins_map t m (on-found t conn m is) (eqb-true (rank m.status) 5 waiting))))
           (of-moved-up 1 conns d.table (begun-within (member_of t conn) conns t (λ c h. (in_queue c h).1)))
       of-moved-up (suc place) (conn ∷ conns) t in_queue =
           of-then t (waits conn (suc place) t) (moved_up (suc (suc place)) conns) (moves.waits_on t conn _ (λ c h. ((in_queue c h).0, tt)))
@@ -218,7 +226,8 @@ module _ (o : Origin) (e : Event) (P : Table → List Step → Table → Type 0)
           let d : Deed = tells_what (m.conn ∷ []) End (without_member m.conn t) in
           let e : Deed = d ▹ where_ (is_welcomed m) (tells_farewell farewell m) in
           of-then t e (leaves_queue m.conn)
-          (of-then t d (where_ (is_welcomed m) (tells_farewell farewell m)) (moves.parts t m on) (of-where (is_welcomed m) (tells_farewell farewell m) d.table (λ is. of-farewell farewell m d.table)))
+          (of-then t d (where_ (is_welcomed m) (tells_farewell farewell m)) (moves.parts t m on)
+              (of-where (is_welcomed m) (tells_farewell farewell m) d.table (λ is. of-farewell farewell m d.table)))
           (of-leaves-queue m.conn e.table)
 
       pub of-asks : (t : Table) (m : Member) → On t m → rank m.status ≡ 4 → Of t (asks m t)
@@ -250,19 +259,24 @@ module _ (o : Origin) (e : Event) (P : Table → List Step → Table → Type 0)
     -- ---- packets
 
     pub of-ends : (t : Table) (m : Member) (code : ℕ) → On t m → Of t (ends m code t)
-    of-ends t m code on = of-then w.base t (tells (m.conn ∷ []) (ServerError code) t) (leaves m (Failing code)) (w.base.tells_one t m (ServerError code) on tt) (w.goes t m (Failing code) on)
+    of-ends t m code on = of-then w.base t (tells (m.conn ∷ []) (ServerError code) t) (leaves m (Failing code))
+        (w.base.tells_one t m (ServerError code) on tt) (w.goes t m (Failing code) on)
 
-    of-welcomes : (t : Table) (m : Member) (name : List ℕ) (asked : ℕ) → On t m → Asks o t m name asked → Of t (welcomes o (record m { name = name; asked = asked }) t)
+    of-welcomes : (t : Table) (m : Member) (name : List ℕ) (asked : ℕ) → On t m → Asks o t m name asked
+        → Of t (welcomes o (record m { name = name; asked = asked }) t)
     of-welcomes t m name asked on may =
         let c : Change = is_let_in name asked in
         let u : Table = turned_in c t m in
-        w.base.joins t u u _ _ (w.base.joins t u u _ _ (w.base.turns c t m on may tt) (of-playing w.base u (client_info (turned c t m)) tt)) (of-watched w.base client_updates _ u)
+        w.base.joins t u u _ _ (w.base.joins t u u _ _ (w.base.turns c t m on may tt) (of-playing w.base u (client_info (turned c t m)) tt))
+            (of-watched w.base client_updates _ u)
 
-    of-company : (digest : Option (List ℕ)) (t : Table) (m : Member) (name : List ℕ) (asked : ℕ) → On t m → Asks o t m name asked → Of t (company_step_by digest o (record m { name = name; asked = asked }) t)
+    of-company : (digest : Option (List ℕ)) (t : Table) (m : Member) (name : List ℕ) (asked : ℕ) → On t m → Asks o t m name asked
+        → Of t (company_step_by digest o (record m { name = name; asked = asked }) t)
     of-company None t m name asked on may = of-welcomes t m name asked on may
     of-company (Some digest) t m name asked on may = w.base.turns (wants_password false name asked) t m on may tt
 
-    of-password : (password : List ℕ) (t : Table) (m : Member) (name : List ℕ) (asked : ℕ) → On t m → Asks o t m name asked → Of t (password_step_by password o (record m { name = name; asked = asked }) t)
+    of-password : (password : List ℕ) (t : Table) (m : Member) (name : List ℕ) (asked : ℕ) → On t m → Asks o t m name asked
+        → Of t (password_step_by password o (record m { name = name; asked = asked }) t)
     of-password [] t m name asked on may = of-company (digest_of t asked) t m name asked on may
     of-password (b ∷ bs) t m name asked on may = w.base.turns (wants_password true name asked) t m on may tt
 
@@ -271,9 +285,12 @@ module _ (o : Origin) (e : Event) (P : Table → List Step → Table → Type 0)
         let u : Table = turned_in plays t m in
         let to : List ℕ = filter (λ c. not (c == m.conn)) (playing t) in
         let others : Within to (playing t) = λ c h. all-filter (IsOther c) (λ x. not (x == m.conn)) (playing t) h in
-        let told : P t (step to (Msg (ServerJoin m.client)) ∷ []) u = w.base.joins t t u _ _ (w.base.tells_some t to (Msg (ServerJoin m.client)) others tt) (w.base.turns plays t m on at tt) in
-        let seen : P t (step to (Msg (ServerJoin m.client)) ∷ step (watching client_updates u) (ToAdmin (admins.ServerClientJoin m.client)) ∷ []) u = w.base.joins t u u _ _ told (of-watched w.base client_updates _ u) in
-        w.base.joins t u _ _ _ seen (of-where w.base (m.asked == founder) (asks_company (turned plays t m)) u (λ is. w.orders u (new_company (turned plays t m)) (turned plays t m, on-turned w.base plays t m on, refl)))
+        let told : P t (step to (Msg (ServerJoin m.client)) ∷ []) u =
+            w.base.joins t t u _ _ (w.base.tells_some t to (Msg (ServerJoin m.client)) others tt) (w.base.turns plays t m on at tt) in
+        let seen : P t (step to (Msg (ServerJoin m.client)) ∷ step (watching client_updates u) (ToAdmin (admins.ServerClientJoin m.client))
+            ∷ []) u = w.base.joins t u u _ _ told (of-watched w.base client_updates _ u) in
+        w.base.joins t u _ _ _ seen (of-where w.base (m.asked == founder) (asks_company (turned plays t m)) u
+            (λ is. w.orders u (new_company (turned plays t m)) (turned plays t m, on-turned w.base plays t m on, refl)))
 
     acked-status : (frame token : ℕ) (m : Member) → (acknowledged frame token m).status ≡ m.status
     acked-status frame token m = by (token == 0)
@@ -286,25 +303,31 @@ module _ (o : Origin) (e : Event) (P : Table → List Step → Table → Type 0)
     first-true true y is = refl
     first-true false y is = is
 
-    of-acknowledges : (t : Table) (m : Member) (frame token : ℕ) → On t m → Allows o t m (ClientAck frame token) → Says e m (ClientAck frame token) → Of t (acknowledges m frame token t)
+    of-acknowledges : (t : Table) (m : Member) (frame token : ℕ) → On t m → Allows o t m (ClientAck frame token)
+        → Says e m (ClientAck frame token) → Of t (acknowledges m frame token t)
     of-acknowledges t m frame token on allowed said =
         let c : Change = answers frame token in
         let n : Member = turned c t m in
         let u : Table = turned_in c t m in
         w.base.joins t u _ _ _ (w.base.turns c t m on allowed said) (of-where w.base (has_caught_up frame t m) (becomes_active n) u
-        (λ yes. of-active u n (on-turned w.base c t m on) (ap rank (acked-status frame token m) ∙ eqb-true (rank m.status) 8 (first-true (is_in PreActive m) (nat_le t.frame (frame + 74)) yes))))
+        (λ yes. of-active u n (on-turned w.base c t m on) (ap rank (acked-status frame token m)
+            ∙ eqb-true (rank m.status) 8 (first-true (is_in PreActive m) (nat_le t.frame (frame + 74)) yes))))
 
     of-chats : (t : Table) (client scope to : ℕ) (text : List ℕ) → Of t (chats client scope to text t)
     of-chats t client scope to text =
-        w.base.joins t t t _ _ (w.base.tells_some t _ (Msg (ServerChat client scope text)) (λ c h. map-filter-not (λ (m : Member). m.conn) is_playing (is_in_scope scope to) c t.members h) tt) (of-watched w.base chat_updates _ t)
+        w.base.joins t t t _ _ (w.base.tells_some t _ (Msg (ServerChat client scope text))
+            (λ c h. map-filter-not (λ (m : Member). m.conn) is_playing (is_in_scope scope to) c t.members h) tt)
+            (of-watched w.base chat_updates _ t)
 
     of-renames : (t : Table) (m : Member) (name : List ℕ) → On t m → Allows o t m (ClientSetName name) → Of t (renames m name t)
     of-renames t m name on allowed =
         let c : Change = has_name name in
         let u : Table = turned_in c t m in
-        w.base.joins t u u _ _ (w.base.joins t u u _ _ (w.base.turns c t m on allowed tt) (of-playing w.base u _ tt)) (of-watched w.base client_updates _ u)
+        w.base.joins t u u _ _ (w.base.joins t u u _ _ (w.base.turns c t m on allowed tt) (of-playing w.base u _ tt))
+            (of-watched w.base client_updates _ u)
 
-    of-moves : (c : Change) (t : Table) (m : Member) (company : ℕ) → On t m → May o t m c → By e m c → turned_in c t m ≡ with_member (record m { company = company }) t → steps_with c o t m ≡ [] → Of t (moves m company t)
+    of-moves : (c : Change) (t : Table) (m : Member) (company : ℕ) → On t m → May o t m c → By e m c → turned_in c t m
+        ≡ with_member (record m { company = company }) t → steps_with c o t m ≡ [] → Of t (moves m company t)
     of-moves c t m company on may by is quiet =
         let n : Member = record m { company = company } in
         let u : Table = with_member n t in
@@ -317,15 +340,19 @@ module _ (o : Origin) (e : Event) (P : Table → List Step → Table → Type 0)
 
     pub of-does : (t : Table) (m : Member) (msg : GameMsg) → On t m → Allows o t m msg → Says e m msg → Of t (does o m msg t)
     of-does t m (ClientJoin revision grf name company) on a says =
-        of-password o.setup.password t m (given_name t m.conn name) company on (inr (eqb-true (rank m.status) 0 a.permits, (revision, grf, name, refl, a)))
+        of-password o.setup.password t m (given_name t m.conn name) company on
+            (inr (eqb-true (rank m.status) 0 a.permits, (revision, grf, name, refl, a)))
     of-does t m ClientGameInfo on a says = w.base.tells_one t m _ on tt
-    of-does t m (ClientGamePassword digest) on a says = of-company (digest_of t m.asked) t m m.name m.asked on (asked-before t m 2 (eqb-true (rank m.status) 2 a.permits) (omega arith) (omega arith))
-    of-does t m (ClientCompanyPassword digest) on a says = of-welcomes t m m.name m.asked on (asked-before t m 3 (eqb-true (rank m.status) 3 a.permits) (omega arith) (omega arith))
+    of-does t m (ClientGamePassword digest) on a says = of-company (digest_of t m.asked) t m m.name m.asked on
+        (asked-before t m 2 (eqb-true (rank m.status) 2 a.permits) (omega arith) (omega arith))
+    of-does t m (ClientCompanyPassword digest) on a says = of-welcomes t m m.name m.asked on
+        (asked-before t m 3 (eqb-true (rank m.status) 3 a.permits) (omega arith) (omega arith))
     of-does t m ClientGetmap on a says = w.asks_map t m on (eqb-true (rank m.status) 4 a.permits)
     of-does t m ClientMapOk on a says = w.enters_game t m on (eqb-true (rank m.status) 7 a.permits)
     of-does t m (ClientAck frame token) on a says = of-acknowledges t m frame token on a says
     of-does t m (ClientCommand company code number to text) on a says =
-        of-some w.base (command_of code number to text) _ t (λ command is. w.base.turns (commands company code number to text command) t m on (is, a) says)
+        of-some w.base (command_of code number to text) _ t (λ command is. w.base.turns (commands company code number to text command) t m
+            on (is, a) says)
     of-does t m (ClientChat scope to text) on a says = of-chats t m.client scope to text
     of-does t m (ClientSetName name) on a says = of-renames t m name on a
     of-does t m (ClientSetPassword digest) on a says = w.locks t m digest on a
@@ -339,25 +366,29 @@ module _ (o : Origin) (e : Event) (P : Table → List Step → Table → Type 0)
     IsPacket m None = Unit
     IsPacket m (Some msg) = Says e m msg
 
-    of-said : (said : Option GameMsg) (t : Table) (m : Member) → On t m → IsPacket m said → judged o t m said ≡ Allowed → Of t (where_some said (does o m) t)
+    of-said : (said : Option GameMsg) (t : Table) (m : Member) → On t m → IsPacket m said → judged o t m said ≡ Allowed
+        → Of t (where_some said (does o m) t)
     of-said None t m on says is = w.base.still t
     of-said (Some msg) t m on says is = of-does t m msg on (allows o t m msg is) says
 
-    of-verdict : (v : Verdict) (said : Option GameMsg) (t : Table) (m : Member) → judged o t m said ≡ v → On t m → IsPacket m said → Of t (by_verdict v o m said t)
+    of-verdict : (v : Verdict) (said : Option GameMsg) (t : Table) (m : Member) → judged o t m said ≡ v → On t m → IsPacket m said
+        → Of t (by_verdict v o m said t)
     of-verdict Allowed said t m is on says = of-said said t m on says is
     of-verdict (Ends code) said t m is on says = of-ends t m code on
 
     pub of-heard : (said : Option GameMsg) (t : Table) (m : Member) → On t m → IsPacket m said → Of t (heard o said m t)
     of-heard said t m on says = of-verdict (judged o t m said) said t m refl on says
 
-    is-packet : (said : Option GameMsg) (kind : ℕ) (body : List ℕ) (m : Member) → read_msg kind body ≡ said → e ≡ Packet m.conn kind body → IsPacket m said
+    is-packet : (said : Option GameMsg) (kind : ℕ) (body : List ℕ) (m : Member) → read_msg kind body ≡ said → e ≡ Packet m.conn kind body
+        → IsPacket m said
     is-packet None kind body m is by = tt
     is-packet (Some msg) kind body m is by = (kind, body, by, is)
 
     -- ---- the side door
 
     of-admin-ends : (t : Table) (a : Admin) (code : ℕ) → OnAdmin t a → Of t (admin_ends a code t)
-    of-admin-ends t a code on = of-then w.base t _ (admin_leaves a) (w.base.tells_admins t (a.conn ∷ []) (admins.ServerError code) (λ c h. (among-conn c t.admins a on h, tt))) (w.goes_aside t a on)
+    of-admin-ends t a code on = of-then w.base t _ (admin_leaves a) (w.base.tells_admins t (a.conn ∷ []) (admins.ServerError code)
+        (λ c h. (among-conn c t.admins a on h, tt))) (w.goes_aside t a on)
       where
         among-conn : (c : ℕ) (admins : List Admin) (a : Admin) → Among a admins → NotIn c (admin_conns admins) → IsOther c a.conn
         among-conn c [] a there h = absurd there
@@ -369,7 +400,8 @@ module _ (o : Origin) (e : Event) (P : Table → List Step → Table → Type 0)
     of-admins-limited (a ∷ admins) t =
         let d : Deed = where_some (admin_of t a.conn) (admin_limited o) t in
         of-then w.base t d (each_admin_limited o admins)
-        (of-some w.base (admin_of t a.conn) (admin_limited o) t (λ b is. of-where w.base (is_slow o t.frame b) (admin_ends b 17) t (λ slow. of-admin-ends t b 17 (found-among (is_admin_on a.conn) b t.admins is))))
+        (of-some w.base (admin_of t a.conn) (admin_limited o) t (λ b is. of-where w.base (is_slow o t.frame b) (admin_ends b 17) t
+            (λ slow. of-admin-ends t b 17 (found-among (is_admin_on a.conn) b t.admins is))))
         (of-admins-limited admins d.table)
 
     -- ---- the steps of a tick behind the frame
@@ -380,7 +412,8 @@ module _ (o : Origin) (e : Event) (P : Table → List Step → Table → Type 0)
         let rule : Member → Table → Deed = λ m. moves m f.1 in
         let d : Deed = where_some (find (λ m. m.client == f.0) t.members) rule t in
         of-then w.base t d (all_moved fs)
-        (of-some w.base (find (λ m. m.client == f.0) t.members) rule t (λ m is. of-moves (founds f.1) t m f.1 (found-among (λ m. m.client == f.0) m t.members is) tt tt refl refl))
+        (of-some w.base (find (λ m. m.client == f.0) t.members) rule t (λ m is. of-moves (founds f.1) t m f.1
+            (found-among (λ m. m.client == f.0) m t.members is) tt tt refl refl))
         (of-all-moved fs d.table)
 
     loading-is : (x : Option Member) (m : Member) → if_loading x ≡ Some m → (x ≡ Some m) × (rank m.status ≡ 6)
@@ -403,21 +436,24 @@ module _ (o : Origin) (e : Event) (P : Table → List Step → Table → Type 0)
         let c : Change = gets_pieces left in
         let n : Member = turned c t m in
         let u : Table = turned_in c t m in
-        w.base.joins t u _ _ _ (w.base.turns c t m on at tt) (of-where w.base (not (nat_lt (4 * 1400) (length left))) (finishes_map n) u (λ all. w.base.turns has_all u n (on-turned w.base c t m on) at tt))
+        w.base.joins t u _ _ _ (w.base.turns c t m on at tt) (of-where w.base (not (nat_lt (4 * 1400) (length left))) (finishes_map n) u
+            (λ all. w.base.turns has_all u n (on-turned w.base c t m on) at tt))
 
     of-each-limited : (ms : List Member) (t : Table) → Of t (each_limited o ms t)
     of-each-limited [] t = w.base.still t
     of-each-limited (m ∷ ms) t =
         let d : Deed = where_some (member_of t m.conn) (limited o) t in
         of-then w.base t d (each_limited o ms)
-        (of-some w.base (member_of t m.conn) (limited o) t (λ n is. of-some w.base (late o.setup t.frame n) (ends n) t (λ code late. of-ends t n code (on-found t m.conn n is))))
+        (of-some w.base (member_of t m.conn) (limited o) t (λ n is. of-some w.base (late o.setup t.frame n) (ends n) t
+            (λ code late. of-ends t n code (on-found t m.conn n is))))
         (of-each-limited ms d.table)
 
     of-synced : (t : Table) → Of t (synced o t)
     of-synced t = of-where w.base (t.frame % o.setup.sync_freq == 0) _ t (λ is. w.base.tells_some t (playing t) Sync (λ c h. h) tt)
 
     of-mapped : (left : List ℕ) (t : Table) → Of t (mapped left t)
-    of-mapped left t = of-some w.base (downloader t) (next_pieces left) t (λ m is. let found = loader-on t m is in of-pieces left t m found.0 found.1)
+    of-mapped left t = of-some w.base (downloader t) (next_pieces left) t (λ m is. let found = loader-on t m is in
+        of-pieces left t m found.0 found.1)
 
     pub of-follows : (live : List Bool) (left : List ℕ) (t : Table) → Of t (frame_follows live left o t)
     of-follows live left t =
@@ -435,16 +471,20 @@ module _ (o : Origin) (e : Event) (P : Table → List Step → Table → Type 0)
 
     -- ---- events
 
-    of-named : (x : Option Member) (y : Option Admin) (f : Member → Table → Deed) (g : Admin → Table → Deed) (t : Table) → ((m : Member) → x ≡ Some m → Of t (f m t)) → ((a : Admin) → y ≡ Some a → Of t (g a t)) → Of t (to_named x y f g t)
+    of-named : (x : Option Member) (y : Option Admin) (f : Member → Table → Deed) (g : Admin → Table → Deed) (t : Table)
+        → ((m : Member) → x ≡ Some m → Of t (f m t)) → ((a : Admin) → y ≡ Some a → Of t (g a t)) → Of t (to_named x y f g t)
     of-named (Some m) y f g t p q = p m refl
     of-named None y f g t p q = of-some w.base y g t q
 
-    of-conn : (conn : ℕ) (f : Member → Table → Deed) (g : Admin → Table → Deed) (t : Table) → ((m : Member) → On t m → m.conn ≡ conn → Of t (f m t)) → ((a : Admin) → OnAdmin t a → Of t (g a t)) → Of t (on_conn conn f g t)
-    of-conn conn f g t p q = of-named (member_of t conn) (admin_of t conn) f g t (λ m is. p m (on-found t conn m is) (found-on conn t.members m is)) (λ a is. q a (found-among (is_admin_on conn) a t.admins is))
+    of-conn : (conn : ℕ) (f : Member → Table → Deed) (g : Admin → Table → Deed) (t : Table) → ((m : Member) → On t m → m.conn ≡ conn
+        → Of t (f m t)) → ((a : Admin) → OnAdmin t a → Of t (g a t)) → Of t (on_conn conn f g t)
+    of-conn conn f g t p q = of-named (member_of t conn) (admin_of t conn) f g t (λ m is. p m (on-found t conn m is)
+        (found-on conn t.members m is)) (λ a is. q a (found-among (is_admin_on conn) a t.admins is))
 
     of-packet : (conn kind : ℕ) (body : List ℕ) (t : Table) → e ≡ Packet conn kind body → Of t (by_event o (Packet conn kind body) t)
     of-packet conn kind body t is =
-        of-conn conn _ _ t (λ m on at. of-heard (read_msg kind body) t m on (is-packet (read_msg kind body) kind body m refl (is ∙ ap (λ (c : ℕ). Packet c kind body) (sym at)))) (λ a on. w.base.still t)
+        of-conn conn _ _ t (λ m on at. of-heard (read_msg kind body) t m on (is-packet (read_msg kind body) kind body m refl (is
+            ∙ ap (λ (c : ℕ). Packet c kind body) (sym at)))) (λ a on. w.base.still t)
 
     -- an event of a connection, or a stop
     of-event-by : (d : Event) (t : Table) → e ≡ d → is_tick d ≡ false → is_open d ≡ false → Of t (by_event o d t)
@@ -489,7 +529,8 @@ module _ (o : Origin) (e : Event) (P : Table → List Step → Table → Type 0)
       of-stamped t = w.base.joins t (stamping t) _ [] _ (ticks.stamping t) (of-entries w.base (stamps t) (stamping t))
 
       of-runs-by : (b : Bool) (t : Table) → nat_lt t.top (t.frame + 1) ≡ b → Of t (frame_runs_by b o t)
-      of-runs-by true t is = w.base.joins t (running true o t) _ [] _ (ticks.running t true is) (of-frames w.base t.members (running true o t))
+      of-runs-by true t is = w.base.joins t (running true o t) _ [] _ (ticks.running t true is)
+          (of-frames w.base t.members (running true o t))
       of-runs-by false t is = ticks.running t false is
 
       pub of-runs : (t : Table) → Of t (frame_runs o t)
@@ -501,7 +542,8 @@ module _ (o : Origin) (e : Event) (P : Table → List Step → Table → Type 0)
           let b : Deed = a ▹ frame_runs o in
           let c : Deed = b ▹ sees_frame in
           let pb : Of t b = of-then w.base t a (frame_runs o) (of-stamped t) (of-runs a.table) in
-          of-then w.base t c (frame_follows (living_in o t) (left_of o t) o) (of-then w.base t b sees_frame pb (w.base.still b.table)) (of-follows (living_in o t) (left_of o t) c.table)
+          of-then w.base t c (frame_follows (living_in o t) (left_of o t) o) (of-then w.base t b sees_frame pb (w.base.still b.table))
+              (of-follows (living_in o t) (left_of o t) c.table)
 
       of-any-by : Doors → (d : Event) (t : Table) → e ≡ d → Of t (by_event o d t)
       of-any-by doors Tick t is = of-ticked t

@@ -15,4 +15,5 @@ founded_by code effect client company = []
 -- the client and the company of each NewCompany that is done, from the world before it
 abbrev pub foundings_in : WorldState → List Entry → List (ℕ × ℕ)
 foundings_in w [] = []
-foundings_in w (e ∷ es) = founded_by e.command.code (applied w e).1 e.command.number (new_number w.companies) ++ foundings_in (applied w e).0 es
+foundings_in w (e ∷ es) = founded_by e.command.code (applied w e).1 e.command.number (new_number w.companies)
+    ++ foundings_in (applied w e).0 es

@@ -47,7 +47,8 @@ if_so false commands = []
 -- the command of a connection that an event brings and that is allowed: the event is a packet of this connection, and the
 -- game is not over
 abbrev pub accepted_by : Origin → Table → Event → ℕ → List (ℕ × Command)
-accepted_by o t (Packet sender kind body) conn = if_so ((sender == conn) && not t.over) (accepted_of o t (member_of t sender) (read_msg kind body))
+accepted_by o t (Packet sender kind body) conn = if_so ((sender == conn) && not t.over) (accepted_of o t (member_of t sender)
+    (read_msg kind body))
 accepted_by o t other conn = []
 
 abbrev pub accepted_from : Origin → Table → List Event → ℕ → List (ℕ × Command)
