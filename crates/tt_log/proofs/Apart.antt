@@ -140,7 +140,7 @@ apart-walk c o e = record {
   base = apart-base c o e;
   locks = λ t m digest on allowed. passes c t [] _ refl (λ a. record { apart = record { members = a.members; admins = a.admins; queue =
       a.queue }; misses = tt });
-  orders = λ t k is. passes c t [] _ refl (λ a. record { apart = record { members = a.members; admins = a.admins; queue = a.queue };
+  orders = λ t k is still. passes c t [] _ refl (λ a. record { apart = record { members = a.members; admins = a.admins; queue = a.queue };
       misses = tt });
   asks_map = λ t m on at. of-asks o e (PassesBy c) (apart-base c o e) (apart-moves c o e) t m on at;
   enters_game = λ t m on at. of-enters o e (PassesBy c) (apart-base c o e) (apart-moves c o e) t m on at;

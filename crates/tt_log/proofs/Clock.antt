@@ -58,7 +58,7 @@ pub same-walk : (o : Origin) (e : Event) → Walk o e KeepsClock
 same-walk o e = record {
   base = same-base o e;
   locks = λ t m digest on allowed. record { frame = refl; top = refl; over = refl; journal = refl };
-  orders = λ t c is. record { frame = refl; top = refl; over = refl; journal = refl };
+  orders = λ t c is still. record { frame = refl; top = refl; over = refl; journal = refl };
   asks_map = λ t m on at. of-asks o e KeepsClock (same-base o e) (same-moves o e) t m on at;
   enters_game = λ t m on at. of-enters o e KeepsClock (same-base o e) (same-moves o e) t m on at;
   goes = λ t m farewell on. of-leaves o e KeepsClock (same-base o e) (same-moves o e) t m farewell on;

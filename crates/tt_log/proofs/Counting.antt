@@ -51,7 +51,7 @@ counts-walk : (o : Origin) (e : Event) → Walk o e KeepsCounts
 counts-walk o e = record {
   base = counts-base o e;
   locks = λ t m digest on allowed. record { openings = refl; cost = refl };
-  orders = λ t c is. record { openings = refl; cost = refl };
+  orders = λ t c is still. record { openings = refl; cost = refl };
   asks_map = λ t m on at. of-asks o e KeepsCounts (counts-base o e) (counts-moves o e) t m on at;
   enters_game = λ t m on at. of-enters o e KeepsCounts (counts-base o e) (counts-moves o e) t m on at;
   goes = λ t m farewell on. of-leaves o e KeepsCounts (counts-base o e) (counts-moves o e) t m farewell on;

@@ -246,7 +246,7 @@ mark-walk : (o : Origin) (e : Event) → Walk o e KeepsMarks
 mark-walk o e = record {
   base = mark-base o e;
   locks = λ t m digest on allowed h. h;
-  orders = λ t c is h. h;
+  orders = λ t c is still h. h;
   asks_map = λ t m on at. of-asks o e KeepsMarks (mark-base o e) (mark-moves o e) t m on at;
   enters_game = λ t m on at. of-enters o e KeepsMarks (mark-base o e) (mark-moves o e) t m on at;
   goes = λ t m farewell on. of-leaves o e KeepsMarks (mark-base o e) (mark-moves o e) t m farewell on;

@@ -180,7 +180,7 @@ pub order-walk : (o : Origin) (e : Event) → Walk o e KeepsOrder
 order-walk o e = record {
   base = order-base o e;
   locks = λ t m digest on allowed h. h;
-  orders = λ t c is h. h;
+  orders = λ t c is still h. h;
   asks_map = λ t m on at. of-asks o e KeepsOrder (order-base o e) (order-moves o e) t m on at;
   enters_game = λ t m on at. of-enters o e KeepsOrder (order-base o e) (order-moves o e) t m on at;
   goes = λ t m farewell on. of-leaves o e KeepsOrder (order-base o e) (order-moves o e) t m farewell on;

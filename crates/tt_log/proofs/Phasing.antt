@@ -164,7 +164,7 @@ further-walk : (c : ℕ) (o : Origin) (e : Event) → Walk o e (Further c)
 further-walk c o e = record {
   base = further-base c o e;
   locks = λ t m digest on allowed p h. goes-quiet c p _ _ [] (record { suits = h.suits; place = h.place }) tt;
-  orders = λ t k is p h. goes-quiet c p _ _ [] (record { suits = h.suits; place = h.place }) tt;
+  orders = λ t k is still p h. goes-quiet c p _ _ [] (record { suits = h.suits; place = h.place }) tt;
   asks_map = λ t m on at p h. asks-by (m.conn == c) c p m t refl at (among-all (Suits c p) m t.members on h.suits) on h;
   enters_game = λ t m on at p h. enters-by (m.conn == c) c p m t refl h;
   goes = λ t m farewell on p h. leaves-by (m.conn == c) c p m farewell t refl h;

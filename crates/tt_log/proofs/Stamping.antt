@@ -38,7 +38,7 @@ use Rattle.tt_log.proofs.Refusing.{table-snoc}
 
 -- ---- entries of a sender
 
-stamped-append : (k : ℕ) (xs ys : List Entry) → stamped_of k (xs ++ ys) ≡ stamped_of k xs ++ stamped_of k ys
+pub stamped-append : (k : ℕ) (xs ys : List Entry) → stamped_of k (xs ++ ys) ≡ stamped_of k xs ++ stamped_of k ys
 stamped-append k [] ys = refl
 stamped-append k (x ∷ xs) ys = by (x.sender == k) (stamped-append k xs ys)
   where
@@ -66,17 +66,19 @@ entries-own k f m [] is = refl
 entries-own k f m (w ∷ ws) is = rw is (ap (λ (rest : List (ℕ × Command)). w ∷ rest) (entries-own k f m ws is))
 
 -- those of a list of members
-abbrev drawing : ℕ → List Member → List Entry
+abbrev pub drawing : ℕ → List Member → List Entry
 drawing f ms = flat_map (λ m. map (entry_of f m) (take 2 m.waiting)) ms
 
-drawing-none : (k f : ℕ) (ms : List Member) → AllByRecursion (λ (m : Member). (m.client == k) ≡ false) ms → stamped_of k (drawing f ms) ≡ []
+pub drawing-none : (k f : ℕ) (ms : List Member) → AllByRecursion (λ (m : Member). (m.client == k) ≡ false) ms → stamped_of k (drawing f ms)
+    ≡ []
 drawing-none k f [] a = refl
 drawing-none k f (m ∷ ms) a =
     stamped-append k (map (entry_of f m) (take 2 m.waiting)) (drawing f ms)
     ∙ ap₂ (λ (xs ys : List (ℕ × Command)). xs ++ ys) (stamped-none k (map (entry_of f m) (take 2 m.waiting))
         (entries-other k f m (take 2 m.waiting) a.0)) (drawing-none k f ms a.1)
 
-numbers-other : (k : ℕ) (ms : List Member) → NotIn k (map (λ (m : Member). m.client) ms) → AllByRecursion (λ (m : Member). (m.client == k)
+pub numbers-other : (k : ℕ) (ms : List Member) → NotIn k (map (λ (m : Member). m.client) ms)
+    → AllByRecursion (λ (m : Member). (m.client == k)
     ≡ false) ms
 numbers-other k [] a = tt
 numbers-other k (m ∷ ms) a = (a.0, numbers-other k ms a.1)
@@ -231,7 +233,7 @@ stamp-walk : (c : ℕ) (said : List (ℕ × Command)) (o : Origin) (e : Event) �
 stamp-walk c said o e quiet = record {
   base = stamp-base c said o e quiet;
   locks = λ t m digest on allowed r h. (r, record { live = h.live; early = h.early; senders = h.senders });
-  orders = λ t k is r h. (r, record { live = h.live; early = h.early; senders = h.senders });
+  orders = λ t k is still r h. (r, record { live = h.live; early = h.early; senders = h.senders });
   asks_map = λ t m on at. of-asks o e (KeepsStamps c said) (stamp-base c said o e quiet) (stamp-moves c said o e) t m on at;
   enters_game = λ t m on at. of-enters o e (KeepsStamps c said) (stamp-base c said o e quiet) (stamp-moves c said o e) t m on at;
   goes = λ t m farewell on. of-leaves o e (KeepsStamps c said) (stamp-base c said o e quiet) (stamp-moves c said o e) t m farewell on;
@@ -555,3 +557,13 @@ are-kept c o es = from-kept c o es (first o) [] (is-ordered o []) (record { live
 pub live-stamped : (o : Origin) (es : List Event) (c : ℕ) (m : Member) → member_of (table_of o es) c ≡ Some m → accepted o es c
     ≡ stamped_of m.client (journal_of o es) ++ m.waiting
 live-stamped o es c m is = (are-kept c o es).live m (on-found (table_of o es) c m is) (found-on c (table_of o es).members m is)
+
+-- ---- what else is used of it
+
+pub drop-front : (xs ys : List Command) → drop (length xs) (xs ++ ys) ≡ ys
+drop-front [] ys = refl
+drop-front (x ∷ xs) ys = drop-front xs ys
+
+pub rising-none : (ms : List Member) → AreRising 1 (map (λ (m : Member). m.client) ms) → AllByRecursion (λ (m : Member). (m.client == 1)
+    ≡ false) ms
+rising-none ms r = numbers-other 1 ms (rising-not 1 1 (map (λ (m : Member). m.client) ms) (omega arith) r)

@@ -102,10 +102,10 @@ module _ (o : Origin) (e : Event) (P : Table → List Step → Table → Type 0)
   -- it holds of each part that rules are made of, but for those of a tick
   pub record Walk : Type 0 where
     pub base : Base
-    -- a company has a password or none; the server orders a command
+    -- a company has a password or none; the server orders a command, in no tick
     pub locks : (t : Table) (m : Member) (digest : Option (List ℕ)) → On t m → Allows o t m (ClientSetPassword digest)
         → P t [] (with_digest m.company digest t)
-    pub orders : (t : Table) (c : Command) → IsOrdered t c → P t [] (record t { own = t.own ++ c ∷ [] })
+    pub orders : (t : Table) (c : Command) → IsOrdered t c → is_tick e ≡ false → P t [] (record t { own = t.own ++ c ∷ [] })
     -- a member asks for the map, enters the game, or goes
     pub asks_map : (t : Table) (m : Member) → On t m → rank m.status ≡ 4 → Of t (asks m t)
     pub enters_game : (t : Table) (m : Member) → On t m → rank m.status ≡ 7 → Of t (enters m t)
@@ -280,8 +280,8 @@ module _ (o : Origin) (e : Event) (P : Table → List Step → Table → Type 0)
     of-password [] t m name asked on may = of-company (digest_of t asked) t m name asked on may
     of-password (b ∷ bs) t m name asked on may = w.base.turns (wants_password true name asked) t m on may tt
 
-    of-active : (t : Table) (m : Member) → On t m → rank m.status ≡ 8 → Of t (becomes_active m t)
-    of-active t m on at =
+    of-active : (t : Table) (m : Member) → On t m → rank m.status ≡ 8 → is_tick e ≡ false → Of t (becomes_active m t)
+    of-active t m on at still =
         let u : Table = turned_in plays t m in
         let to : List ℕ = filter (λ c. not (c == m.conn)) (playing t) in
         let others : Within to (playing t) = λ c h. all-filter (IsOther c) (λ x. not (x == m.conn)) (playing t) h in
@@ -290,7 +290,7 @@ module _ (o : Origin) (e : Event) (P : Table → List Step → Table → Type 0)
         let seen : P t (step to (Msg (ServerJoin m.client)) ∷ step (watching client_updates u) (ToAdmin (admins.ServerClientJoin m.client))
             ∷ []) u = w.base.joins t u u _ _ told (of-watched w.base client_updates _ u) in
         w.base.joins t u _ _ _ seen (of-where w.base (m.asked == founder) (asks_company (turned plays t m)) u
-            (λ is. w.orders u (new_company (turned plays t m)) (turned plays t m, on-turned w.base plays t m on, refl)))
+            (λ is. w.orders u (new_company (turned plays t m)) (turned plays t m, on-turned w.base plays t m on, refl) still))
 
     acked-status : (frame token : ℕ) (m : Member) → (acknowledged frame token m).status ≡ m.status
     acked-status frame token m = by (token == 0)
@@ -311,7 +311,8 @@ module _ (o : Origin) (e : Event) (P : Table → List Step → Table → Type 0)
         let u : Table = turned_in c t m in
         w.base.joins t u _ _ _ (w.base.turns c t m on allowed said) (of-where w.base (has_caught_up frame t m) (becomes_active n) u
         (λ yes. of-active u n (on-turned w.base c t m on) (ap rank (acked-status frame token m)
-            ∙ eqb-true (rank m.status) 8 (first-true (is_in PreActive m) (nat_le t.frame (frame + 74)) yes))))
+            ∙ eqb-true (rank m.status) 8 (first-true (is_in PreActive m) (nat_le t.frame (frame + 74)) yes))
+            (ap (λ (d : Event). is_tick d) said.2)))
 
     of-chats : (t : Table) (client scope to : ℕ) (text : List ℕ) → Of t (chats client scope to text t)
     of-chats t client scope to text =

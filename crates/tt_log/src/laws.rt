@@ -14,7 +14,7 @@ ghost use Rattle.tt_log.specs.Foundings.{foundings_in};
 ghost use Rattle.tt_log.specs.Tick.{foundings};
 ghost use Rattle.tt_rules.specs.Companies.{living};
 ghost use Rattle.tt_world.specs.World.{WorldState};
-ghost use Rattle.tt_log.specs.Stamps.{accepted, stamped_of};
+ghost use Rattle.tt_log.specs.Stamps.{accepted, ordered, owned, stamped_of};
 ghost use Rattle.tt_rules.specs.Codes.{illegal_packet};
 ghost use Rattle.tt_rules.specs.declared.status.Verdict.TheVariants.{Ends};
 ghost use Rattle.tt_game.specs.declared.message.GameMsg.TheVariants.{ServerError};
@@ -153,6 +153,9 @@ pub fn members_are_marked()
 pub fn stamped_once()
     ensures clients { (o : Origin) (es : List Event) (conn : ℕ) (m : Member) → member_of (table_of o es) conn ≡ Some m
         → accepted o es conn ≡ stamped_of m.client (journal_of o es) ++ m.waiting }
+    // What the server ordered itself is what was stamped of it, and then its own list.
+    ensures servers { (o : Origin) (es : List Event)
+        → map owned (ordered o es) ≡ stamped_of 1 (journal_of o es) ++ map owned (table_of o es).own }
     // Every sender is the server, or a client number that was given.
     ensures senders { (o : Origin) (es : List Event) → AllByRecursion (λ (e : Entry). e.sender ≤ (table_of o es).clients)
         (journal_of o es) }
