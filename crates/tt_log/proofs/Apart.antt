@@ -60,7 +60,8 @@ playing-not : (c : ℕ) (t : Table) → Apart c t → NotIn c (playing t)
 playing-not c t a = all-of-filter (λ (m : Member). m.conn) is_playing c t.members a.members
 
 put-apart : (c : ℕ) (n : Member) (t : Table) → Apart c t → IsApart c (conns (put n t.members)) (admin_conns t.admins) t.queue
-put-apart c n t a = record { members = subst (λ (xs : List ℕ). NotIn c xs) (sym (put-conns n t.members)) a.members; admins = a.admins; queue = a.queue }
+put-apart c n t a = record { members = subst (λ (xs : List ℕ). NotIn c xs) (sym (put-conns n t.members)) a.members; admins =
+    a.admins; queue = a.queue }
 
 own-missed : (c conn : ℕ) (ws : List What) → IsOther c conn → Misses c (map (λ w. step (conn ∷ []) w) ws)
 own-missed c conn [] ne = tt
@@ -103,39 +104,50 @@ says c t to w not_in = passes c t _ t refl (λ a. record { apart = a; misses = (
 abbrev PassesBy : ℕ → Table → List Step → Table → Type 0
 PassesBy c t steps u = Passes c t steps u
 
-apart-base : (c : ℕ) (o : Origin) → Base o (PassesBy c)
-apart-base c o = record {
+apart-base : (c : ℕ) (o : Origin) (e : Event) → Base o e (PassesBy c)
+apart-base c o e = record {
   still = λ t. still-passes c t;
   joins = λ t u v xs ys a b. then-passes c t u v xs ys a b;
-  turns = λ k t m on may. passes c t _ _ refl (λ a. record { apart = put-apart c (turned k t m) t a; misses = own-missed c m.conn (told_with k o t m) (among-not c m t.members on a.members) });
+  turns = λ k t m on may by. passes c t _ _ refl (λ a. record { apart = put-apart c (turned k t m) t a; misses =
+      own-missed c m.conn (told_with k o t m) (among-not c m t.members on a.members) });
   tells_one = λ t m msg on talk. says c t (m.conn ∷ []) _ (λ a. (among-not c m t.members on a.members, tt));
   tells_some = λ t to w there news. says c t to w (λ a. there c (playing-not c t a));
   tells_admins = λ t to msg there. says c t to _ (λ a. there c a.admins);
 }
 
-apart-moves : (c : ℕ) (o : Origin) → Moves o (PassesBy c)
-apart-moves c o = record {
-  moving = λ v t m on may. passes c t _ _ refl (λ a. record { apart = put-apart c (moved v t m) t a; misses = moved-missed c v m (among-not c m t.members on a.members) });
+apart-moves : (c : ℕ) (o : Origin) (e : Event) → Moves o e (PassesBy c)
+apart-moves c o e = record {
+  moving = λ v t m on may. passes c t _ _ refl (λ a. record { apart = put-apart c (moved v t m) t a; misses =
+      moved-missed c v m (among-not c m t.members on a.members) });
   recalls = λ t m on at. says c t (m.conn ∷ []) _ (λ a. (among-not c m t.members on a.members, tt));
   waits_on = λ t conn n there. says c t (conn ∷ []) _ (λ a. there c a.queue);
-  stands = λ t m on. passes c t [] _ refl (λ a. record { apart = record { members = a.members; admins = a.admins; queue = all-append (IsOther c) t.queue (m.conn ∷ []) a.queue (among-not c m t.members on a.members, tt) }; misses = tt });
+  stands = λ t m on. passes c t [] _ refl (λ a. record { apart = record { members = a.members; admins = a.admins; queue =
+      all-append (IsOther c) t.queue (m.conn ∷ []) a.queue (among-not c m t.members on a.members, tt) }; misses = tt });
   cuts = λ t place. passes c t [] _ refl (λ a. record {
-    apart = record { members = a.members; admins = a.admins; queue = all-append (IsOther c) (take place t.queue) (drop (place + 1) t.queue) (all-take (IsOther c) place t.queue a.queue) (all-drop (IsOther c) (place + 1) t.queue a.queue) };
+    apart = record { members = a.members; admins = a.admins; queue = all-append (IsOther c) (take place t.queue) (drop (place + 1) t.queue)
+        (all-take (IsOther c) place t.queue a.queue) (all-drop (IsOther c) (place + 1) t.queue a.queue) };
     misses = tt;
   });
-  parts = λ t m on. passes c t _ _ refl (λ a. record { apart = record { members = all-of-filter (λ (n : Member). n.conn) (λ n. not (is_on m.conn n)) c t.members a.members; admins = a.admins; queue = a.queue }; misses = ((among-not c m t.members on a.members, tt), tt) });
-  greets = λ t m on at. passes c t _ _ refl (λ a. record { apart = put-apart c _ t a; misses = ((among-not c m t.members on a.members, tt), tt) });
+  parts = λ t m on. passes c t _ _ refl
+      (λ a. record { apart = record { members = all-of-filter (λ (n : Member). n.conn) (λ n. not (is_on m.conn n)) c t.members a.members;
+      admins = a.admins; queue = a.queue }; misses = ((among-not c m t.members on a.members, tt), tt) });
+  greets = λ t m on at. passes c t _ _ refl (λ a. record { apart = put-apart c _ t a; misses =
+      ((among-not c m t.members on a.members, tt), tt) });
 }
 
-apart-walk : (c : ℕ) (o : Origin) → Walk o (PassesBy c)
-apart-walk c o = record {
-  base = apart-base c o;
-  locks = λ t m digest on allowed. passes c t [] _ refl (λ a. record { apart = record { members = a.members; admins = a.admins; queue = a.queue }; misses = tt });
-  orders = λ t k is. passes c t [] _ refl (λ a. record { apart = record { members = a.members; admins = a.admins; queue = a.queue }; misses = tt });
-  asks_map = λ t m on at. of-asks o (PassesBy c) (apart-base c o) (apart-moves c o) t m on at;
-  enters_game = λ t m on at. of-enters o (PassesBy c) (apart-base c o) (apart-moves c o) t m on at;
-  goes = λ t m farewell on. of-leaves o (PassesBy c) (apart-base c o) (apart-moves c o) t m farewell on;
-  goes_aside = λ t b on. passes c t _ _ refl (λ a. record { apart = record { members = a.members; admins = all-of-filter (λ (d : Admin). d.conn) (λ d. not (is_admin_on b.conn d)) c t.admins a.admins; queue = a.queue }; misses = ((admin-not c b t.admins on a.admins, tt), tt) });
+apart-walk : (c : ℕ) (o : Origin) (e : Event) → Walk o e (PassesBy c)
+apart-walk c o e = record {
+  base = apart-base c o e;
+  locks = λ t m digest on allowed. passes c t [] _ refl (λ a. record { apart = record { members = a.members; admins = a.admins; queue =
+      a.queue }; misses = tt });
+  orders = λ t k is still. passes c t [] _ refl (λ a. record { apart = record { members = a.members; admins = a.admins; queue = a.queue };
+      misses = tt });
+  asks_map = λ t m on at. of-asks o e (PassesBy c) (apart-base c o e) (apart-moves c o e) t m on at;
+  enters_game = λ t m on at. of-enters o e (PassesBy c) (apart-base c o e) (apart-moves c o e) t m on at;
+  goes = λ t m farewell on. of-leaves o e (PassesBy c) (apart-base c o e) (apart-moves c o e) t m farewell on;
+  goes_aside = λ t b on. passes c t _ _ refl
+      (λ a. record { apart = record { members = a.members; admins = all-of-filter (λ (d : Admin). d.conn) (λ d. not (is_admin_on b.conn d))
+      c t.admins a.admins; queue = a.queue }; misses = ((admin-not c b t.admins on a.admins, tt), tt) });
 }
 
 -- what is opened is another one
@@ -144,46 +156,61 @@ is-new c n (inl opened) = ne_eqb (n + 1) c (λ e. omega (arith, e, opened))
 is-new c n (inr unopened) = ne_eqb (n + 1) c (λ e. omega (arith, e, unopened))
 
 arrives-passes : (full : Bool) (c : ℕ) (t : Table) → Passes c t (arrives full (counted_in t)).told (arrives full (counted_in t)).table
-arrives-passes true c t = record { openings = omega arith; unseen = λ is a. record { apart = record { members = a.members; admins = a.admins; queue = a.queue }; misses = ((is-new c t.openings is, tt), ((is-new c t.openings is, tt), tt)) } }
+arrives-passes true c t = record { openings = omega arith; unseen =
+    λ is a. record { apart = record { members = a.members; admins = a.admins; queue = a.queue }; misses =
+    ((is-new c t.openings is, tt), ((is-new c t.openings is, tt), tt)) } }
 arrives-passes false c t = record {
   openings = omega arith;
   unseen = λ is a. record {
-    apart = record { members = all-more (IsOther c) (λ (m : Member). m.conn) t.members _ a.members (is-new c t.openings is); admins = a.admins; queue = a.queue };
+    apart = record { members = all-more (IsOther c) (λ (m : Member). m.conn) t.members _ a.members (is-new c t.openings is); admins =
+        a.admins; queue = a.queue };
     misses = tt;
   };
 }
 
-aside-passes : (full : Bool) (c : ℕ) (t : Table) → Passes c t (admin_arrives full (counted_aside t)).told (admin_arrives full (counted_aside t)).table
-aside-passes true c t = record { openings = omega arith; unseen = λ is a. record { apart = record { members = a.members; admins = a.admins; queue = a.queue }; misses = ((is-new c t.openings is, tt), ((is-new c t.openings is, tt), tt)) } }
+aside-passes : (full : Bool) (c : ℕ) (t : Table) → Passes c t (admin_arrives full (counted_aside t)).told
+    (admin_arrives full (counted_aside t)).table
+aside-passes true c t = record { openings = omega arith; unseen =
+    λ is a. record { apart = record { members = a.members; admins = a.admins; queue = a.queue }; misses =
+    ((is-new c t.openings is, tt), ((is-new c t.openings is, tt), tt)) } }
 aside-passes false c t = record {
   openings = omega arith;
   unseen = λ is a. record {
-    apart = record { members = a.members; admins = all-more (IsOther c) (λ (b : Admin). b.conn) t.admins _ a.admins (is-new c t.openings is); queue = a.queue };
+    apart = record { members = a.members; admins = all-more (IsOther c) (λ (b : Admin). b.conn) t.admins _ a.admins
+        (is-new c t.openings is); queue = a.queue };
     misses = tt;
   };
 }
 
-apart-doors : (c : ℕ) (o : Origin) → Doors o (PassesBy c)
-apart-doors c o = record { comes = λ t. arrives-passes (nat_le o.setup.max_clients (length t.members)) c t; comes_aside = λ t. aside-passes (nat_le most_admins (length t.admins)) c t }
+apart-doors : (c : ℕ) (o : Origin) (e : Event) → Doors o e (PassesBy c)
+apart-doors c o e = record { comes = λ t. arrives-passes (nat_le o.setup.max_clients (length t.members)) c t; comes_aside =
+    λ t. aside-passes (nat_le most_admins (length t.admins)) c t }
 
 running-passes : (b : Bool) (c : ℕ) (o : Origin) (t : Table) → Passes c t [] (running b o t)
-running-passes true c o t = passes c t [] _ refl (λ a. record { apart = record { members = a.members; admins = a.admins; queue = a.queue }; misses = tt })
-running-passes false c o t = passes c t [] _ refl (λ a. record { apart = record { members = a.members; admins = a.admins; queue = a.queue }; misses = tt })
+running-passes true c o t = passes c t [] _ refl (λ a. record { apart = record { members = a.members; admins = a.admins; queue = a.queue };
+    misses = tt })
+running-passes false c o t = passes c t [] _ refl (λ a. record { apart = record { members = a.members; admins = a.admins; queue = a.queue };
+    misses = tt })
 
-apart-ticks : (c : ℕ) (o : Origin) → Ticks o (PassesBy c)
-apart-ticks c o = record {
-  stamping = λ t. passes c t [] _ refl (λ a. record { apart = record { members = subst (λ (xs : List ℕ). NotIn c xs) (sym (map-same (λ (m : Member). m.conn) drawn t.members (λ m. refl))) a.members; admins = a.admins; queue = a.queue }; misses = tt });
+apart-ticks : (c : ℕ) (o : Origin) (e : Event) → Ticks o e (PassesBy c)
+apart-ticks c o e = record {
+  stamping = λ t. passes c t [] _ refl
+      (λ a. record { apart =
+      record { members = subst (λ (xs : List ℕ). NotIn c xs) (sym (map-same (λ (m : Member). m.conn) drawn t.members (λ m. refl)))
+      a.members; admins = a.admins; queue = a.queue }; misses = tt });
   running = λ t b is. running-passes b c o t;
 }
 
-apart-closing : (c : ℕ) (o : Origin) → Closing o (PassesBy c)
-apart-closing c o = record {
-  charges = λ t e. passes c t [] _ refl (λ a. record { apart = record { members = a.members; admins = a.admins; queue = a.queue }; misses = tt });
-  closes = λ t. passes c t _ _ refl (λ a. record { apart = record { members = tt; admins = tt; queue = tt }; misses = (a.members, (a.admins, (all-append (IsOther c) (conns t.members) (admin_conns t.admins) a.members a.admins, tt))) });
+apart-closing : (c : ℕ) (o : Origin) (e : Event) → Closing o e (PassesBy c)
+apart-closing c o e = record {
+  charges = λ t. passes c t [] _ refl (λ a. record { apart = record { members = a.members; admins = a.admins; queue = a.queue }; misses =
+      tt });
+  closes = λ t. passes c t _ _ refl (λ a. record { apart = record { members = tt; admins = tt; queue = tt }; misses =
+      (a.members, (a.admins, (all-append (IsOther c) (conns t.members) (admin_conns t.admins) a.members a.admins, tt))) });
 }
 
 pub step-passes : (c : ℕ) (o : Origin) (e : Event) (t : Table) → Passes c t (deed o e t).told (stepped o t e)
-step-passes c o e t = of-deed o (PassesBy c) (apart-walk c o) (apart-ticks c o) (apart-doors c o) (apart-closing c o) e t
+step-passes c o e t = of-deed o e (PassesBy c) (apart-walk c o e) (apart-ticks c o e) (apart-doors c o e) (apart-closing c o e) t
 
 -- ---- who is apart is not live, and hears nothing
 
@@ -192,9 +219,11 @@ any-or true y a b = absurd cc
 any-or false y a b = b
 
 pub apart-not-live : (c : ℕ) (t : Table) → Apart c t → is_live t c ≡ false
-apart-not-live c t a = any-or _ _ (live-conns c t.members ∙ any-not c (conns t.members) a.members) (live-admins c t.admins ∙ any-not c (admin_conns t.admins) a.admins)
+apart-not-live c t a = any-or _ _ (live-conns c t.members ∙ any-not c (conns t.members) a.members) (live-admins c t.admins
+    ∙ any-not c (admin_conns t.admins) a.admins)
 
-missed-one : (c : ℕ) (to : List ℕ) (said : List Said) (more : List Telling) → list_any (λ x. x == c) to ≡ false → told_to c (map (telling to) said ++ more) ≡ told_to c more
+missed-one : (c : ℕ) (to : List ℕ) (said : List Said) (more : List Telling) → list_any (λ x. x == c) to ≡ false
+    → told_to c (map (telling to) said ++ more) ≡ told_to c more
 missed-one c to [] more is = refl
 missed-one c to (s ∷ said) more is = rw is (missed-one c to said more is)
 

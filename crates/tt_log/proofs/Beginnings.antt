@@ -7,7 +7,8 @@ use Rattle.tt_world.specs.Setup.{Fits}
 use Rattle.tt_world.proofs.SoundLaws.{IsSound-start}
 use Rattle.tt_log.specs.Origin.{IsOrigin, origin_of}
 
-pub new-game : (setup : Setup) → Fits setup → setup.seed < 2 ^ 32 → IsName setup.name → IsName setup.revision → IsName setup.id → IsOrigin (origin_of setup)
+pub new-game : (setup : Setup) → Fits setup → setup.seed < 2 ^ 32 → IsName setup.name → IsName setup.revision → IsName setup.id
+    → IsOrigin (origin_of setup)
 new-game setup fits seed name revision id = record {
   setup = fits;
   seed = seed;

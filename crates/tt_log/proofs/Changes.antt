@@ -1,6 +1,8 @@
 -- What rules are made of: how a member changes and what it is told with it, and what others are told.
 use Rattle.std.proofs.Common.{◌≡◌, ◌⊎◌, ℕ, ◌+◌, ◌≤◌, ◌<◌, Bool, true, false, List, [], ◌∷◌, ◌++◌, Option, Some, None, refl}
 use Rattle.std.specs.Prelude.{length, map, cond, ◌==◌}
+use Rattle.tt_edge.specs.declared.event.Event.{Event}
+use Rattle.tt_edge.specs.declared.event.Event.TheVariants.{Packet}
 use Rattle.tt_game.specs.declared.message.GameMsg.{GameMsg}
 use Rattle.tt_game.specs.declared.message.GameMsg.TheVariants.{ClientJoin, ClientAck, ClientCommand, ClientSetName, ClientMove, ServerNeedGamePassword, ServerNeedCompanyPassword, ServerWelcome, ServerFrame, ServerCommand, ServerFull, ServerMapBegin, ServerMapSize, ServerMapData, ServerMapDone, ServerSync, ServerShutdown}
 use Rattle.tt_world.specs.declared.command.Command.{Command}
@@ -23,6 +25,7 @@ use Rattle.tt_log.specs.Queue.{downloading}
 use Rattle.tt_log.specs.Judged.{refused, unless, judged}
 use Rattle.tt_log.specs.PacketRules.{first_company, acknowledged, closed_token}
 use Rattle.tt_log.specs.Tick.{pieces_of}
+use Rattle.tt_log.specs.Events.{read_msg}
 
 abbrev pub step : List ℕ → What → Step
 step to w = record { to = to; what = w }
@@ -77,7 +80,8 @@ pub data Move : Type 0 where
 abbrev pub Asks : Origin → Table → Member → List ℕ → ℕ → Type 0
 Asks o t m name asked =
     ((name ≡ m.name) × (asked ≡ m.asked) × (2 ≤ rank m.status) × (rank m.status ≤ 3))
-    ⊎ ((rank m.status ≡ 0) × ((revision : List ℕ) × (grf : ℕ) × (wanted : List ℕ) × (name ≡ given_name t m.conn wanted) × Allows o t m (ClientJoin revision grf wanted asked)))
+    ⊎ ((rank m.status ≡ 0) × ((revision : List ℕ) × (grf : ℕ) × (wanted : List ℕ) × (name ≡ given_name t m.conn wanted)
+        × Allows o t m (ClientJoin revision grf wanted asked)))
 
 -- when it may change so
 abbrev pub May : Origin → Table → Member → Change → Type 0
@@ -87,12 +91,23 @@ May o t m gets_token = (8 ≤ rank m.status) × (m.token ≡ 0)
 May o t m gets_frame = 8 ≤ rank m.status
 May o t m (answers frame token) = Allows o t m (ClientAck frame token)
 May o t m plays = rank m.status ≡ 8
-May o t m (commands company code number to text command) = (command_of code number to text ≡ Some command) × Allows o t m (ClientCommand company code number to text)
+May o t m (commands company code number to text command) = (command_of code number to text ≡ Some command)
+    × Allows o t m (ClientCommand company code number to text)
 May o t m (has_name name) = Allows o t m (ClientSetName name)
 May o t m (goes_to company digest) = Allows o t m (ClientMove company digest)
 May o t m (founds company) = Unit
 May o t m (gets_pieces left) = rank m.status ≡ 6
 May o t m has_all = rank m.status ≡ 6
+
+-- the event is the packet of this member that spells the message
+abbrev pub Says : Event → Member → GameMsg → Type 0
+Says e m msg = (kind : ℕ) × (body : List ℕ) × (e ≡ Packet m.conn kind body) × (read_msg kind body ≡ Some msg)
+
+-- a command waits, and a token is closed, by a packet of the member alone
+abbrev pub By : Event → Member → Change → Type 0
+By e m (answers frame token) = Says e m (ClientAck frame token)
+By e m (commands company code number to text command) = Says e m (ClientCommand company code number to text)
+By e m other = Unit
 
 abbrev pub password_status : Bool → Table → Member → Member
 password_status true t m = now_in AuthGame t m

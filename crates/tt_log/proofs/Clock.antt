@@ -33,18 +33,18 @@ same-then t u v a b = record { frame = b.frame ∙ a.frame; top = b.top ∙ a.to
 abbrev pub KeepsClock : Table → List Step → Table → Type 0
 KeepsClock t steps u = SameClock t u
 
-pub same-base : (o : Origin) → Base o KeepsClock
-same-base o = record {
+pub same-base : (o : Origin) (e : Event) → Base o e KeepsClock
+same-base o e = record {
   still = λ t. record { frame = refl; top = refl; over = refl; journal = refl };
   joins = λ t u v xs ys a b. same-then t u v a b;
-  turns = λ c t m on may. record { frame = refl; top = refl; over = refl; journal = refl };
+  turns = λ c t m on may by. record { frame = refl; top = refl; over = refl; journal = refl };
   tells_one = λ t m msg on talk. record { frame = refl; top = refl; over = refl; journal = refl };
   tells_some = λ t to w there news. record { frame = refl; top = refl; over = refl; journal = refl };
   tells_admins = λ t to msg there. record { frame = refl; top = refl; over = refl; journal = refl };
 }
 
-pub same-moves : (o : Origin) → Moves o KeepsClock
-same-moves o = record {
+pub same-moves : (o : Origin) (e : Event) → Moves o e KeepsClock
+same-moves o e = record {
   moving = λ v t m on may. record { frame = refl; top = refl; over = refl; journal = refl };
   recalls = λ t m on at. record { frame = refl; top = refl; over = refl; journal = refl };
   waits_on = λ t conn n there. record { frame = refl; top = refl; over = refl; journal = refl };
@@ -54,14 +54,14 @@ same-moves o = record {
   greets = λ t m on at. record { frame = refl; top = refl; over = refl; journal = refl };
 }
 
-pub same-walk : (o : Origin) → Walk o KeepsClock
-same-walk o = record {
-  base = same-base o;
+pub same-walk : (o : Origin) (e : Event) → Walk o e KeepsClock
+same-walk o e = record {
+  base = same-base o e;
   locks = λ t m digest on allowed. record { frame = refl; top = refl; over = refl; journal = refl };
-  orders = λ t c is. record { frame = refl; top = refl; over = refl; journal = refl };
-  asks_map = λ t m on at. of-asks o KeepsClock (same-base o) (same-moves o) t m on at;
-  enters_game = λ t m on at. of-enters o KeepsClock (same-base o) (same-moves o) t m on at;
-  goes = λ t m farewell on. of-leaves o KeepsClock (same-base o) (same-moves o) t m farewell on;
+  orders = λ t c is still. record { frame = refl; top = refl; over = refl; journal = refl };
+  asks_map = λ t m on at. of-asks o e KeepsClock (same-base o e) (same-moves o e) t m on at;
+  enters_game = λ t m on at. of-enters o e KeepsClock (same-base o e) (same-moves o e) t m on at;
+  goes = λ t m farewell on. of-leaves o e KeepsClock (same-base o e) (same-moves o e) t m farewell on;
   goes_aside = λ t a on. record { frame = refl; top = refl; over = refl; journal = refl };
 }
 
@@ -73,23 +73,23 @@ same-aside : (full : Bool) (t : Table) → SameClock t (admin_arrives full (coun
 same-aside true t = record { frame = refl; top = refl; over = refl; journal = refl }
 same-aside false t = record { frame = refl; top = refl; over = refl; journal = refl }
 
-pub same-doors : (o : Origin) → Doors o KeepsClock
-same-doors o = record {
+pub same-doors : (o : Origin) (e : Event) → Doors o e KeepsClock
+same-doors o e = record {
   comes = λ t. same-arrives (nat_le o.setup.max_clients (length t.members)) t;
   comes_aside = λ t. same-aside (nat_le most_admins (length t.admins)) t;
 }
 
 -- an event that is no tick leaves the clock
 pub event-same : (o : Origin) (e : Event) (t : Table) → is_tick e ≡ false → SameClock t (by_event o e t).table
-event-same o e t other = of-still o KeepsClock (same-walk o) (same-doors o) e t other
+event-same o e t other = of-still o e KeepsClock (same-walk o e) (same-doors o e) t other
 
 -- ---- a tick
 
 pub stamped-same : (o : Origin) (t : Table) → SameClock (stamping t) (stamped t).table
-stamped-same o t = of-entries o KeepsClock (same-base o) (stamps t) (stamping t)
+stamped-same o t = of-entries o Tick KeepsClock (same-base o Tick) (stamps t) (stamping t)
 
 runs-same : (o : Origin) (b : Bool) (t : Table) → SameClock (running b o t) (frame_runs_by b o t).table
-runs-same o true t = of-frames o KeepsClock (same-base o) t.members (running true o t)
+runs-same o true t = of-frames o Tick KeepsClock (same-base o Tick) t.members (running true o t)
 runs-same o false t = record { frame = refl; top = refl; over = refl; journal = refl }
 
 -- what a tick makes of the clock: one frame more, and where that passes the permitted one, this is raised by so many frames
@@ -99,7 +99,8 @@ pub record Ticked (o : Origin) (t u : Table) : Type 0 where
   pub over : u.over ≡ t.over
   pub journal : u.journal ≡ t.journal ++ stamps t
 
-ticked-by : (b : Bool) (o : Origin) (t s u v : Table) → SameClock (stamping t) s → nat_lt s.top (s.frame + 1) ≡ b → SameClock (running b o s) u → SameClock u v → Ticked o t v
+ticked-by : (b : Bool) (o : Origin) (t s u v : Table) → SameClock (stamping t) s → nat_lt s.top (s.frame + 1) ≡ b
+    → SameClock (running b o s) u → SameClock u v → Ticked o t v
 ticked-by true o t s u v a is b c =
     let low : s.top < s.frame + 1 = ltb-true s.top (s.frame + 1) is in
     record {
@@ -122,11 +123,13 @@ ticked-is o t =
     let s : Table = (stamped t).table in
     let b : Bool = nat_lt s.top (s.frame + 1) in
     let u : Table = (frame_runs_by b o s).table in
-    ticked-by b o t s u (ticked o t).table (stamped-same o t) refl (runs-same o b s) (of-follows o KeepsClock (same-walk o) (living_in o t) (left_of o t) u)
+    ticked-by b o t s u (ticked o t).table (stamped-same o t) refl (runs-same o b s) (of-follows o Tick KeepsClock (same-walk o Tick)
+        (living_in o t) (left_of o t) u)
 
 -- ---- what follows the rule of an event
 
-closed-same : (b : Bool) (t : Table) → ((where_ b shut_down t).table.frame ≡ t.frame) × ((where_ b shut_down t).table.top ≡ t.top) × ((where_ b shut_down t).table.journal ≡ t.journal)
+closed-same : (b : Bool) (t : Table) → ((where_ b shut_down t).table.frame ≡ t.frame) × ((where_ b shut_down t).table.top ≡ t.top)
+    × ((where_ b shut_down t).table.journal ≡ t.journal)
 closed-same true t = (refl, refl, refl)
 closed-same false t = (refl, refl, refl)
 
@@ -160,7 +163,8 @@ tick-runs o t going =
 
 -- ---- what holds behind every list of events
 
-pub from-all : (o : Origin) (I : Table → Type 0) → ((e : Event) (t : Table) → I t → I (stepped o t e)) → (es : List Event) (t : Table) → I t → I (fold (stepped o) t es)
+pub from-all : (o : Origin) (I : Table → Type 0) → ((e : Event) (t : Table) → I t → I (stepped o t e)) → (es : List Event) (t : Table) → I t
+    → I (fold (stepped o) t es)
 from-all o I step [] t h = h
 from-all o I step (e ∷ es) t h = from-all o I step es (stepped o t e) (step e t h)
 
@@ -175,7 +179,8 @@ Near o t = IsNear o t.frame t.top
 near-run : (o : Origin) (t u : Table) → SameRun t u → Near o t → Near o u
 near-run o t u same h = rw (same.frame, same.top) h
 
-near-top : (o : Origin) (t u : Table) → u.frame ≡ t.frame + 1 → ((t.top < t.frame + 1) × (u.top ≡ t.frame + 1 + o.setup.frame_freq)) ⊎ ((t.frame + 1 ≤ t.top) × (u.top ≡ t.top)) → Near o t → Near o u
+near-top : (o : Origin) (t u : Table) → u.frame ≡ t.frame + 1 → ((t.top < t.frame + 1) × (u.top ≡ t.frame + 1 + o.setup.frame_freq))
+    ⊎ ((t.frame + 1 ≤ t.top) × (u.top ≡ t.top)) → Near o t → Near o u
 near-top o t u frame (inl top) h = record { ahead = omega (arith, frame, top.1); near = omega (arith, frame, top.1) }
 near-top o t u frame (inr top) h = record { ahead = omega (arith, frame, top.0, top.1); near = omega (arith, frame, top.1, h.near) }
 
@@ -188,7 +193,8 @@ near-same o t u same h = near-run o t u (record { frame = same.frame; top = same
 near-event : (o : Origin) (e : Event) (t : Table) → Near o t → Near o (by_event o e t).table
 near-event o Tick t h = near-ticked o t (ticked o t).table (ticked-is o t) h
 near-event o (Open door peer) t h = near-same o t (by_event o (Open door peer) t).table (event-same o (Open door peer) t refl) h
-near-event o (Packet conn kind body) t h = near-same o t (by_event o (Packet conn kind body) t).table (event-same o (Packet conn kind body) t refl) h
+near-event o (Packet conn kind body) t h = near-same o t (by_event o (Packet conn kind body) t).table
+    (event-same o (Packet conn kind body) t refl) h
 near-event o (Broken conn) t h = near-same o t (by_event o (Broken conn) t).table (event-same o (Broken conn) t refl) h
 near-event o (Shut conn) t h = near-same o t (by_event o (Shut conn) t).table (event-same o (Shut conn) t refl) h
 near-event o Stop t h = h
@@ -223,7 +229,8 @@ not-over true y e = absurd cc
 not-over false y e = refl
 
 empties-by : (b : Bool) (o : Origin) (e : Event) (t : Table) → takes t e ≡ b → Empties t → Empties (where_ b (taken o e) t).table
-empties-by true o e t is h = let v : Table = (charged e (by_event o e t).table).table in closed-over _ v (event-over o e t ∙ not-over t.over (names_live t e) is)
+empties-by true o e t is h = let v : Table = (charged e (by_event o e t).table).table in closed-over _ v (event-over o e t
+    ∙ not-over t.over (names_live t e) is)
 empties-by false o e t is h = h
 
 pub over-is-empty : (o : Origin) (es : List Event) → Empties (table_of o es)

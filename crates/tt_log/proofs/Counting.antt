@@ -26,18 +26,18 @@ pub record SameCounts (t u : Table) : Type 0 where
 abbrev KeepsCounts : Table → List Step → Table → Type 0
 KeepsCounts t steps u = SameCounts t u
 
-counts-base : (o : Origin) → Base o KeepsCounts
-counts-base o = record {
+counts-base : (o : Origin) (e : Event) → Base o e KeepsCounts
+counts-base o e = record {
   still = λ t. record { openings = refl; cost = refl };
   joins = λ t u v xs ys a b. record { openings = b.openings ∙ a.openings; cost = b.cost ∙ a.cost };
-  turns = λ k t m on may. record { openings = refl; cost = refl };
+  turns = λ k t m on may by. record { openings = refl; cost = refl };
   tells_one = λ t m msg on talk. record { openings = refl; cost = refl };
   tells_some = λ t to w there news. record { openings = refl; cost = refl };
   tells_admins = λ t to msg there. record { openings = refl; cost = refl };
 }
 
-counts-moves : (o : Origin) → Moves o KeepsCounts
-counts-moves o = record {
+counts-moves : (o : Origin) (e : Event) → Moves o e KeepsCounts
+counts-moves o e = record {
   moving = λ v t m on may. record { openings = refl; cost = refl };
   recalls = λ t m on at. record { openings = refl; cost = refl };
   waits_on = λ t conn n there. record { openings = refl; cost = refl };
@@ -47,14 +47,14 @@ counts-moves o = record {
   greets = λ t m on at. record { openings = refl; cost = refl };
 }
 
-counts-walk : (o : Origin) → Walk o KeepsCounts
-counts-walk o = record {
-  base = counts-base o;
+counts-walk : (o : Origin) (e : Event) → Walk o e KeepsCounts
+counts-walk o e = record {
+  base = counts-base o e;
   locks = λ t m digest on allowed. record { openings = refl; cost = refl };
-  orders = λ t c is. record { openings = refl; cost = refl };
-  asks_map = λ t m on at. of-asks o KeepsCounts (counts-base o) (counts-moves o) t m on at;
-  enters_game = λ t m on at. of-enters o KeepsCounts (counts-base o) (counts-moves o) t m on at;
-  goes = λ t m farewell on. of-leaves o KeepsCounts (counts-base o) (counts-moves o) t m farewell on;
+  orders = λ t c is still. record { openings = refl; cost = refl };
+  asks_map = λ t m on at. of-asks o e KeepsCounts (counts-base o e) (counts-moves o e) t m on at;
+  enters_game = λ t m on at. of-enters o e KeepsCounts (counts-base o e) (counts-moves o e) t m on at;
+  goes = λ t m farewell on. of-leaves o e KeepsCounts (counts-base o e) (counts-moves o e) t m farewell on;
   goes_aside = λ t a on. record { openings = refl; cost = refl };
 }
 
@@ -62,8 +62,8 @@ run-counts : (b : Bool) (o : Origin) (t : Table) → SameCounts t (running b o t
 run-counts true o t = record { openings = refl; cost = refl }
 run-counts false o t = record { openings = refl; cost = refl }
 
-counts-ticks : (o : Origin) → Ticks o KeepsCounts
-counts-ticks o = record { stamping = λ t. record { openings = refl; cost = refl }; running = λ t b is. run-counts b o t }
+counts-ticks : (o : Origin) (e : Event) → Ticks o e KeepsCounts
+counts-ticks o e = record { stamping = λ t. record { openings = refl; cost = refl }; running = λ t b is. run-counts b o t }
 
 -- ---- an event
 
@@ -82,17 +82,19 @@ record Counts (e : Event) (t u : Table) : Type 0 where
   frame : u.frame ≡ t.frame + one_if (is_tick e)
   cost : u.cost ≡ t.cost
 
-arrives-counts : (full : Bool) (t : Table) → ((arrives full (counted_in t)).table.openings ≡ t.openings + 1) × ((arrives full (counted_in t)).table.cost ≡ t.cost)
+arrives-counts : (full : Bool) (t : Table) → ((arrives full (counted_in t)).table.openings ≡ t.openings + 1)
+    × ((arrives full (counted_in t)).table.cost ≡ t.cost)
 arrives-counts true t = (refl, refl)
 arrives-counts false t = (refl, refl)
 
-aside-counts : (full : Bool) (t : Table) → ((admin_arrives full (counted_aside t)).table.openings ≡ t.openings + 1) × ((admin_arrives full (counted_aside t)).table.cost ≡ t.cost)
+aside-counts : (full : Bool) (t : Table) → ((admin_arrives full (counted_aside t)).table.openings ≡ t.openings + 1)
+    × ((admin_arrives full (counted_aside t)).table.cost ≡ t.cost)
 aside-counts true t = (refl, refl)
 aside-counts false t = (refl, refl)
 
 still-counts : (o : Origin) (e : Event) (t : Table) → is_tick e ≡ false → is_open e ≡ false → Counts e t (by_event o e t).table
 still-counts o e t still shut =
-    let same : SameCounts t (by_event o e t).table = of-event o KeepsCounts (counts-walk o) e t still shut in
+    let same : SameCounts t (by_event o e t).table = of-event o e KeepsCounts (counts-walk o e) t still shut in
     let clock = event-same o e t still in
     record {
       openings = omega (arith, same.openings, none-if (is_open e) shut);
@@ -101,13 +103,15 @@ still-counts o e t still shut =
     }
 
 event-counts : (o : Origin) (e : Event) (t : Table) → Counts e t (by_event o e t).table
-event-counts o (Open Main peer) t = let a = arrives-counts (nat_le o.setup.max_clients (length t.members)) t in record { openings = a.0; frame = none-more _ _ (event-same o (Open Main peer) t refl).frame; cost = a.1 }
-event-counts o (Open Side peer) t = let a = aside-counts (nat_le most_admins (length t.admins)) t in record { openings = a.0; frame = none-more _ _ (event-same o (Open Side peer) t refl).frame; cost = a.1 }
+event-counts o (Open Main peer) t = let a = arrives-counts (nat_le o.setup.max_clients (length t.members)) t in
+    record { openings = a.0; frame = none-more _ _ (event-same o (Open Main peer) t refl).frame; cost = a.1 }
+event-counts o (Open Side peer) t = let a = aside-counts (nat_le most_admins (length t.admins)) t in
+    record { openings = a.0; frame = none-more _ _ (event-same o (Open Side peer) t refl).frame; cost = a.1 }
 event-counts o (Packet conn kind body) t = still-counts o (Packet conn kind body) t refl refl
 event-counts o (Broken conn) t = still-counts o (Broken conn) t refl refl
 event-counts o (Shut conn) t = still-counts o (Shut conn) t refl refl
 event-counts o Tick t =
-    let same : SameCounts t (by_event o Tick t).table = of-ticked o KeepsCounts (counts-walk o) (counts-ticks o) t in
+    let same : SameCounts t (by_event o Tick t).table = of-ticked o Tick KeepsCounts (counts-walk o Tick) (counts-ticks o Tick) t in
     record { openings = none-more _ _ same.openings; frame = (ticked-is o t).frame; cost = same.cost }
 event-counts o Stop t = still-counts o Stop t refl refl
 
@@ -122,7 +126,9 @@ pub record Counted (t u : Table) (es : List Event) : Type 0 where
   pub ticks : u.frame ≡ t.frame + ticks_in es
   pub cost : u.cost ≡ t.cost + cost_of es
 
-taken-counts : (b : Bool) (o : Origin) (e : Event) (t : Table) → b ≡ true → ((where_ b (taken o e) t).table.openings ≡ t.openings + one_if (is_open e)) × ((where_ b (taken o e) t).table.frame ≡ t.frame + one_if (is_tick e)) × ((where_ b (taken o e) t).table.cost ≡ t.cost + event_cost e)
+taken-counts : (b : Bool) (o : Origin) (e : Event) (t : Table) → b ≡ true → ((where_ b (taken o e) t).table.openings
+    ≡ t.openings + one_if (is_open e)) × ((where_ b (taken o e) t).table.frame ≡ t.frame + one_if (is_tick e))
+    × ((where_ b (taken o e) t).table.cost ≡ t.cost + event_cost e)
 taken-counts true o e t is =
     let a : Counts e t (by_event o e t).table = event-counts o e t in
     let v : Table = (charged e (by_event o e t).table).table in
@@ -190,11 +196,13 @@ low-by true o e t is h =
     let v : Table = (charged e (by_event o e t).table).table in
     let l : v.frame ≤ last_frame = event-low o e t (h.over (not-over t.over (names_live t e) is)) in
     closed-low (stops o e t || nat_le o.setup.cost v.cost || (v.frame == last_frame)) v l
-    (λ no. let ne : (v.frame == last_frame) ≡ false = or-last (stops o e t) (nat_le o.setup.cost v.cost) (v.frame == last_frame) no in below v.frame l (λ same. eqb-false v.frame last_frame ne same))
+    (λ no. let ne : (v.frame == last_frame) ≡ false = or-last (stops o e t) (nat_le o.setup.cost v.cost) (v.frame == last_frame) no in
+        below v.frame l (λ same. eqb-false v.frame last_frame ne same))
   where
     below : (n : ℕ) → n ≤ last_frame → (n ≡ last_frame → ⊥) → n < last_frame
     below n l apart = omega (arith, l, apart)
 low-by false o e t is h = h
 
 pub is-low : (o : Origin) (es : List Event) → (table_of o es).frame ≤ last_frame
-is-low o es = (from-all o Low (λ e t h. low-by (takes t e) o e t refl h) es (first o) (record { least = omega arith; over = λ going. omega arith })).least
+is-low o es = (from-all o Low (λ e t h. low-by (takes t e) o e t refl h) es (first o)
+    (record { least = omega arith; over = λ going. omega arith })).least

@@ -59,18 +59,21 @@ put-conns m (n ∷ ns) = ap₂ (λ (x : ℕ) (xs : List ℕ). x ∷ xs) (put-con
 
 pub live-conns : (c : ℕ) (ms : List Member) → is_some (find (is_on c) ms) ≡ list_any (λ x. x == c) (conns ms)
 live-conns c [] = refl
-live-conns c (m ∷ ms) = elim (m.conn == c) as (λ b. is_some (cond b (Some m) (find (is_on c) ms)) ≡ (b || list_any (λ x. x == c) (conns ms))) [ true ↦ refl | false ↦ live-conns c ms ]
+live-conns c (m ∷ ms) = elim (m.conn == c) as (λ b. is_some (cond b (Some m) (find (is_on c) ms))
+    ≡ (b || list_any (λ x. x == c) (conns ms))) [ true ↦ refl | false ↦ live-conns c ms ]
 
 abbrev pub admin_conns : List Admin → List ℕ
 admin_conns admins = map (λ (a : Admin). a.conn) admins
 
 pub live-admins : (c : ℕ) (admins : List Admin) → is_some (find (is_admin_on c) admins) ≡ list_any (λ x. x == c) (admin_conns admins)
 live-admins c [] = refl
-live-admins c (a ∷ rest) = elim (a.conn == c) as (λ b. is_some (cond b (Some a) (find (is_admin_on c) rest)) ≡ (b || list_any (λ x. x == c) (admin_conns rest))) [ true ↦ refl | false ↦ live-admins c rest ]
+live-admins c (a ∷ rest) = elim (a.conn == c) as (λ b. is_some (cond b (Some a) (find (is_admin_on c) rest))
+    ≡ (b || list_any (λ x. x == c) (admin_conns rest))) [ true ↦ refl | false ↦ live-admins c rest ]
 
 -- ---- who is found
 
-find-here-by : (b : Bool) (n x : Member) (rest : Option Member) → (x.conn == n.conn) ≡ b → (b ≡ false → rest ≡ Some n) → cond ((cond b n x).conn == n.conn) (Some (cond b n x)) rest ≡ Some n
+find-here-by : (b : Bool) (n x : Member) (rest : Option Member) → (x.conn == n.conn) ≡ b → (b ≡ false → rest ≡ Some n)
+    → cond ((cond b n x).conn == n.conn) (Some (cond b n x)) rest ≡ Some n
 find-here-by true n x rest is later = rw (eq-eqb n.conn n.conn refl) refl
 find-here-by false n x rest is later = rw is (later refl)
 
@@ -81,19 +84,25 @@ found-later false x k rest found is = found
 -- the member put in its place is found there
 pub find-put-here : (n k : Member) (ms : List Member) → find (is_on n.conn) ms ≡ Some k → find (is_on n.conn) (put n ms) ≡ Some n
 find-put-here n k [] found = absurd cc
-find-put-here n k (x ∷ xs) found = find-here-by (x.conn == n.conn) n x (find (is_on n.conn) (put n xs)) refl (λ no. find-put-here n k xs (found-later (x.conn == n.conn) x k (find (is_on n.conn) xs) found no))
+find-put-here n k (x ∷ xs) found = find-here-by (x.conn == n.conn) n x (find (is_on n.conn) (put n xs)) refl
+    (λ no. find-put-here n k xs (found-later (x.conn == n.conn) x k (find (is_on n.conn) xs) found no))
 
-find-other-by : (b : Bool) (n x : Member) (c : ℕ) (few all : Option Member) → (x.conn == n.conn) ≡ b → (n.conn == c) ≡ false → few ≡ all → cond ((cond b n x).conn == c) (Some (cond b n x)) few ≡ cond (x.conn == c) (Some x) all
-find-other-by true n x c few all is apart same = let e : (x.conn == c) ≡ false = ap (λ (y : ℕ). y == c) (eqb-true x.conn n.conn is) ∙ apart in rw (apart, e) same
+find-other-by : (b : Bool) (n x : Member) (c : ℕ) (few all : Option Member) → (x.conn == n.conn) ≡ b → (n.conn == c) ≡ false → few ≡ all
+    → cond ((cond b n x).conn == c) (Some (cond b n x)) few ≡ cond (x.conn == c) (Some x) all
+find-other-by true n x c few all is apart same = let e : (x.conn == c) ≡ false = ap (λ (y : ℕ). y == c) (eqb-true x.conn n.conn is)
+    ∙ apart in rw (apart, e) same
 find-other-by false n x c few all is apart same = ap (λ (r : Option Member). cond (x.conn == c) (Some x) r) same
 
 -- another one is found as before
 pub find-put-other : (n : Member) (c : ℕ) (ms : List Member) → (n.conn == c) ≡ false → find (is_on c) (put n ms) ≡ find (is_on c) ms
 find-put-other n c [] apart = refl
-find-put-other n c (x ∷ xs) apart = find-other-by (x.conn == n.conn) n x c (find (is_on c) (put n xs)) (find (is_on c) xs) refl apart (find-put-other n c xs apart)
+find-put-other n c (x ∷ xs) apart = find-other-by (x.conn == n.conn) n x c (find (is_on c) (put n xs)) (find (is_on c) xs) refl apart
+    (find-put-other n c xs apart)
 
-find-left-by : (b : Bool) (d c : ℕ) (x : Member) (rest few : List Member) → (x.conn == d) ≡ b → (d == c) ≡ false → find (is_on c) few ≡ find (is_on c) rest → find (is_on c) (cond (not b) (x ∷ few) few) ≡ cond (x.conn == c) (Some x) (find (is_on c) rest)
-find-left-by true d c x rest few is apart same = let e : (x.conn == c) ≡ false = ap (λ (y : ℕ). y == c) (eqb-true x.conn d is) ∙ apart in rw e same
+find-left-by : (b : Bool) (d c : ℕ) (x : Member) (rest few : List Member) → (x.conn == d) ≡ b → (d == c) ≡ false → find (is_on c) few
+    ≡ find (is_on c) rest → find (is_on c) (cond (not b) (x ∷ few) few) ≡ cond (x.conn == c) (Some x) (find (is_on c) rest)
+find-left-by true d c x rest few is apart same = let e : (x.conn == c) ≡ false = ap (λ (y : ℕ). y == c) (eqb-true x.conn d is) ∙ apart in
+    rw e same
 find-left-by false d c x rest few is apart same = ap (λ (r : Option Member). cond (x.conn == c) (Some x) r) same
 
 -- without a connection's member another one is found as before
@@ -101,7 +110,8 @@ pub find-others : (d c : ℕ) (ms : List Member) → (d == c) ≡ false → find
 find-others d c [] apart = refl
 find-others d c (x ∷ xs) apart = find-left-by (x.conn == d) d c x xs (others d xs) refl apart (find-others d c xs apart)
 
-none-left-by : (b : Bool) (c : ℕ) (x : Member) (few : List Member) → (x.conn == c) ≡ b → AllByRecursion (λ y. (y == c) ≡ false) (conns few) → AllByRecursion (λ y. (y == c) ≡ false) (conns (cond (not b) (x ∷ few) few))
+none-left-by : (b : Bool) (c : ℕ) (x : Member) (few : List Member) → (x.conn == c) ≡ b → AllByRecursion (λ y. (y == c) ≡ false) (conns few)
+    → AllByRecursion (λ y. (y == c) ≡ false) (conns (cond (not b) (x ∷ few) few))
 none-left-by true c x few is a = a
 none-left-by false c x few is a = (is, a)
 

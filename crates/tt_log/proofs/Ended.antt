@@ -61,20 +61,25 @@ kept-plain : (b : Bool) (s : Said) (rest : List Said) → IsPlain s → AllByRec
 kept-plain true s rest is a = (is, a)
 kept-plain false s rest is a = a
 
-told-plain : (c : ℕ) (to : List ℕ) (said : List Said) (more : List Telling) → ArePlain said → AllByRecursion IsPlain (told_to c more) → AllByRecursion IsPlain (told_to c (map (telling to) said ++ more))
+told-plain : (c : ℕ) (to : List ℕ) (said : List Said) (more : List Telling) → ArePlain said → AllByRecursion IsPlain (told_to c more)
+    → AllByRecursion IsPlain (told_to c (map (telling to) said ++ more))
 told-plain c to [] more plain a = a
-told-plain c to (s ∷ said) more plain a = kept-plain (list_any (λ x. x == c) to) s (told_to c (map (telling to) said ++ more)) plain.0 (told-plain c to said more plain.1 a)
+told-plain c to (s ∷ said) more plain a = kept-plain (list_any (λ x. x == c) to) s (told_to c (map (telling to) said ++ more)) plain.0
+    (told-plain c to said more plain.1 a)
 
-unheard : (c : ℕ) (to : List ℕ) (said : List Said) (more : List Telling) → list_any (λ x. x == c) to ≡ false → AllByRecursion IsPlain (told_to c more) → AllByRecursion IsPlain (told_to c (map (telling to) said ++ more))
+unheard : (c : ℕ) (to : List ℕ) (said : List Said) (more : List Telling) → list_any (λ x. x == c) to ≡ false
+    → AllByRecursion IsPlain (told_to c more) → AllByRecursion IsPlain (told_to c (map (telling to) said ++ more))
 unheard c to [] more is a = a
 unheard c to (s ∷ said) more is a = rw is (unheard c to said more is a)
 
-step-plain : (b : Bool) (c : ℕ) (o : Origin) (f : Filling) (s : Step) (more : List Telling) → is_command s.what ≡ b → (b && list_any (λ x. x == c) s.to) ≡ false → AllByRecursion IsPlain (told_to c more)
+step-plain : (b : Bool) (c : ℕ) (o : Origin) (f : Filling) (s : Step) (more : List Telling) → is_command s.what ≡ b
+    → (b && list_any (λ x. x == c) s.to) ≡ false → AllByRecursion IsPlain (told_to c more)
     → AllByRecursion IsPlain (told_to c (map (telling s.to) (said_by o f s.what) ++ more))
 step-plain true c o f s more is quiet a = unheard c s.to (said_by o f s.what) more quiet a
 step-plain false c o f s more is quiet a = told-plain c s.to (said_by o f s.what) more (what-plain s.what o f is) a
 
-steps-plain : (c : ℕ) (o : Origin) (f : Filling) (steps : List Step) → AllQuiet c steps → AllByRecursion IsPlain (told_to c (filled o f steps))
+steps-plain : (c : ℕ) (o : Origin) (f : Filling) (steps : List Step) → AllQuiet c steps
+    → AllByRecursion IsPlain (told_to c (filled o f steps))
 steps-plain c o f [] a = tt
 steps-plain c o f (s ∷ steps) a = step-plain (is_command s.what) c o f s (filled o f steps) refl a.0 (steps-plain c o f steps a.1)
 
@@ -85,7 +90,8 @@ WhilePlain Early said = AllByRecursion IsPlain said
 WhilePlain Queued said = AllByRecursion IsPlain said
 WhilePlain InGame said = Unit
 
-while-plain : (p : Phase) (c : ℕ) (o : Origin) (f : Filling) (steps : List Step) → WhileQuiet p c steps → WhilePlain p (told_to c (filled o f steps))
+while-plain : (p : Phase) (c : ℕ) (o : Origin) (f : Filling) (steps : List Step) → WhileQuiet p c steps
+    → WhilePlain p (told_to c (filled o f steps))
 while-plain Early c o f steps a = steps-plain c o f steps a
 while-plain Queued c o f steps a = steps-plain c o f steps a
 while-plain InGame c o f steps a = tt
@@ -118,7 +124,8 @@ apart-suits c p [] a = tt
 apart-suits c p (m ∷ ms) a = let e : (m.conn == c) ≡ false = a.0 in (λ own. absurd cc, apart-suits c p ms a.1)
 
 opens-early : (c : ℕ) (p : Phase) (e : Event) (t : Table) → (t.openings < c → p ≡ Early) → Opens c p t e
-opens-early c p (Open Main peer) t early = λ own. let same : t.openings + 1 ≡ c = eqb-true (t.openings + 1) c own in early (omega (arith, same))
+opens-early c p (Open Main peer) t early = λ own. let same : t.openings + 1 ≡ c = eqb-true (t.openings + 1) c own in
+    early (omega (arith, same))
 opens-early c p (Open Side peer) t early = tt
 opens-early c p (Packet conn kind body) t early = tt
 opens-early c p (Broken conn) t early = tt
@@ -139,7 +146,8 @@ unopened-apart c t said above order kept = record {
   queue = early-place kept.phase c t.queue (conns t.members) (kept.unopened above) kept.holds.place;
 }
 
-step-by : (b : Bool) (c : ℕ) (o : Origin) (e : Event) (t : Table) (said : List Said) → nat_lt (stepped o t e).openings c ≡ b → Ordered t → IsKept c t said → IsKept c (stepped o t e) (said ++ told_by o t e c)
+step-by : (b : Bool) (c : ℕ) (o : Origin) (e : Event) (t : Table) (said : List Said) → nat_lt (stepped o t e).openings c ≡ b → Ordered t
+    → IsKept c t said → IsKept c (stepped o t e) (said ++ told_by o t e c)
 step-by true c o e t said is order kept =
     let s : Table = stepped o t e in
     let l : s.openings < c = ltb-true s.openings c is in
@@ -161,26 +169,32 @@ step-by false c o e t said is order kept =
       phase = g.to;
       holds = g.holds;
       unopened = λ above. absurd (omega (arith, l, above));
-      plain = plain-then kept.phase g.to said (told_by o t e c) g.later kept.plain (while-plain g.to c o (filling o t s) (deed o e t).told g.quiet);
+      plain = plain-then kept.phase g.to said (told_by o t e c) g.later kept.plain (while-plain g.to c o (filling o t s)
+          (deed o e t).told g.quiet);
     }
 
-from-kept : (c : ℕ) (o : Origin) (es : List Event) (t : Table) (said : List Said) → Ordered t → IsKept c t said → IsKept c (fold (stepped o) t es) (said ++ heard_from o t es c)
+from-kept : (c : ℕ) (o : Origin) (es : List Event) (t : Table) (said : List Said) → Ordered t → IsKept c t said
+    → IsKept c (fold (stepped o) t es) (said ++ heard_from o t es c)
 from-kept c o [] t said order kept = rw (append-nil said) kept
 from-kept c o (e ∷ es) t said order kept =
     let s : Table = stepped o t e in
     let next : IsKept c s (said ++ told_by o t e c) = step-by (nat_lt s.openings c) c o e t said refl order kept in
-    rw (sym (append_assoc said (told_by o t e c) (heard_from o s es c))) (from-kept c o es s (said ++ told_by o t e c) (step-ordered o e t order) next)
+    rw (sym (append_assoc said (told_by o t e c) (heard_from o s es c))) (from-kept c o es s (said ++ told_by o t e c)
+        (step-ordered o e t order) next)
 
 pub is-kept : (c : ℕ) (o : Origin) (es : List Event) → IsKept c (table_of o es) (heard o es c)
-is-kept c o es = from-kept c o es (first o) [] (is-ordered o []) (record { phase = Early; holds = record { suits = tt; place = tt }; unopened = λ above. refl; plain = tt })
+is-kept c o es = from-kept c o es (first o) [] (is-ordered o []) (record { phase = Early; holds = record { suits = tt; place = tt };
+    unopened = λ above. refl; plain = tt })
 
 -- ---- a connection that was not opened
 
 openings-rise : (o : Origin) (es : List Event) (t : Table) → t.openings ≤ (fold (stepped o) t es).openings
 openings-rise o [] t = omega arith
-openings-rise o (e ∷ es) t = let p : Passes 0 t (deed o e t).told (stepped o t e) = step-passes 0 o e t in omega (arith, p.openings, openings-rise o es (stepped o t e))
+openings-rise o (e ∷ es) t = let p : Passes 0 t (deed o e t).told (stepped o t e) = step-passes 0 o e t in
+    omega (arith, p.openings, openings-rise o es (stepped o t e))
 
-from-unopened : (c : ℕ) (o : Origin) (es : List Event) (t : Table) → (fold (stepped o) t es).openings < c → Apart c t → Apart c (fold (stepped o) t es) × (heard_from o t es c ≡ [])
+from-unopened : (c : ℕ) (o : Origin) (es : List Event) (t : Table) → (fold (stepped o) t es).openings < c → Apart c t
+    → Apart c (fold (stepped o) t es) × (heard_from o t es c ≡ [])
 from-unopened c o [] t above a = (a, refl)
 from-unopened c o (e ∷ es) t above a =
     let s : Table = stepped o t e in
@@ -189,22 +203,26 @@ from-unopened c o (e ∷ es) t above a =
     let rest : Apart c (fold (stepped o) s es) × (heard_from o s es c ≡ []) = from-unopened c o es s above unseen.apart in
     (rest.0, ap (λ (xs : List Said). xs ++ heard_from o s es c) (missed c o (filling o t s) (deed o e t).told unseen.misses) ∙ rest.1)
 
-pub unopened : (o : Origin) (es : List Event) (c : ℕ) → (table_of o es).openings < c → (is_live (table_of o es) c ≡ false) × (heard o es c ≡ [])
+pub unopened : (o : Origin) (es : List Event) (c : ℕ) → (table_of o es).openings < c → (is_live (table_of o es) c ≡ false)
+    × (heard o es c ≡ [])
 unopened o es c above =
     let all = from-unopened c o es (first o) above (record { members = tt; admins = tt; queue = tt }) in
     (apart-not-live c (table_of o es) all.0, all.1)
 
 -- ---- a member that does not play
 
-plays-at : (p : Phase) (m : Member) (said : List Said) → fits p (rank m.status) → is_playing m ≡ false → WhilePlain p said → AllByRecursion IsPlain said
+plays-at : (p : Phase) (m : Member) (said : List Said) → fits p (rank m.status) → is_playing m ≡ false → WhilePlain p said
+    → AllByRecursion IsPlain said
 plays-at Early m said fit is a = a
 plays-at Queued m said fit is a = a
-plays-at InGame m said fit is a = let high : 8 ≤ rank m.status = fit in let low : nat_le 8 (rank m.status) ≡ true = le-leb 8 (rank m.status) high in absurd cc
+plays-at InGame m said fit is a = let high : 8 ≤ rank m.status = fit in let low : nat_le 8 (rank m.status) ≡ true =
+    le-leb 8 (rank m.status) high in absurd cc
 
 pub suits-found : (c : ℕ) (p : Phase) (t : Table) (m : Member) → member_of t c ≡ Some m → Has c p t → Suits c p m
 suits-found c p t m is h = among-all (Suits c p) m t.members (on-found t c m is) h.suits
 
-pub not-yet : (o : Origin) (es : List Event) (c : ℕ) (m : Member) → member_of (table_of o es) c ≡ Some m → is_playing m ≡ false → AllByRecursion IsPlain (heard o es c)
+pub not-yet : (o : Origin) (es : List Event) (c : ℕ) (m : Member) → member_of (table_of o es) c ≡ Some m → is_playing m ≡ false
+    → AllByRecursion IsPlain (heard o es c)
 not-yet o es c m is idle =
     let kept : IsKept c (table_of o es) (heard o es c) = is-kept c o es in
     let own : (m.conn == c) ≡ true = eq-eqb m.conn c (found-on c (table_of o es).members m is) in
@@ -216,7 +234,8 @@ pub none-there : (c : ℕ) (xs : List ℕ) → list_any (λ x. x == c) xs ≡ fa
 none-there c [] gone = tt
 none-there c (x ∷ xs) gone = none-of (x == c) c x xs refl gone (λ later. none-there c xs later)
   where
-    none-of : (b : Bool) (c x : ℕ) (xs : List ℕ) → (x == c) ≡ b → (b || list_any (λ y. y == c) xs) ≡ false → (list_any (λ y. y == c) xs ≡ false → NotIn c xs) → NotIn c (x ∷ xs)
+    none-of : (b : Bool) (c x : ℕ) (xs : List ℕ) → (x == c) ≡ b → (b || list_any (λ y. y == c) xs) ≡ false
+        → (list_any (λ y. y == c) xs ≡ false → NotIn c xs) → NotIn c (x ∷ xs)
     none-of true c x xs is gone next = absurd cc
     none-of false c x xs is gone next = (is, next gone)
 
@@ -233,25 +252,34 @@ pub gone-apart : (c : ℕ) (p : Phase) (t : Table) → is_live t c ≡ false →
 gone-apart c p t gone h =
     let both = first-false _ _ gone in
     let none : list_any (λ x. x == c) (conns t.members) ≡ false = sym (live-conns c t.members) ∙ both.0 in
-    record { members = none-there c (conns t.members) none; admins = none-there c (admin_conns t.admins) (sym (live-admins c t.admins) ∙ both.1); queue = place-gone p c t.queue (conns t.members) none h.place }
+    record { members = none-there c (conns t.members) none; admins = none-there c (admin_conns t.admins) (sym (live-admins c t.admins)
+        ∙ both.1); queue = place-gone p c t.queue (conns t.members) none h.place }
 
-from-ended : (c : ℕ) (o : Origin) (es : List Event) (t : Table) → c ≤ t.openings → Apart c t → Apart c (fold (stepped o) t es) × (heard_from o t es c ≡ [])
+from-ended : (c : ℕ) (o : Origin) (es : List Event) (t : Table) → c ≤ t.openings → Apart c t → Apart c (fold (stepped o) t es)
+    × (heard_from o t es c ≡ [])
 from-ended c o [] t l a = (a, refl)
 from-ended c o (e ∷ es) t l a =
     let s : Table = stepped o t e in
     let p : Passes c t (deed o e t).told s = step-passes c o e t in
     let unseen : Unseen c (deed o e t).told s = p.unseen (inl l) a in
-    let rest : Apart c (fold (stepped o) s es) × (heard_from o s es c ≡ []) = from-ended c o es s (omega (arith, l, p.openings)) unseen.apart in
+    let rest : Apart c (fold (stepped o) s es) × (heard_from o s es c ≡ []) =
+        from-ended c o es s (omega (arith, l, p.openings)) unseen.apart in
     (rest.0, ap (λ (xs : List Said). xs ++ heard_from o s es c) (missed c o (filling o t s) (deed o e t).told unseen.misses) ∙ rest.1)
 
-pub ended : (o : Origin) (es fs : List Event) (c : ℕ) → c ≤ (table_of o es).openings → is_live (table_of o es) c ≡ false → Apart c (fold (stepped o) (table_of o es) fs) × (heard_from o (table_of o es) fs c ≡ [])
-ended o es fs c l gone = let kept : IsKept c (table_of o es) (heard o es c) = is-kept c o es in from-ended c o fs (table_of o es) l (gone-apart c kept.phase (table_of o es) gone kept.holds)
+pub ended : (o : Origin) (es fs : List Event) (c : ℕ) → c ≤ (table_of o es).openings → is_live (table_of o es) c ≡ false
+    → Apart c (fold (stepped o) (table_of o es) fs) × (heard_from o (table_of o es) fs c ≡ [])
+ended o es fs c l gone = let kept : IsKept c (table_of o es) (heard o es c) = is-kept c o es in from-ended c o fs (table_of o es) l
+    (gone-apart c kept.phase (table_of o es) gone kept.holds)
 
-pub ended-not-live : (o : Origin) (es fs : List Event) (c : ℕ) → c ≤ (table_of o es).openings → is_live (table_of o es) c ≡ false → is_live (table_of o (es ++ fs)) c ≡ false
-ended-not-live o es fs c l gone = ap (λ (t : Table). is_live t c) (fold-append (stepped o) (first o) es fs) ∙ apart-not-live c (fold (stepped o) (table_of o es) fs) (ended o es fs c l gone).0
+pub ended-not-live : (o : Origin) (es fs : List Event) (c : ℕ) → c ≤ (table_of o es).openings → is_live (table_of o es) c ≡ false
+    → is_live (table_of o (es ++ fs)) c ≡ false
+ended-not-live o es fs c l gone = ap (λ (t : Table). is_live t c) (fold-append (stepped o) (first o) es fs)
+    ∙ apart-not-live c (fold (stepped o) (table_of o es) fs) (ended o es fs c l gone).0
 
-pub ended-heard : (o : Origin) (es fs : List Event) (c : ℕ) → c ≤ (table_of o es).openings → is_live (table_of o es) c ≡ false → heard o (es ++ fs) c ≡ heard o es c
-ended-heard o es fs c l gone = heard-append o (first o) es fs c ∙ ap (λ (xs : List Said). heard o es c ++ xs) (ended o es fs c l gone).1 ∙ append-nil (heard o es c)
+pub ended-heard : (o : Origin) (es fs : List Event) (c : ℕ) → c ≤ (table_of o es).openings → is_live (table_of o es) c ≡ false
+    → heard o (es ++ fs) c ≡ heard o es c
+ended-heard o es fs c l gone = heard-append o (first o) es fs c ∙ ap (λ (xs : List Said). heard o es c ++ xs) (ended o es fs c l gone).1
+    ∙ append-nil (heard o es c)
 
 -- ---- no connection has the number 0
 

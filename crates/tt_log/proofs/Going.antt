@@ -10,18 +10,23 @@ use Rattle.tt_log.specs.History.{table_of}
 use Rattle.tt_log.specs.Events.{deed, stepped}
 use Rattle.tt_log.specs.Told.{told_by, heard_from, heard, sent}
 
-pub heard-append : (o : Origin) (t : Table) (es fs : List Event) (conn : ℕ) → heard_from o t (es ++ fs) conn ≡ heard_from o t es conn ++ heard_from o (fold (stepped o) t es) fs conn
+pub heard-append : (o : Origin) (t : Table) (es fs : List Event) (conn : ℕ) → heard_from o t (es ++ fs) conn ≡ heard_from o t es conn
+    ++ heard_from o (fold (stepped o) t es) fs conn
 heard-append o t [] fs conn = refl
-heard-append o t (e ∷ es) fs conn = ap (λ (xs : List Said). told_by o t e conn ++ xs) (heard-append o (stepped o t e) es fs conn) ∙ sym (append_assoc (told_by o t e conn) (heard_from o (stepped o t e) es conn) (heard_from o (fold (stepped o) (stepped o t e) es) fs conn))
+heard-append o t (e ∷ es) fs conn = ap (λ (xs : List Said). told_by o t e conn ++ xs) (heard-append o (stepped o t e) es fs conn)
+    ∙ sym (append_assoc (told_by o t e conn) (heard_from o (stepped o t e) es conn)
+    (heard_from o (fold (stepped o) (stepped o t e) es) fs conn))
 
 spelled-append : (xs ys : List Said) → flat_map spelled (xs ++ ys) ≡ flat_map spelled xs ++ flat_map spelled ys
 spelled-append [] ys = refl
-spelled-append (x ∷ xs) ys = ap (λ (bs : List ℕ). spelled x ++ bs) (spelled-append xs ys) ∙ sym (append_assoc (spelled x) (flat_map spelled xs) (flat_map spelled ys))
+spelled-append (x ∷ xs) ys = ap (λ (bs : List ℕ). spelled x ++ bs) (spelled-append xs ys)
+    ∙ sym (append_assoc (spelled x) (flat_map spelled xs) (flat_map spelled ys))
 
 pub sent-grows : (o : Origin) (es fs : List Event) (conn : ℕ) → (more : List ℕ) × (sent o (es ++ fs) conn ≡ sent o es conn ++ more)
 sent-grows o es fs conn = (
   flat_map spelled (heard_from o (fold (stepped o) (first o) es) fs conn),
-  ap (λ (xs : List Said). flat_map spelled xs) (heard-append o (first o) es fs conn) ∙ spelled-append (heard o es conn) (heard_from o (fold (stepped o) (first o) es) fs conn),
+  ap (λ (xs : List Said). flat_map spelled xs) (heard-append o (first o) es fs conn) ∙ spelled-append (heard o es conn)
+      (heard_from o (fold (stepped o) (first o) es) fs conn),
 )
 
 pub over-stays : (o : Origin) (t : Table) (e : Event) → t.over ≡ true → deed o e t ≡ becomes t

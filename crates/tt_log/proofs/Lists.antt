@@ -22,9 +22,11 @@ all-drop P (suc n) (x ∷ xs) a = all-drop P n xs a.1
 
 pub all-filter : {A : Type 0} (P : A → Type 0) (p : A → Bool) (xs : List A) → AllByRecursion P xs → AllByRecursion P (filter p xs)
 all-filter P p [] a = tt
-all-filter P p (x ∷ xs) a = elim (p x) as (λ b. AllByRecursion P (cond b (x ∷ filter p xs) (filter p xs))) [ true ↦ (a.0, all-filter P p xs a.1) | false ↦ all-filter P p xs a.1 ]
+all-filter P p (x ∷ xs) a = elim (p x) as (λ b. AllByRecursion P (cond b (x ∷ filter p xs) (filter p xs))) [ true ↦
+    (a.0, all-filter P p xs a.1) | false ↦ all-filter P p xs a.1 ]
 
-pub all-map : {A B : Type 0} (P : A → Type 0) (Q : B → Type 0) (f : A → B) (xs : List A) → ((x : A) → P x → Q (f x)) → AllByRecursion P xs → AllByRecursion Q (map f xs)
+pub all-map : {A B : Type 0} (P : A → Type 0) (Q : B → Type 0) (f : A → B) (xs : List A) → ((x : A) → P x → Q (f x)) → AllByRecursion P xs
+    → AllByRecursion Q (map f xs)
 all-map P Q f [] g a = tt
 all-map P Q f (x ∷ xs) g a = (g x a.0, all-map P Q f xs g a.1)
 
@@ -43,7 +45,8 @@ among-all P x [] there a = absurd there
 among-all P x (y ∷ ys) (inl here) a = subst P here a.0
 among-all P x (y ∷ ys) (inr later) a = among-all P x ys later a.1
 
-found-among-by : {A : Type 0} (b : Bool) (x y : A) (ys : List A) (found : Option A) → (found ≡ Some x → Among x ys) → cond b (Some y) found ≡ Some x → Among x (y ∷ ys)
+found-among-by : {A : Type 0} (b : Bool) (x y : A) (ys : List A) (found : Option A) → (found ≡ Some x → Among x ys) → cond b (Some y) found
+    ≡ Some x → Among x (y ∷ ys)
 found-among-by true x y ys found later is = inl cc
 found-among-by false x y ys found later is = inr (later is)
 
@@ -51,7 +54,8 @@ pub found-among : {A : Type 0} (p : A → Bool) (x : A) (xs : List A) → find p
 found-among p x [] is = absurd cc
 found-among p x (y ∷ ys) is = found-among-by (p y) x y ys (find p ys) (λ later. found-among p x ys later) is
 
-found-passes-by : {A : Type 0} (b : Bool) (p : A → Bool) (x y : A) (found : Option A) → p y ≡ b → (found ≡ Some x → p x ≡ true) → cond b (Some y) found ≡ Some x → p x ≡ true
+found-passes-by : {A : Type 0} (b : Bool) (p : A → Bool) (x y : A) (found : Option A) → p y ≡ b → (found ≡ Some x → p x ≡ true)
+    → cond b (Some y) found ≡ Some x → p x ≡ true
 found-passes-by true p x y found test later is = let same : y ≡ x = cc in subst (λ z. p z ≡ true) same test
 found-passes-by false p x y found test later is = later is
 
@@ -75,16 +79,20 @@ pub any-not : (c : ℕ) (xs : List ℕ) → NotIn c xs → list_any (λ x. x == 
 any-not c [] a = refl
 any-not c (x ∷ xs) a = rw a.0 (any-not c xs a.1)
 
-map-filter-by : {A : Type 0} (f : A → ℕ) (b d : Bool) (c : ℕ) (x : A) (few all : List A) → (NotIn c (map f all) → NotIn c (map f few)) → NotIn c (map f (cond b (x ∷ all) all)) → NotIn c (map f (cond (b && d) (x ∷ few) few))
+map-filter-by : {A : Type 0} (f : A → ℕ) (b d : Bool) (c : ℕ) (x : A) (few all : List A) → (NotIn c (map f all) → NotIn c (map f few))
+    → NotIn c (map f (cond b (x ∷ all) all)) → NotIn c (map f (cond (b && d) (x ∷ few) few))
 map-filter-by f true true c x few all go h = (h.0, go h.1)
 map-filter-by f true false c x few all go h = go h.1
 map-filter-by f false true c x few all go h = go h
 map-filter-by f false false c x few all go h = go h
 
-pub map-filter-not : {A : Type 0} (f : A → ℕ) (p q : A → Bool) (c : ℕ) (xs : List A) → NotIn c (map f (filter p xs)) → NotIn c (map f (filter (λ x. p x && q x) xs))
+pub map-filter-not : {A : Type 0} (f : A → ℕ) (p q : A → Bool) (c : ℕ) (xs : List A) → NotIn c (map f (filter p xs))
+    → NotIn c (map f (filter (λ x. p x && q x) xs))
 map-filter-not f p q c [] a = tt
-map-filter-not f p q c (x ∷ xs) a = map-filter-by f (p x) (q x) c x (filter (λ y. p y && q y) xs) (filter p xs) (λ h. map-filter-not f p q c xs h) a
+map-filter-not f p q c (x ∷ xs) a = map-filter-by f (p x) (q x) c x (filter (λ y. p y && q y) xs) (filter p xs)
+    (λ h. map-filter-not f p q c xs h) a
 
 pub all-of-filter : {A : Type 0} (f : A → ℕ) (p : A → Bool) (c : ℕ) (xs : List A) → NotIn c (map f xs) → NotIn c (map f (filter p xs))
 all-of-filter f p c [] a = tt
-all-of-filter f p c (x ∷ xs) a = elim (p x) as (λ b. NotIn c (map f (cond b (x ∷ filter p xs) (filter p xs)))) [ true ↦ (a.0, all-of-filter f p c xs a.1) | false ↦ all-of-filter f p c xs a.1 ]
+all-of-filter f p c (x ∷ xs) a = elim (p x) as (λ b. NotIn c (map f (cond b (x ∷ filter p xs) (filter p xs)))) [ true ↦
+    (a.0, all-of-filter f p c xs a.1) | false ↦ all-of-filter f p c xs a.1 ]

@@ -30,17 +30,22 @@ pub rise-filter : {A : Type 0} (f : A → ℕ) (p : A → Bool) (k : ℕ) (xs : 
 rise-filter f p k [] r = tt
 rise-filter f p k (x ∷ xs) r = let a : k < f x = r.0 in
     elim (p x) as (λ b. AreRising k (map f (cond b (x ∷ filter p xs) (filter p xs))))
-    [ true ↦ (r.0, rise-filter f p (f x) xs r.1) | false ↦ rise-from k (f x) (map f (filter p xs)) (omega (arith, a)) (rise-filter f p (f x) xs r.1) ]
+    [ true ↦ (r.0, rise-filter f p (f x) xs r.1) | false ↦ rise-from k (f x) (map f (filter p xs)) (omega (arith, a))
+        (rise-filter f p (f x) xs r.1) ]
 
-pub all-map-filter : {A : Type 0} (Q : ℕ → Type 0) (f : A → ℕ) (p : A → Bool) (xs : List A) → AllByRecursion Q (map f xs) → AllByRecursion Q (map f (filter p xs))
+pub all-map-filter : {A : Type 0} (Q : ℕ → Type 0) (f : A → ℕ) (p : A → Bool) (xs : List A) → AllByRecursion Q (map f xs)
+    → AllByRecursion Q (map f (filter p xs))
 all-map-filter Q f p [] a = tt
-all-map-filter Q f p (x ∷ xs) a = elim (p x) as (λ b. AllByRecursion Q (map f (cond b (x ∷ filter p xs) (filter p xs)))) [ true ↦ (a.0, all-map-filter Q f p xs a.1) | false ↦ all-map-filter Q f p xs a.1 ]
+all-map-filter Q f p (x ∷ xs) a = elim (p x) as (λ b. AllByRecursion Q (map f (cond b (x ∷ filter p xs) (filter p xs)))) [ true ↦
+    (a.0, all-map-filter Q f p xs a.1) | false ↦ all-map-filter Q f p xs a.1 ]
 
-pub rise-more : {A : Type 0} (f : A → ℕ) (k n : ℕ) (xs : List A) (new : A) → AreRising k (map f xs) → AllByRecursion (λ x. x ≤ n) (map f xs) → k ≤ n → n < f new → AreRising k (map f (xs ++ new ∷ []))
+pub rise-more : {A : Type 0} (f : A → ℕ) (k n : ℕ) (xs : List A) (new : A) → AreRising k (map f xs) → AllByRecursion (λ x. x ≤ n) (map f xs)
+    → k ≤ n → n < f new → AreRising k (map f (xs ++ new ∷ []))
 rise-more f k n [] new r a l above = (omega (arith, l, above), tt)
 rise-more f k n (x ∷ xs) new r a l above = (r.0, rise-more f (f x) n xs new r.1 a.1 a.0 above)
 
-pub all-more : {A : Type 0} (Q : ℕ → Type 0) (f : A → ℕ) (xs : List A) (new : A) → AllByRecursion Q (map f xs) → Q (f new) → AllByRecursion Q (map f (xs ++ new ∷ []))
+pub all-more : {A : Type 0} (Q : ℕ → Type 0) (f : A → ℕ) (xs : List A) (new : A) → AllByRecursion Q (map f xs) → Q (f new)
+    → AllByRecursion Q (map f (xs ++ new ∷ []))
 all-more Q f [] new a q = (q, tt)
 all-more Q f (x ∷ xs) new a q = (a.0, all-more Q f xs new a.1 q)
 
@@ -67,14 +72,16 @@ clients ms = map (λ (m : Member). m.client) ms
 rising-above : (k : ℕ) (m : Member) (ms : List Member) → AreRising k (conns ms) → Among m ms → k < m.conn
 rising-above k m [] r there = absurd there
 rising-above k m (x ∷ xs) r (inl here) = subst (λ (y : Member). k < y.conn) here r.0
-rising-above k m (x ∷ xs) r (inr later) = let a : k < x.conn = r.0 in let b : x.conn < m.conn = rising-above x.conn m xs r.1 later in omega (arith, a, b)
+rising-above k m (x ∷ xs) r (inr later) = let a : k < x.conn = r.0 in let b : x.conn < m.conn = rising-above x.conn m xs r.1 later in
+    omega (arith, a, b)
 
 put-none : (n : Member) (ms : List Member) → NotIn n.conn (conns ms) → put n ms ≡ ms
 put-none n [] a = refl
 put-none n (x ∷ xs) a = rw a.0 (ap (λ (ys : List Member). x ∷ ys) (put-none n xs a.1))
 
 -- in rising order one connection has one member
-pub put-clients : (k : ℕ) (n m : Member) (ms : List Member) → AreRising k (conns ms) → Among m ms → n.conn ≡ m.conn → n.client ≡ m.client → clients (put n ms) ≡ clients ms
+pub put-clients : (k : ℕ) (n m : Member) (ms : List Member) → AreRising k (conns ms) → Among m ms → n.conn ≡ m.conn → n.client ≡ m.client
+    → clients (put n ms) ≡ clients ms
 put-clients k n m [] r there c e = refl
 put-clients k n m (x ∷ xs) r (inl here) c e =
     let at : x.conn ≡ n.conn = ap (λ (y : Member). y.conn) here ∙ sym c in
@@ -103,16 +110,20 @@ pub record IsOrdered (openings last : ℕ) (members numbers admins : List ℕ) :
 abbrev pub Ordered : Table → Type 0
 Ordered t = IsOrdered t.openings t.clients (conns t.members) (clients t.members) (admin_conns t.admins)
 
-abbrev KeepsOrder : Table → List Step → Table → Type 0
+abbrev pub KeepsOrder : Table → List Step → Table → Type 0
 KeepsOrder t steps u = Ordered t → Ordered u
 
-same-ordered : (openings last : ℕ) (xs ys ks ls admins : List ℕ) → ys ≡ xs → ls ≡ ks → IsOrdered openings last xs ks admins → IsOrdered openings last ys ls admins
+same-ordered : (openings last : ℕ) (xs ys ks ls admins : List ℕ) → ys ≡ xs → ls ≡ ks → IsOrdered openings last xs ks admins
+    → IsOrdered openings last ys ls admins
 same-ordered openings last xs ys ks ls admins e f h = rw (e, f) h
 
-put-ordered : (t : Table) (n m : Member) → On t m → n.conn ≡ m.conn → n.client ≡ m.client → Ordered t → IsOrdered t.openings t.clients (conns (put n t.members)) (clients (put n t.members)) (admin_conns t.admins)
-put-ordered t n m on c e h = same-ordered t.openings t.clients _ _ _ _ _ (put-conns n t.members) (put-clients 0 n m t.members h.rise on c e) h
+put-ordered : (t : Table) (n m : Member) → On t m → n.conn ≡ m.conn → n.client ≡ m.client → Ordered t
+    → IsOrdered t.openings t.clients (conns (put n t.members)) (clients (put n t.members)) (admin_conns t.admins)
+put-ordered t n m on c e h = same-ordered t.openings t.clients _ _ _ _ _ (put-conns n t.members) (put-clients 0 n m t.members h.rise on c e)
+    h
 
-fewer-ordered : (p : Member → Bool) (t : Table) → Ordered t → IsOrdered t.openings t.clients (conns (filter p t.members)) (clients (filter p t.members)) (admin_conns t.admins)
+fewer-ordered : (p : Member → Bool) (t : Table) → Ordered t → IsOrdered t.openings t.clients (conns (filter p t.members))
+    (clients (filter p t.members)) (admin_conns t.admins)
 fewer-ordered p t h = record {
   rise = rise-filter (λ (m : Member). m.conn) p 0 t.members h.rise;
   under = all-map-filter (λ c. c ≤ t.openings) (λ (m : Member). m.conn) p t.members h.under;
@@ -121,10 +132,12 @@ fewer-ordered p t h = record {
   some = h.some;
   admins_rise = h.admins_rise;
   admins_under = h.admins_under;
-  apart = all-so (λ a. NotIn a (conns t.members)) _ (admin_conns t.admins) (λ a none. all-of-filter (λ (m : Member). m.conn) p a t.members none) h.apart;
+  apart = all-so (λ a. NotIn a (conns t.members)) _ (admin_conns t.admins) (λ a none. all-of-filter (λ (m : Member). m.conn) p a t.members
+      none) h.apart;
 }
 
-fewer-admins : (p : Admin → Bool) (t : Table) → Ordered t → IsOrdered t.openings t.clients (conns t.members) (clients t.members) (admin_conns (filter p t.admins))
+fewer-admins : (p : Admin → Bool) (t : Table) → Ordered t → IsOrdered t.openings t.clients (conns t.members) (clients t.members)
+    (admin_conns (filter p t.admins))
 fewer-admins p t h = record {
   rise = h.rise;
   under = h.under;
@@ -137,22 +150,23 @@ fewer-admins p t h = record {
 }
 
 none-ordered : (openings last : ℕ) → 1 ≤ last → IsOrdered openings last [] [] []
-none-ordered openings last some = record { rise = tt; under = tt; clients = tt; given = tt; some = some; admins_rise = tt; admins_under = tt; apart = tt }
+none-ordered openings last some = record { rise = tt; under = tt; clients = tt; given = tt; some = some; admins_rise = tt; admins_under =
+    tt; apart = tt }
 
 -- ---- the walk
 
-order-base : (o : Origin) → Base o KeepsOrder
-order-base o = record {
+pub order-base : (o : Origin) (e : Event) → Base o e KeepsOrder
+order-base o e = record {
   still = λ t h. h;
   joins = λ t u v xs ys a b h. b (a h);
-  turns = λ c t m on may h. put-ordered t (turned c t m) m on (turned-conn c t m) (turned-client c t m) h;
+  turns = λ c t m on may by h. put-ordered t (turned c t m) m on (turned-conn c t m) (turned-client c t m) h;
   tells_one = λ t m msg on talk h. h;
   tells_some = λ t to w there news h. h;
   tells_admins = λ t to msg there h. h;
 }
 
-order-moves : (o : Origin) → Moves o KeepsOrder
-order-moves o = record {
+pub order-moves : (o : Origin) (e : Event) → Moves o e KeepsOrder
+order-moves o e = record {
   moving = λ v t m on may h. put-ordered t (moved v t m) m on (moved-conn v t m) (moved-client v t m) h;
   recalls = λ t m on at h. h;
   waits_on = λ t conn n there h. h;
@@ -162,18 +176,19 @@ order-moves o = record {
   greets = λ t m on at h. put-ordered t _ m on refl refl h;
 }
 
-order-walk : (o : Origin) → Walk o KeepsOrder
-order-walk o = record {
-  base = order-base o;
+pub order-walk : (o : Origin) (e : Event) → Walk o e KeepsOrder
+order-walk o e = record {
+  base = order-base o e;
   locks = λ t m digest on allowed h. h;
-  orders = λ t c is h. h;
-  asks_map = λ t m on at. of-asks o KeepsOrder (order-base o) (order-moves o) t m on at;
-  enters_game = λ t m on at. of-enters o KeepsOrder (order-base o) (order-moves o) t m on at;
-  goes = λ t m farewell on. of-leaves o KeepsOrder (order-base o) (order-moves o) t m farewell on;
+  orders = λ t c is still h. h;
+  asks_map = λ t m on at. of-asks o e KeepsOrder (order-base o e) (order-moves o e) t m on at;
+  enters_game = λ t m on at. of-enters o e KeepsOrder (order-base o e) (order-moves o e) t m on at;
+  goes = λ t m farewell on. of-leaves o e KeepsOrder (order-base o e) (order-moves o e) t m farewell on;
   goes_aside = λ t a on h. fewer-admins (λ b. not (is_admin_on a.conn b)) t h;
 }
 
-later-ordered : (t : Table) (last : ℕ) → t.clients ≤ last → Ordered t → IsOrdered (t.openings + 1) last (conns t.members) (clients t.members) (admin_conns t.admins)
+later-ordered : (t : Table) (last : ℕ) → t.clients ≤ last → Ordered t → IsOrdered (t.openings + 1) last (conns t.members)
+    (clients t.members) (admin_conns t.admins)
 later-ordered t last l h = record {
   rise = h.rise;
   under = under-later t.openings (conns t.members) h.under;
@@ -185,11 +200,13 @@ later-ordered t last l h = record {
   apart = h.apart;
 }
 
-others-new : (n : ℕ) (ms : List Member) (new : Member) (admins : List ℕ) → new.conn ≡ n + 1 → AllByRecursion (λ a. a ≤ n) admins → AllByRecursion (λ a. NotIn a (conns ms)) admins → AllByRecursion (λ a. NotIn a (conns (ms ++ new ∷ []))) admins
+others-new : (n : ℕ) (ms : List Member) (new : Member) (admins : List ℕ) → new.conn ≡ n + 1 → AllByRecursion (λ a. a ≤ n) admins
+    → AllByRecursion (λ a. NotIn a (conns ms)) admins → AllByRecursion (λ a. NotIn a (conns (ms ++ new ∷ []))) admins
 others-new n ms new [] is low apart = tt
 others-new n ms new (a ∷ admins) is low apart =
     let l : a ≤ n = low.0 in
-    (all-more (IsOther a) (λ (m : Member). m.conn) ms new apart.0 (ne_eqb new.conn a (λ e. omega (arith, e, is, l))), others-new n ms new admins is low.1 apart.1)
+    (all-more (IsOther a) (λ (m : Member). m.conn) ms new apart.0 (ne_eqb new.conn a (λ e. omega (arith, e, is, l))),
+        others-new n ms new admins is low.1 apart.1)
 
 arrives-ordered : (full : Bool) (t : Table) → Ordered t → Ordered (arrives full (counted_in t)).table
 arrives-ordered true t h = later-ordered t (t.clients + 1) (omega arith) h
@@ -220,15 +237,18 @@ aside-ordered false t h =
       some = later.some;
       admins_rise = rise-more (λ (a : Admin). a.conn) 0 t.openings t.admins new h.admins_rise h.admins_under (omega arith) (omega arith);
       admins_under = all-more (λ c. c ≤ t.openings + 1) (λ (a : Admin). a.conn) t.admins new later.admins_under (omega arith);
-      apart = all-more (λ a. NotIn a (conns t.members)) (λ (a : Admin). a.conn) t.admins new h.apart (under-not t.openings (t.openings + 1) (conns t.members) (omega arith) h.under);
+      apart = all-more (λ a. NotIn a (conns t.members)) (λ (a : Admin). a.conn) t.admins new h.apart (under-not t.openings (t.openings + 1)
+          (conns t.members) (omega arith) h.under);
     }
 
-order-doors : (o : Origin) → Doors o KeepsOrder
-order-doors o = record { comes = λ t h. arrives-ordered (nat_le o.setup.max_clients (length t.members)) t h; comes_aside = λ t h. aside-ordered (nat_le most_admins (length t.admins)) t h }
+pub order-doors : (o : Origin) (e : Event) → Doors o e KeepsOrder
+order-doors o e = record { comes = λ t h. arrives-ordered (nat_le o.setup.max_clients (length t.members)) t h; comes_aside =
+    λ t h. aside-ordered (nat_le most_admins (length t.admins)) t h }
 
-order-ticks : (o : Origin) → Ticks o KeepsOrder
-order-ticks o = record {
-  stamping = λ t h. same-ordered t.openings t.clients _ _ _ _ _ (map-same (λ (m : Member). m.conn) drawn t.members (λ m. refl)) (map-same (λ (m : Member). m.client) drawn t.members (λ m. refl)) h;
+pub order-ticks : (o : Origin) (e : Event) → Ticks o e KeepsOrder
+order-ticks o e = record {
+  stamping = λ t h. same-ordered t.openings t.clients _ _ _ _ _ (map-same (λ (m : Member). m.conn) drawn t.members (λ m. refl))
+      (map-same (λ (m : Member). m.client) drawn t.members (λ m. refl)) h;
   running = λ t b is. run-ordered b t;
 }
   where
@@ -236,11 +256,11 @@ order-ticks o = record {
     run-ordered true t h = h
     run-ordered false t h = h
 
-order-closing : (o : Origin) → Closing o KeepsOrder
-order-closing o = record { charges = λ t e h. h; closes = λ t h. none-ordered t.openings t.clients h.some }
+pub order-closing : (o : Origin) (e : Event) → Closing o e KeepsOrder
+order-closing o e = record { charges = λ t h. h; closes = λ t h. none-ordered t.openings t.clients h.some }
 
 pub step-ordered : (o : Origin) (e : Event) (t : Table) → Ordered t → Ordered (stepped o t e)
-step-ordered o e t h = of-deed o KeepsOrder (order-walk o) (order-ticks o) (order-doors o) (order-closing o) e t h
+step-ordered o e t h = of-deed o e KeepsOrder (order-walk o e) (order-ticks o e) (order-doors o e) (order-closing o e) t h
 
 pub is-ordered : (o : Origin) (es : List Event) → Ordered (table_of o es)
 is-ordered o es = from-all o Ordered (step-ordered o) es (first o) (none-ordered 0 1 (omega arith))
@@ -251,15 +271,18 @@ find-none : (conn : ℕ) (admins : List Admin) → NotIn conn (admin_conns admin
 find-none conn [] a = refl
 find-none conn (x ∷ xs) a = rw a.0 (find-none conn xs a.1)
 
-apart-from : (conn : ℕ) (ms : List Member) (m : Member) (admins : List ℕ) → Among m ms → m.conn ≡ conn → AllByRecursion (λ a. NotIn a (conns ms)) admins → NotIn conn admins
+apart-from : (conn : ℕ) (ms : List Member) (m : Member) (admins : List ℕ) → Among m ms → m.conn ≡ conn
+    → AllByRecursion (λ a. NotIn a (conns ms)) admins → NotIn conn admins
 apart-from conn ms m [] on at h = tt
 apart-from conn ms m (a ∷ admins) on at h =
     let other : IsOther a m.conn = among-all (λ (n : Member). IsOther a n.conn) m ms on (others-all a ms h.0) in
-    (ne_eqb a conn (λ same. let e : (m.conn == a) ≡ true = eq-eqb m.conn a (at ∙ sym same) in absurd cc), apart-from conn ms m admins on at h.1)
+    (ne_eqb a conn (λ same. let e : (m.conn == a) ≡ true = eq-eqb m.conn a (at ∙ sym same) in absurd cc),
+        apart-from conn ms m admins on at h.1)
   where
     others-all : (a : ℕ) (ms : List Member) → NotIn a (conns ms) → AllByRecursion (λ (n : Member). IsOther a n.conn) ms
     others-all a [] h = tt
     others-all a (x ∷ xs) h = (h.0, others-all a xs h.1)
 
 pub no-admin : (t : Table) (conn : ℕ) (m : Member) → Ordered t → member_of t conn ≡ Some m → admin_of t conn ≡ None
-no-admin t conn m h is = find-none conn t.admins (apart-from conn t.members m (admin_conns t.admins) (on-found t conn m is) (found-on conn t.members m is) h.apart)
+no-admin t conn m h is = find-none conn t.admins (apart-from conn t.members m (admin_conns t.admins) (on-found t conn m is)
+    (found-on conn t.members m is) h.apart)

@@ -15,12 +15,12 @@ use Rattle.tt_log.specs.declared.deed.What.{What}
 use Rattle.tt_log.specs.declared.deed.What.TheVariants.{Msg, ToAdmin, MapBegin, MapPieces, Sync, Entries, Stamp, End}
 use Rattle.tt_rules.specs.declared.status.Status.TheVariants.{MapWait}
 use Rattle.tt_log.specs.Origin.{Origin}
-use Rattle.tt_log.specs.Member.{Member, is_playing, is_welcomed, new_member}
+use Rattle.tt_log.specs.Member.{Member, is_in, is_playing, is_welcomed, new_member}
 use Rattle.tt_log.specs.Table.{Table, member_of, with_member, without_member, playing, welcomed, is_on, now_in}
 use Rattle.tt_log.specs.Deed.{game, Deed, ◌▹◌, where_, where_some, becomes, tells, tells_what, tells_each, tells_playing}
 use Rattle.tt_log.specs.Told.{is_entry}
 use Rattle.tt_log.specs.Frames.{tells_fresh}
-use Rattle.tt_log.specs.Queue.{moved_up, left_place, leaves_queue, begins, begins_for, downloading, waits, asks}
+use Rattle.tt_log.specs.Queue.{moved_up, left_place, leaves_queue, begins, begins_for, begins_where, downloading, waits, asks}
 use Rattle.tt_log.specs.Ending.{Farewell, Quitting, Failing, tells_farewell, leaves}
 use Rattle.tt_log.specs.PacketRules.{client_info, enters, acknowledged, closed_token}
 use Rattle.tt_log.specs.Desk.{admin_arrives, admin_opens, counted_aside, most_admins}
@@ -152,30 +152,37 @@ while-then InGame InGame c xs ys l a b = tt
 pub goes-kept : (c : ℕ) (p : Phase) (d : Deed) → KeepsBy c p d → GoesBy c p d
 goes-kept c p d k = record { to = p; later = later-self p; holds = k.holds; quiet = while-all p c d.told k.quiet }
 
-pub then-keeps : (c : ℕ) (p : Phase) (d : Deed) (rule : Table → Deed) → KeepsBy c p d → (Has c p d.table → KeepsBy c p (rule d.table)) → KeepsBy c p (d ▹ rule)
+pub then-keeps : (c : ℕ) (p : Phase) (d : Deed) (rule : Table → Deed) → KeepsBy c p d → (Has c p d.table → KeepsBy c p (rule d.table))
+    → KeepsBy c p (d ▹ rule)
 then-keeps c p d rule a b =
     let next : KeepsBy c p (rule d.table) = b a.holds in
     record { holds = next.holds; quiet = all-append (Quiet c) d.told (rule d.table).told a.quiet next.quiet }
 
-pub then-goes : (c : ℕ) (p : Phase) (d : Deed) (rule : Table → Deed) → GoesBy c p d → ((q : Phase) → Has c q d.table → GoesBy c q (rule d.table)) → GoesBy c p (d ▹ rule)
+pub then-goes : (c : ℕ) (p : Phase) (d : Deed) (rule : Table → Deed) → GoesBy c p d
+    → ((q : Phase) → Has c q d.table → GoesBy c q (rule d.table)) → GoesBy c p (d ▹ rule)
 then-goes c p d rule a b =
     let next : GoesBy c a.to (rule d.table) = b a.to a.holds in
-    record { to = next.to; later = later-then p a.to next.to a.later next.later; holds = next.holds; quiet = while-then a.to next.to c d.told (rule d.table).told next.later a.quiet next.quiet }
+    record { to = next.to; later = later-then p a.to next.to a.later next.later; holds = next.holds; quiet =
+        while-then a.to next.to c d.told (rule d.table).told next.later a.quiet next.quiet }
 
 -- a deed that keeps, and a rule that goes on from the same phase
-pub kept-goes : (c : ℕ) (p : Phase) (d : Deed) (rule : Table → Deed) → KeepsBy c p d → (Has c p d.table → GoesBy c p (rule d.table)) → GoesBy c p (d ▹ rule)
+pub kept-goes : (c : ℕ) (p : Phase) (d : Deed) (rule : Table → Deed) → KeepsBy c p d → (Has c p d.table → GoesBy c p (rule d.table))
+    → GoesBy c p (d ▹ rule)
 kept-goes c p d rule a b =
     let next : GoesBy c p (rule d.table) = b a.holds in
-    record { to = next.to; later = next.later; holds = next.holds; quiet = while-then p next.to c d.told (rule d.table).told next.later (while-all p c d.told a.quiet) next.quiet }
+    record { to = next.to; later = next.later; holds = next.holds; quiet = while-then p next.to c d.told (rule d.table).told next.later
+        (while-all p c d.told a.quiet) next.quiet }
 
 pub still-keeps : (c : ℕ) (p : Phase) (t : Table) → Has c p t → KeepsBy c p (becomes t)
 still-keeps c p t h = record { holds = h; quiet = tt }
 
-pub where-keeps : (c : ℕ) (p : Phase) (b : Bool) (rule : Table → Deed) (t : Table) → Has c p t → (b ≡ true → KeepsBy c p (rule t)) → KeepsBy c p (where_ b rule t)
+pub where-keeps : (c : ℕ) (p : Phase) (b : Bool) (rule : Table → Deed) (t : Table) → Has c p t → (b ≡ true → KeepsBy c p (rule t))
+    → KeepsBy c p (where_ b rule t)
 where-keeps c p true rule t h k = k refl
 where-keeps c p false rule t h k = still-keeps c p t h
 
-pub where-goes : (c : ℕ) (p : Phase) (b : Bool) (rule : Table → Deed) (t : Table) → Has c p t → GoesBy c p (rule t) → GoesBy c p (where_ b rule t)
+pub where-goes : (c : ℕ) (p : Phase) (b : Bool) (rule : Table → Deed) (t : Table) → Has c p t → GoesBy c p (rule t)
+    → GoesBy c p (where_ b rule t)
 where-goes c p true rule t h k = k
 where-goes c p false rule t h k = goes-kept c p (becomes t) (still-keeps c p t h)
 
@@ -183,12 +190,14 @@ where-goes c p false rule t h k = goes-kept c p (becomes t) (still-keeps c p t h
 pub quiet-what : (c : ℕ) (to : List ℕ) (w : What) → is_command w ≡ false → (is_command w && list_any (λ x. x == c) to) ≡ false
 quiet-what c to w is = rw is refl
 
-pub says-keeps : (c : ℕ) (p : Phase) (to : List ℕ) (w : What) (t : Table) → is_command w ≡ false → Has c p t → KeepsBy c p (tells_what to w t)
+pub says-keeps : (c : ℕ) (p : Phase) (to : List ℕ) (w : What) (t : Table) → is_command w ≡ false → Has c p t
+    → KeepsBy c p (tells_what to w t)
 says-keeps c p to w t is h = record { holds = h; quiet = (quiet-what c to w is, tt) }
 
 -- ---- a changed member
 
-pub place-live : (p : Phase) (c : ℕ) (q xs ys : List ℕ) → list_any (λ x. x == c) ys ≡ list_any (λ x. x == c) xs → Place p c q xs → Place p c q ys
+pub place-live : (p : Phase) (c : ℕ) (q xs ys : List ℕ) → list_any (λ x. x == c) ys ≡ list_any (λ x. x == c) xs → Place p c q xs
+    → Place p c q ys
 place-live Early c q xs ys e h = h
 place-live Queued c q xs ys e h = (h.0, e ∙ h.1)
 place-live InGame c q xs ys e h = h
@@ -197,14 +206,17 @@ pub any-with : (c : ℕ) (n : Member) (ms : List Member) → list_any (λ x. x =
 any-with c n ms = ap (λ (xs : List ℕ). list_any (λ x. x == c) xs) (put-conns n ms)
 
 pub put-holds : (c : ℕ) (p : Phase) (n : Member) (t : Table) → Suits c p n → Has c p t → Holds c p (put n t.members) t.queue
-put-holds c p n t s h = record { suits = put-all (Suits c p) n t.members s h.suits; place = place-live p c t.queue (conns t.members) (conns (put n t.members)) (any-with c n t.members) h.place }
+put-holds c p n t s h = record { suits = put-all (Suits c p) n t.members s h.suits; place = place-live p c t.queue (conns t.members)
+    (conns (put n t.members)) (any-with c n t.members) h.place }
 
-pub put-own-one : (b : Bool) (c : ℕ) (p : Phase) (n x : Member) → (x.conn == n.conn) ≡ b → (n.conn == c) ≡ true → fits p (rank n.status) → Suits c p (cond b n x)
+pub put-own-one : (b : Bool) (c : ℕ) (p : Phase) (n x : Member) → (x.conn == n.conn) ≡ b → (n.conn == c) ≡ true → fits p (rank n.status)
+    → Suits c p (cond b n x)
 put-own-one true c p n x is own fit = λ same. fit
 put-own-one false c p n x is own fit = λ same. absurd (eqb-false x.conn n.conn is (eqb-true x.conn c same ∙ sym (eqb-true n.conn c own)))
 
 -- the member on the connection itself is brought further
-pub put-own : (c : ℕ) (p : Phase) (n : Member) (ms : List Member) → (n.conn == c) ≡ true → fits p (rank n.status) → AllByRecursion (Suits c p) (map (λ x. cond (x.conn == n.conn) n x) ms)
+pub put-own : (c : ℕ) (p : Phase) (n : Member) (ms : List Member) → (n.conn == c) ≡ true → fits p (rank n.status)
+    → AllByRecursion (Suits c p) (map (λ x. cond (x.conn == n.conn) n x) ms)
 put-own c p n [] own fit = tt
 put-own c p n (x ∷ xs) own fit = (put-own-one (x.conn == n.conn) c p n x refl own fit, put-own c p n xs own fit)
 
@@ -248,24 +260,29 @@ one-on k y ys =
 
 pub removed-is : (x : ℕ) (q : List ℕ) → take (place_in x q) q ++ drop (place_in x q + 1) q ≡ removed x q
 removed-is x [] = refl
-removed-is x (y ∷ ys) = elim (y == x) as (λ b. take (cond (not b) (1 + place_in x ys) 0) (y ∷ ys) ++ drop (cond (not b) (1 + place_in x ys) 0 + 1) (y ∷ ys) ≡ cond b ys (y ∷ removed x ys))
+removed-is x (y ∷ ys) = elim (y == x) as (λ b. take (cond (not b) (1 + place_in x ys) 0) (y ∷ ys)
+    ++ drop (cond (not b) (1 + place_in x ys) 0 + 1) (y ∷ ys) ≡ cond b ys (y ∷ removed x ys))
     [ true ↦ refl | false ↦ one-on (place_in x ys) y ys ∙ ap (λ (zs : List ℕ). y ∷ zs) (removed-is x ys) ]
 
-pub once-one : (b : Bool) (c x y : ℕ) (ys : List ℕ) → (y == x) ≡ b → (x == c) ≡ false → OnceIn c (y ∷ ys) → (OnceIn c ys → OnceIn c (removed x ys)) → (NotIn c ys → NotIn c (removed x ys)) → OnceIn c (cond b ys (y ∷ removed x ys))
-once-one true c x y ys is apart (inl own) next none = let e : (y == c) ≡ false = ap (λ (z : ℕ). z == c) (eqb-true y x is) ∙ apart in absurd cc
+pub once-one : (b : Bool) (c x y : ℕ) (ys : List ℕ) → (y == x) ≡ b → (x == c) ≡ false → OnceIn c (y ∷ ys)
+    → (OnceIn c ys → OnceIn c (removed x ys)) → (NotIn c ys → NotIn c (removed x ys)) → OnceIn c (cond b ys (y ∷ removed x ys))
+once-one true c x y ys is apart (inl own) next none = let e : (y == c) ≡ false = ap (λ (z : ℕ). z == c) (eqb-true y x is) ∙ apart in
+    absurd cc
 once-one true c x y ys is apart (inr other) next none = other.1
 once-one false c x y ys is apart (inl own) next none = inl (own.0, none own.1)
 once-one false c x y ys is apart (inr other) next none = inr (other.0, next other.1)
 
 pub none-removed : (c x : ℕ) (ys : List ℕ) → NotIn c ys → NotIn c (removed x ys)
 none-removed c x [] a = tt
-none-removed c x (y ∷ ys) a = elim (y == x) as (λ b. NotIn c (cond b ys (y ∷ removed x ys))) [ true ↦ a.1 | false ↦ (a.0, none-removed c x ys a.1) ]
+none-removed c x (y ∷ ys) a = elim (y == x) as (λ b. NotIn c (cond b ys (y ∷ removed x ys))) [ true ↦ a.1 | false ↦
+    (a.0, none-removed c x ys a.1) ]
 
 pub once-removed : (c x : ℕ) (ys : List ℕ) → (x == c) ≡ false → OnceIn c ys → OnceIn c (removed x ys)
 once-removed c x [] apart a = a
 once-removed c x (y ∷ ys) apart a = once-one (y == x) c x y ys refl apart a (λ b. once-removed c x ys apart b) (λ b. none-removed c x ys b)
 
-pub own-one : (b : Bool) (c y : ℕ) (ys : List ℕ) → (y == c) ≡ b → OnceIn c (y ∷ ys) → (OnceIn c ys → NotIn c (removed c ys)) → NotIn c (cond b ys (y ∷ removed c ys))
+pub own-one : (b : Bool) (c y : ℕ) (ys : List ℕ) → (y == c) ≡ b → OnceIn c (y ∷ ys) → (OnceIn c ys → NotIn c (removed c ys))
+    → NotIn c (cond b ys (y ∷ removed c ys))
 own-one true c y ys is (inl own) next = own.1
 own-one true c y ys is (inr other) next = absurd cc
 own-one false c y ys is (inl own) next = absurd cc
@@ -275,7 +292,8 @@ pub own-removed : (c : ℕ) (ys : List ℕ) → OnceIn c ys → NotIn c (removed
 own-removed c [] a = absurd a
 own-removed c (y ∷ ys) a = own-one (y == c) c y ys refl a (λ b. own-removed c ys b)
 
-pub within-one : (b : Bool) (c y k n : ℕ) (ys : List ℕ) → (y == c) ≡ b → OnceIn c (y ∷ ys) → (OnceIn c ys → k < n) → cond (not b) (1 + k) 0 < suc n
+pub within-one : (b : Bool) (c y k n : ℕ) (ys : List ℕ) → (y == c) ≡ b → OnceIn c (y ∷ ys) → (OnceIn c ys → k < n)
+    → cond (not b) (1 + k) 0 < suc n
 within-one true c y k n ys is a next = omega arith
 within-one false c y k n ys is (inl own) next = absurd cc
 within-one false c y k n ys is (inr other) next = let l : k < n = next other.1 in omega (arith, l)
@@ -288,20 +306,25 @@ once-within c (y ∷ ys) a = within-one (y == c) c y (place_in c ys) (length ys)
 abbrev pub MayMove : ℕ → Phase → ℕ → Type 0
 MayMove c p x = (x == c) ≡ true → p ≡ Queued
 
-begins-by : (x : Option Member) (c conn : ℕ) (p : Phase) (t : Table) → MayMove c p conn → member_of t conn ≡ x → Has c p t → KeepsBy c p (where_some x begins_for t)
+begins-by : (x : Option Member) (c conn : ℕ) (p : Phase) (t : Table) → MayMove c p conn → member_of t conn ≡ x → Has c p t
+    → KeepsBy c p (where_some x begins_where t)
 begins-by None c conn p t may is h = still-keeps c p t h
-begins-by (Some m) c conn p t may is h = record {
-  holds = put-holds c p (downloading t m) t (λ own. queued-fits p 6 (omega arith) (omega arith) (may (ap (λ (x : ℕ). x == c) (sym (found-on conn t.members m is)) ∙ own))) h;
+begins-by (Some m) c conn p t may is h = where-keeps c p (is_in MapWait m) (begins_for m) t h (λ waiting. record {
+  holds = put-holds c p (downloading t m) t (λ own. queued-fits p 6 (omega arith) (omega arith)
+      (may (ap (λ (x : ℕ). x == c) (sym (found-on conn t.members m is)) ∙ own))) h;
   quiet = (refl, tt);
-}
+})
 
 pub begins-keeps : (c : ℕ) (p : Phase) (conn : ℕ) (t : Table) → MayMove c p conn → Has c p t → KeepsBy c p (begins conn t)
 begins-keeps c p conn t may h = begins-by (member_of t conn) c conn p t may refl h
 
-pub moved-keeps : (c : ℕ) (p : Phase) (place : ℕ) (xs : List ℕ) (t : Table) → AllByRecursion (MayMove c p) xs → Has c p t → KeepsBy c p (moved_up place xs t)
+pub moved-keeps : (c : ℕ) (p : Phase) (place : ℕ) (xs : List ℕ) (t : Table) → AllByRecursion (MayMove c p) xs → Has c p t
+    → KeepsBy c p (moved_up place xs t)
 moved-keeps c p place [] t may h = still-keeps c p t h
-moved-keeps c p zero (x ∷ xs) t may h = then-keeps c p (begins x t) (moved_up 1 xs) (begins-keeps c p x t may.0 h) (λ b. moved-keeps c p 1 xs (begins x t).table may.1 b)
-moved-keeps c p (suc place) (x ∷ xs) t may h = then-keeps c p (waits x (suc place) t) (moved_up (suc (suc place)) xs) (record { holds = h; quiet = (refl, tt) }) (λ b. moved-keeps c p (suc (suc place)) xs t may.1 b)
+moved-keeps c p zero (x ∷ xs) t may h = then-keeps c p (begins x t) (moved_up 1 xs) (begins-keeps c p x t may.0 h)
+    (λ b. moved-keeps c p 1 xs (begins x t).table may.1 b)
+moved-keeps c p (suc place) (x ∷ xs) t may h = then-keeps c p (waits x (suc place) t) (moved_up (suc (suc place)) xs)
+    (record { holds = h; quiet = (refl, tt) }) (λ b. moved-keeps c p (suc (suc place)) xs t may.1 b)
 
 pub none-moves : (c : ℕ) (p : Phase) (xs : List ℕ) → NotIn c xs → AllByRecursion (MayMove c p) xs
 none-moves c p [] a = tt
@@ -322,13 +345,16 @@ place-removed Early c x q xs apart h = none-removed c x q h
 place-removed Queued c x q xs apart h = (once-removed c x q apart h.0, h.1)
 place-removed InGame c x q xs apart h = none-removed c x q h
 
-pub place-cut : (p : Phase) (c x : ℕ) (q xs : List ℕ) → (x == c) ≡ false → Place p c q xs → Place p c (take (place_in x q) q ++ drop (place_in x q + 1) q) xs
+pub place-cut : (p : Phase) (c x : ℕ) (q xs : List ℕ) → (x == c) ≡ false → Place p c q xs → Place p c (take (place_in x q) q
+    ++ drop (place_in x q + 1) q) xs
 place-cut p c x q xs apart h = rw (removed-is x q) (place-removed p c x q xs apart h)
 
-pub left-keeps : (b : Bool) (c x : ℕ) (p : Phase) (t : Table) → (x == c) ≡ false → Has c p t → KeepsBy c p (where_some (cond b (Some (place_in x t.queue)) None) left_place t)
+pub left-keeps : (b : Bool) (c x : ℕ) (p : Phase) (t : Table) → (x == c) ≡ false → Has c p t
+    → KeepsBy c p (where_some (cond b (Some (place_in x t.queue)) None) left_place t)
 left-keeps true c x p t apart h =
     let u : Table = record t { queue = take (place_in x t.queue) t.queue ++ drop (place_in x t.queue + 1) t.queue } in
-    moved-keeps c p (place_in x t.queue) (drop (place_in x t.queue + 1) t.queue) u (moves-behind p c (place_in x t.queue + 1) t.queue (conns t.members) h.place)
+    moved-keeps c p (place_in x t.queue) (drop (place_in x t.queue + 1) t.queue) u (moves-behind p c (place_in x t.queue + 1) t.queue
+        (conns t.members) h.place)
     (record { suits = h.suits; place = place-cut p c x t.queue (conns t.members) apart h.place })
 left-keeps false c x p t apart h = still-keeps c p t h
 
@@ -349,15 +375,18 @@ none-behind c [] ys a = a
 none-behind c (x ∷ xs) ys a = none-behind c xs ys a.1
 
 pub not-found : (c : ℕ) (q : List ℕ) → nat_lt (place_in c q) (length q) ≡ false → OnceIn c q ⊎ NotIn c q → NotIn c q
-not-found c q is (inl once) = let l : place_in c q < length q = once-within c q once in let m : length q ≤ place_in c q = ltb-false (place_in c q) (length q) is in absurd (omega (arith, l, m))
+not-found c q is (inl once) = let l : place_in c q < length q = once-within c q once in let m : length q ≤ place_in c q =
+    ltb-false (place_in c q) (length q) is in absurd (omega (arith, l, m))
 not-found c q is (inr none) = none
 
-pub left-cut : (b : Bool) (c : ℕ) (t : Table) → nat_lt (place_in c t.queue) (length t.queue) ≡ b → Cut c t.members t.queue → Has c InGame (where_some (cond b (Some (place_in c t.queue)) None) left_place t).table
+pub left-cut : (b : Bool) (c : ℕ) (t : Table) → nat_lt (place_in c t.queue) (length t.queue) ≡ b → Cut c t.members t.queue
+    → Has c InGame (where_some (cond b (Some (place_in c t.queue)) None) left_place t).table
 left-cut true c t is cut =
     let u : Table = record t { queue = take (place_in c t.queue) t.queue ++ drop (place_in c t.queue + 1) t.queue } in
     let none : NotIn c u.queue = rw (removed-is c t.queue) (cut-none c t.queue cut.once) in
     (moved-keeps c InGame (place_in c t.queue) (drop (place_in c t.queue + 1) t.queue) u
-    (none-moves c InGame (drop (place_in c t.queue + 1) t.queue) (none-behind c (take (place_in c t.queue) t.queue) (drop (place_in c t.queue + 1) t.queue) none))
+    (none-moves c InGame (drop (place_in c t.queue + 1) t.queue) (none-behind c (take (place_in c t.queue) t.queue)
+        (drop (place_in c t.queue + 1) t.queue) none))
     (record { suits = cut.suits; place = none })).holds
 left-cut false c t is cut = record { suits = cut.suits; place = not-found c t.queue is cut.once }
 
@@ -379,19 +408,24 @@ later-end InGame = tt
 
 -- ---- a member goes
 
-gone-one : (b : Bool) (c x : ℕ) (m : Member) (rest ms : List Member) → (m.conn == x) ≡ b → (x == c) ≡ false → list_any (λ y. y == c) (conns rest) ≡ list_any (λ y. y == c) (conns ms)
+gone-one : (b : Bool) (c x : ℕ) (m : Member) (rest ms : List Member) → (m.conn == x) ≡ b → (x == c) ≡ false
+    → list_any (λ y. y == c) (conns rest) ≡ list_any (λ y. y == c) (conns ms)
     → list_any (λ y. y == c) (conns (cond (not b) (m ∷ rest) rest)) ≡ ((m.conn == c) || list_any (λ y. y == c) (conns ms))
-gone-one true c x m rest ms is apart same = let e : (m.conn == c) ≡ false = ap (λ (y : ℕ). y == c) (eqb-true m.conn x is) ∙ apart in rw e same
+gone-one true c x m rest ms is apart same = let e : (m.conn == c) ≡ false = ap (λ (y : ℕ). y == c) (eqb-true m.conn x is) ∙ apart in
+    rw e same
 gone-one false c x m rest ms is apart same = ap (λ (b : Bool). (m.conn == c) || b) same
 
-pub any-others : (c x : ℕ) (ms : List Member) → (x == c) ≡ false → list_any (λ y. y == c) (conns (others x ms)) ≡ list_any (λ y. y == c) (conns ms)
+pub any-others : (c x : ℕ) (ms : List Member) → (x == c) ≡ false → list_any (λ y. y == c) (conns (others x ms))
+    ≡ list_any (λ y. y == c) (conns ms)
 any-others c x [] apart = refl
 any-others c x (m ∷ ms) apart = gone-one (m.conn == x) c x m (others x ms) ms refl apart (any-others c x ms apart)
 
 pub without-holds : (c x : ℕ) (p : Phase) (t : Table) → (x == c) ≡ false → Has c p t → Has c p (without_member x t)
-without-holds c x p t apart h = record { suits = all-filter (Suits c p) (λ m. not (is_on x m)) t.members h.suits; place = place-live p c t.queue (conns t.members) (conns (others x t.members)) (any-others c x t.members apart) h.place }
+without-holds c x p t apart h = record { suits = all-filter (Suits c p) (λ m. not (is_on x m)) t.members h.suits; place =
+    place-live p c t.queue (conns t.members) (conns (others x t.members)) (any-others c x t.members apart) h.place }
 
-gone-suits-one : (b : Bool) (c x : ℕ) (m : Member) (ms : List Member) → (m.conn == x) ≡ b → x ≡ c → AllByRecursion (Suits c InGame) ms → AllByRecursion (Suits c InGame) (cond (not b) (m ∷ ms) ms)
+gone-suits-one : (b : Bool) (c x : ℕ) (m : Member) (ms : List Member) → (m.conn == x) ≡ b → x ≡ c → AllByRecursion (Suits c InGame) ms
+    → AllByRecursion (Suits c InGame) (cond (not b) (m ∷ ms) ms)
 gone-suits-one true c x m ms is same a = a
 gone-suits-one false c x m ms is same a = (λ own. absurd (eqb-false m.conn x is (eqb-true m.conn c own ∙ sym same)), a)
 
@@ -403,23 +437,27 @@ farewell-keeps : (f : Farewell) (c : ℕ) (p : Phase) (m : Member) (t : Table) �
 farewell-keeps Quitting c p m t h = record { holds = h; quiet = (refl, (refl, tt)) }
 farewell-keeps (Failing code) c p m t h = record { holds = h; quiet = (refl, (refl, tt)) }
 
-farewell-cut : (f : Farewell) (b : Bool) (c : ℕ) (m : Member) (t : Table) → Cut c t.members t.queue → Cut c (where_ b (tells_farewell f m) t).table.members (where_ b (tells_farewell f m) t).table.queue
+farewell-cut : (f : Farewell) (b : Bool) (c : ℕ) (m : Member) (t : Table) → Cut c t.members t.queue
+    → Cut c (where_ b (tells_farewell f m) t).table.members (where_ b (tells_farewell f m) t).table.queue
 farewell-cut Quitting true c m t cut = cut
 farewell-cut (Failing code) true c m t cut = cut
 farewell-cut f false c m t cut = cut
 
-pub leaves-by : (b : Bool) (c : ℕ) (p : Phase) (m : Member) (f : Farewell) (t : Table) → (m.conn == c) ≡ b → Has c p t → GoesBy c p (leaves m f t)
+pub leaves-by : (b : Bool) (c : ℕ) (p : Phase) (m : Member) (f : Farewell) (t : Table) → (m.conn == c) ≡ b → Has c p t
+    → GoesBy c p (leaves m f t)
 leaves-by true c p m f t is h =
     let u : Table = without_member m.conn t in
     let v : Table = (where_ (is_welcomed m) (tells_farewell f m) u).table in
     let same : m.conn ≡ c = eqb-true m.conn c is in
-    let cut : Cut c v.members v.queue = farewell-cut f (is_welcomed m) c m u (record { suits = gone-suits c m.conn t.members same; once = place-once p c t.queue (conns t.members) h.place }) in
+    let cut : Cut c v.members v.queue = farewell-cut f (is_welcomed m) c m u (record { suits = gone-suits c m.conn t.members same; once =
+        place-once p c t.queue (conns t.members) h.place }) in
     record { to = InGame; later = later-end p; holds = leaves-queue-cut c m.conn v same cut; quiet = tt }
 leaves-by false c p m f t is h =
     let u : Table = without_member m.conn t in
     let a : Deed = tells_what (m.conn ∷ []) End u in
     let d : Deed = a ▹ where_ (is_welcomed m) (tells_farewell f m) in
-    let k : KeepsBy c p d = then-keeps c p a (where_ (is_welcomed m) (tells_farewell f m)) (says-keeps c p (m.conn ∷ []) End u refl (without-holds c m.conn p t is h))
+    let k : KeepsBy c p d = then-keeps c p a (where_ (is_welcomed m) (tells_farewell f m)) (says-keeps c p (m.conn ∷ []) End u refl
+        (without-holds c m.conn p t is h))
     (λ b. where-keeps c p (is_welcomed m) (tells_farewell f m) u b (λ yes. farewell-keeps f c p m u b)) in
     goes-kept c p (leaves m f t) (then-keeps c p d (leaves_queue m.conn) k (λ b. leaves-queue-keeps c m.conn p d.table is b))
 
@@ -434,7 +472,8 @@ enters-by true c p m t is h =
     let n : Member = moved loads t m in
     let u : Table = with_member n t in
     let v : Table = (tells_fresh n u).table in
-    let cut : Cut c v.members v.queue = record { suits = put-own c InGame (turned gets_token u n) (put n t.members) is (omega arith); once = place-once p c t.queue (conns t.members) h.place } in
+    let cut : Cut c v.members v.queue = record { suits = put-own c InGame (turned gets_token u n) (put n t.members) is (omega arith); once =
+        place-once p c t.queue (conns t.members) h.place } in
     record { to = InGame; later = later-end p; holds = leaves-queue-cut c m.conn v (eqb-true m.conn c is) cut; quiet = tt }
 enters-by false c p m t is h =
     let n : Member = moved loads t m in
@@ -444,8 +483,10 @@ enters-by false c p m t is h =
     let d3 : Deed = d2 ▹ tells_fresh n in
     let k1 : KeepsBy c p d1 = record { holds = put-holds c p n t (λ own. absurd cc) h; quiet = infos-quiet c m.conn (welcomed t) } in
     let away : list_any (λ x. x == c) (m.conn ∷ []) ≡ false = any-not c (m.conn ∷ []) (is, tt) in
-    let k2 : KeepsBy c p d2 = then-keeps c p d1 (tells_what (m.conn ∷ []) (Entries m.map_frame)) k1 (λ b. record { holds = b; quiet = (away, tt) }) in
-    let k3 : KeepsBy c p d3 = then-keeps c p d2 (tells_fresh n) k2 (λ b. record { holds = put-holds c p (turned gets_token d2.table n) d2.table (λ own. absurd cc) b; quiet = (refl, tt) }) in
+    let k2 : KeepsBy c p d2 = then-keeps c p d1 (tells_what (m.conn ∷ []) (Entries m.map_frame)) k1
+        (λ b. record { holds = b; quiet = (away, tt) }) in
+    let k3 : KeepsBy c p d3 = then-keeps c p d2 (tells_fresh n) k2
+        (λ b. record { holds = put-holds c p (turned gets_token d2.table n) d2.table (λ own. absurd cc) b; quiet = (refl, tt) }) in
     goes-kept c p (enters m t) (then-keeps c p d3 (leaves_queue m.conn) k3 (λ b. leaves-queue-keeps c m.conn p d3.table is b))
 
 -- ---- a member asks for the map: it stands last
@@ -474,17 +515,21 @@ on-there c m (x ∷ xs) (inr later) own = or-true (x.conn == c) (list_any (λ y.
     or-true true b is = refl
     or-true false b is = is
 
-asks-own : (p : Phase) (c : ℕ) (m : Member) (t : Table) → rank m.status ≡ 4 → (m.conn == c) ≡ true → fits p (rank m.status) → On t m → Has c p t → GoesBy c p (asks m t)
+asks-own : (p : Phase) (c : ℕ) (m : Member) (t : Table) → rank m.status ≡ 4 → (m.conn == c) ≡ true → fits p (rank m.status) → On t m
+    → Has c p t → GoesBy c p (asks m t)
 asks-own Early c m t at own fit on h =
     let n : Member = now_in MapWait t m in
     let u : Table = record (with_member n t) { queue = t.queue ++ m.conn ∷ [] } in
-    let k : Has c Queued u = record { suits = put-own c Queued n t.members own (omega arith, omega arith); place = (once-last c m.conn t.queue own h.place, any-with c n t.members ∙ on-there c m t.members on own) } in
-    let d : KeepsBy c Queued (moved_up (length t.queue) (m.conn ∷ []) u) = moved-keeps c Queued (length t.queue) (m.conn ∷ []) u (λ own. refl, tt) k in
+    let k : Has c Queued u = record { suits = put-own c Queued n t.members own (omega arith, omega arith); place =
+        (once-last c m.conn t.queue own h.place, any-with c n t.members ∙ on-there c m t.members on own) } in
+    let d : KeepsBy c Queued (moved_up (length t.queue) (m.conn ∷ []) u) = moved-keeps c Queued (length t.queue) (m.conn ∷ []) u
+        (λ own. refl, tt) k in
     record { to = Queued; later = tt; holds = d.holds; quiet = d.quiet }
 asks-own Queued c m t at own fit on h = let low : 5 ≤ rank m.status = fit.0 in absurd (omega (arith, at, low))
 asks-own InGame c m t at own fit on h = absurd (omega (arith, at, fit))
 
-pub asks-by : (b : Bool) (c : ℕ) (p : Phase) (m : Member) (t : Table) → (m.conn == c) ≡ b → rank m.status ≡ 4 → Suits c p m → On t m → Has c p t → GoesBy c p (asks m t)
+pub asks-by : (b : Bool) (c : ℕ) (p : Phase) (m : Member) (t : Table) → (m.conn == c) ≡ b → rank m.status ≡ 4 → Suits c p m → On t m
+    → Has c p t → GoesBy c p (asks m t)
 asks-by true c p m t is at s on h = asks-own p c m t at is (s is) on h
 asks-by false c p m t is at s on h =
     let n : Member = now_in MapWait t m in

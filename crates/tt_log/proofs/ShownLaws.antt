@@ -20,7 +20,8 @@ is_going _ = false
 abbrev Fits : Shown → Type 0
 Fits s = goes_on s.phase ≡ is_going s.seen
 
-seen-stays : (o : Origin) (h : lockstep.Shown WorldState Entry) (t : Told WorldState Entry) → is_going h ≡ false → lockstep.seen (game_of o) h t ≡ h
+seen-stays : (o : Origin) (h : lockstep.Shown WorldState Entry) (t : Told WorldState Entry) → is_going h ≡ false
+    → lockstep.seen (game_of o) h t ≡ h
 seen-stays o lockstep.Joining t e = absurd cc
 seen-stays o (lockstep.Running view) t e = absurd cc
 seen-stays o lockstep.EndedJoining t e = refl
@@ -28,7 +29,8 @@ seen-stays o (lockstep.Ended view) t e = refl
 seen-stays o lockstep.WrongJoining t e = refl
 seen-stays o (lockstep.Wrong view) t e = refl
 
-stays : (o : Origin) (h : lockstep.Shown WorldState Entry) (ts : List (Told WorldState Entry)) → is_going h ≡ false → lockstep.shown (game_of o) h ts ≡ h
+stays : (o : Origin) (h : lockstep.Shown WorldState Entry) (ts : List (Told WorldState Entry)) → is_going h ≡ false
+    → lockstep.shown (game_of o) h ts ≡ h
 stays o h [] e = refl
 stays o h (t ∷ ts) e = ap (λ (x : lockstep.Shown WorldState Entry). lockstep.shown (game_of o) x ts) (seen-stays o h t e) ∙ stays o h ts e
 
@@ -82,7 +84,8 @@ one-more false o i items s is fits next =
     let over : is_going s.seen ≡ false = sym fits ∙ is in
     next s fits ∙ stays o s.seen (things_of s.place items) over ∙ sym (stays o s.seen (things_of s.place (i ∷ items)) over)
 
-from-seen : (o : Origin) (items : List Item) (s : Shown) → Fits s → (fold (unless_over o) s items).seen ≡ lockstep.shown (game_of o) s.seen (things_of s.place items)
+from-seen : (o : Origin) (items : List Item) (s : Shown) → Fits s → (fold (unless_over o) s items).seen ≡ lockstep.shown (game_of o) s.seen
+    (things_of s.place items)
 from-seen o [] s fits = refl
 from-seen o (i ∷ items) s fits = one-more (goes_on s.phase) o i items s refl fits (λ n f. from-seen o items n f)
 

@@ -68,7 +68,8 @@ loads-playing DoneMap low = absurd (omega (arith, low))
 loads-playing PreActive low = refl
 loads-playing Active low = refl
 
-queue-by : (p : Phase) (c : ℕ) (m : Member) (q xs : List ℕ) → fits p (rank m.status) → Place p c q xs → list_any (λ x. x == c) q ≡ is_loading m
+queue-by : (p : Phase) (c : ℕ) (m : Member) (q xs : List ℕ) → fits p (rank m.status) → Place p c q xs → list_any (λ x. x == c) q
+    ≡ is_loading m
 queue-by Early c m q xs fit h = any-not c q h ∙ sym (loads-early m.status fit)
 queue-by Queued c m q xs fit h = once-there c q h.0 ∙ sym (loads-queued m.status fit.0 fit.1)
 queue-by InGame c m q xs fit h = any-not c q h ∙ sym (loads-playing m.status fit)
@@ -78,17 +79,20 @@ count-by Early c q xs h = omega (arith, none-counted c q h)
 count-by Queued c q xs h = omega (arith, once-counted c q h.0)
 count-by InGame c q xs h = omega (arith, none-counted c q h)
 
-pub queue-members : (o : Origin) (es : List Event) (c : ℕ) (m : Member) → member_of (table_of o es) c ≡ Some m → list_any (λ x. x == c) (table_of o es).queue ≡ is_loading m
+pub queue-members : (o : Origin) (es : List Event) (c : ℕ) (m : Member) → member_of (table_of o es) c ≡ Some m
+    → list_any (λ x. x == c) (table_of o es).queue ≡ is_loading m
 queue-members o es c m is =
     let kept : IsKept c (table_of o es) (heard o es c) = is-kept c o es in
     let own : (m.conn == c) ≡ true = eq-eqb m.conn c (found-on c (table_of o es).members m is) in
     queue-by kept.phase c m (table_of o es).queue _ (suits-found c kept.phase (table_of o es) m is kept.holds own) kept.holds.place
 
-pub queue-others : (o : Origin) (es : List Event) (c : ℕ) → is_live (table_of o es) c ≡ false → list_any (λ x. x == c) (table_of o es).queue ≡ false
+pub queue-others : (o : Origin) (es : List Event) (c : ℕ) → is_live (table_of o es) c ≡ false → list_any (λ x. x == c) (table_of o es).queue
+    ≡ false
 queue-others o es c gone =
     let kept : IsKept c (table_of o es) (heard o es c) = is-kept c o es in
     let a : Apart c (table_of o es) = gone-apart c kept.phase (table_of o es) gone kept.holds in
     any-not c (table_of o es).queue a.queue
 
 pub queue-once : (o : Origin) (es : List Event) (c : ℕ) → length (filter (λ x. x == c) (table_of o es).queue) ≤ 1
-queue-once o es c = let kept : IsKept c (table_of o es) (heard o es c) = is-kept c o es in count-by kept.phase c (table_of o es).queue _ kept.holds.place
+queue-once o es c = let kept : IsKept c (table_of o es) (heard o es c) = is-kept c o es in
+    count-by kept.phase c (table_of o es).queue _ kept.holds.place

@@ -30,7 +30,7 @@ use Rattle.tt_log.specs.Deed.{Deed, ◌▹◌, where_, where_some, becomes, tell
 use Rattle.tt_log.specs.Watching.{watching, sees_welcome, sees_active, sees_change, sees_chat, sees_stamp, sees_frame}
 use Rattle.tt_log.specs.Names.{given_name}
 use Rattle.tt_log.specs.Frames.{tells_fresh, tells_again, tells_frame_by, tells_frame, frames_told}
-use Rattle.tt_log.specs.Queue.{asks, begins, begins_for, waits, moved_up, left_place, leaves_queue}
+use Rattle.tt_log.specs.Queue.{asks, begins, begins_for, begins_where, waits, moved_up, left_place, leaves_queue}
 use Rattle.tt_log.specs.Judged.{judged, founder}
 use Rattle.tt_log.specs.Ending.{Farewell, Quitting, Failing, tells_farewell, sees_farewell, leaves, ends}
 use Rattle.tt_log.specs.PacketRules.{client_info, first_company, welcomes, company_step_by, company_step, password_step_by, joins, enters, becomes_active, asks_company, new_company, acknowledged, acknowledges, has_caught_up, closed_token, chats, is_in_scope, renames, moves, does}
@@ -38,8 +38,8 @@ use Rattle.tt_log.specs.Desk.{admin_opens, admin_leaves, admin_ends, admin_limit
 use Rattle.tt_log.specs.Tick.{stamps, drawn, tells_entries, stamped, frame_runs_by, frame_runs, foundings, all_moved, founders_moved, synced, next_pieces, finishes_map, mapped, left_of, late, limited, each_limited, timed, frame_follows, ticked}
 use Rattle.tt_log.specs.Events.{read_msg, read_admin, opened, by_verdict, heard, to_named, on_conn, by_event, charged, stops, closed, shut_down, taken, takes, deed, stepped, last_frame, is_stop}
 use Rattle.tt_log.proofs.Lists.{Among, Within, NotIn, IsOther, found-among, map-filter-not, all-of-filter, all-drop, all-filter}
-use Rattle.tt_log.proofs.Crew.{On, OnAdmin, on-found, put-among, admin_conns}
-use Rattle.tt_log.proofs.Changes.{step, Allows, allows, Change, wants_password, is_let_in, gets_token, gets_frame, answers, plays, commands, has_name, goes_to, founds, gets_pieces, has_all, Move, queues, begins_map, loads, Asks, May, turned, moved, words_behind, turned_in, steps_with, IsTalk, IsNews, turned-conn, moved-conn}
+use Rattle.tt_log.proofs.Crew.{On, OnAdmin, on-found, found-on, put-among, admin_conns}
+use Rattle.tt_log.proofs.Changes.{step, Allows, allows, Says, By, Change, wants_password, is_let_in, gets_token, gets_frame, answers, plays, commands, has_name, goes_to, founds, gets_pieces, has_all, Move, queues, begins_map, loads, Asks, May, turned, moved, words_behind, turned_in, steps_with, IsTalk, IsNews, turned-conn, moved-conn}
 
 -- ---- the tables of a tick
 
@@ -55,7 +55,7 @@ running false o t = record t { frame = t.frame + 1 }
 -- when a change that goes with the queue may come
 abbrev pub MayMove : Move → Member → Type 0
 MayMove queues m = rank m.status ≡ 4
-MayMove begins_map m = Unit
+MayMove begins_map m = rank m.status ≡ 5
 MayMove loads m = rank m.status ≡ 7
 
 abbrev pub told_moved : Move → Member → List Step
@@ -72,11 +72,17 @@ none-behind : (c : ℕ) (xs ys : List ℕ) → NotIn c (xs ++ ys) → NotIn c ys
 none-behind c [] ys a = a
 none-behind c (x ∷ xs) ys a = none-behind c xs ys a.1
 
-begun-within : (x : Option Member) (conns : List ℕ) (t : Table) → Within conns t.queue → Within conns (where_some x begins_for t).table.queue
-begun-within None conns t h = h
-begun-within (Some m) conns t h = h
+begun-by : (b : Bool) (m : Member) (conns : List ℕ) (t : Table) → Within conns t.queue
+    → Within conns (where_ b (begins_for m) t).table.queue
+begun-by true m conns t h = h
+begun-by false m conns t h = h
 
-module _ (o : Origin) (P : Table → List Step → Table → Type 0) where
+begun-within : (x : Option Member) (conns : List ℕ) (t : Table) → Within conns t.queue
+    → Within conns (where_some x begins_where t).table.queue
+begun-within None conns t h = h
+begun-within (Some m) conns t h = begun-by (is_in MapWait m) m conns t h
+
+module _ (o : Origin) (e : Event) (P : Table → List Step → Table → Type 0) where
   -- it holds of a deed
   abbrev pub Of : Table → Deed → Type 0
   Of t d = P t d.told d.table
@@ -87,7 +93,7 @@ module _ (o : Origin) (P : Table → List Step → Table → Type 0) where
     pub still : (t : Table) → P t [] t
     pub joins : (t u v : Table) (xs ys : List Step) → P t xs u → P u ys v → P t (xs ++ ys) v
     -- a member changes, and is told something with it
-    pub turns : (c : Change) (t : Table) (m : Member) → On t m → May o t m c → P t (steps_with c o t m) (turned_in c t m)
+    pub turns : (c : Change) (t : Table) (m : Member) → On t m → May o t m c → By e m c → P t (steps_with c o t m) (turned_in c t m)
     -- a member is told something, or some of those that play are, or some admins
     pub tells_one : (t : Table) (m : Member) (msg : GameMsg) → On t m → IsTalk msg → P t (step (m.conn ∷ []) (Msg msg) ∷ []) t
     pub tells_some : (t : Table) (to : List ℕ) (w : What) → Within to (playing t) → IsNews w → P t (step to w ∷ []) t
@@ -96,9 +102,10 @@ module _ (o : Origin) (P : Table → List Step → Table → Type 0) where
   -- it holds of each part that rules are made of, but for those of a tick
   pub record Walk : Type 0 where
     pub base : Base
-    -- a company has a password or none; the server orders a command
-    pub locks : (t : Table) (m : Member) (digest : Option (List ℕ)) → On t m → Allows o t m (ClientSetPassword digest) → P t [] (with_digest m.company digest t)
-    pub orders : (t : Table) (c : Command) → IsOrdered t c → P t [] (record t { own = t.own ++ c ∷ [] })
+    -- a company has a password or none; the server orders a command, in no tick
+    pub locks : (t : Table) (m : Member) (digest : Option (List ℕ)) → On t m → Allows o t m (ClientSetPassword digest)
+        → P t [] (with_digest m.company digest t)
+    pub orders : (t : Table) (c : Command) → IsOrdered t c → is_tick e ≡ false → P t [] (record t { own = t.own ++ c ∷ [] })
     -- a member asks for the map, enters the game, or goes
     pub asks_map : (t : Table) (m : Member) → On t m → rank m.status ≡ 4 → Of t (asks m t)
     pub enters_game : (t : Table) (m : Member) → On t m → rank m.status ≡ 7 → Of t (enters m t)
@@ -113,7 +120,7 @@ module _ (o : Origin) (P : Table → List Step → Table → Type 0) where
 
   -- it holds of what follows the rule of every event: it costs something, and may end the game
   pub record Closing : Type 0 where
-    pub charges : (t : Table) (e : Event) → P t [] (record t { cost = t.cost + event_cost e })
+    pub charges : (t : Table) → P t [] (record t { cost = t.cost + event_cost e })
     pub closes : (t : Table) → Of t (shut_down t)
 
   -- it holds of what only ticks do: stamping, and running a frame
@@ -146,14 +153,10 @@ module _ (o : Origin) (P : Table → List Step → Table → Type 0) where
     of-where true rule t h = h refl
     of-where false rule t h = w.still t
 
-    pub of-some : {A : Type 0} (x : Option A) (rule : A → Table → Deed) (t : Table) → ((y : A) → x ≡ Some y → Of t (rule y t)) → Of t (where_some x rule t)
+    pub of-some : {A : Type 0} (x : Option A) (rule : A → Table → Deed) (t : Table) → ((y : A) → x ≡ Some y → Of t (rule y t))
+        → Of t (where_some x rule t)
     of-some None rule t h = w.still t
     of-some (Some y) rule t h = h y refl
-
-    -- a member changes with what it is told, and then goes on
-    pub of-turn : (c : Change) (t : Table) (m : Member) (rule : Table → Deed) → On t m → May o t m c → Of (turned_in c t m) (rule (turned_in c t m))
-        → P t (steps_with c o t m ++ (rule (turned_in c t m)).told) (rule (turned_in c t m)).table
-    of-turn c t m rule on may h = w.joins t (turned_in c t m) (rule (turned_in c t m)).table (steps_with c o t m) (rule (turned_in c t m)).told (w.turns c t m on may) h
 
     pub on-turned : (c : Change) (t : Table) (m : Member) → On t m → On (turned_in c t m) (turned c t m)
     on-turned c t m on = put-among (turned c t m) m t.members (turned-conn c t m) on
@@ -164,7 +167,8 @@ module _ (o : Origin) (P : Table → List Step → Table → Type 0) where
     of-playing t msg talk = w.tells_some t (playing t) (Msg msg) (λ c h. h) talk
 
     pub of-watched : (kind : ℕ) (msg : AdminMsg) (t : Table) → P t (step (watching kind t) (ToAdmin msg) ∷ []) t
-    of-watched kind msg t = w.tells_admins t (watching kind t) msg (λ c h. all-of-filter (λ (a : Admin). a.conn) (is_automatic kind) c t.admins h)
+    of-watched kind msg t = w.tells_admins t (watching kind t) msg (λ c h. all-of-filter (λ (a : Admin). a.conn)
+        (is_automatic kind) c t.admins h)
 
     of-farewell : (f : Farewell) (m : Member) (t : Table) → Of t (tells_farewell f m t)
     of-farewell Quitting m t = w.joins t t t _ _ (of-playing t _ tt) (of-watched client_updates _ t)
@@ -180,17 +184,19 @@ module _ (o : Origin) (P : Table → List Step → Table → Type 0) where
         of-then t d (tells_entries es) told (of-entries es t)
 
     pub of-frame-by : (b : Bool) (t : Table) (m : Member) → (m.token == 0) ≡ b → On t m → 8 ≤ rank m.status → Of t (tells_frame_by b m t)
-    of-frame-by true t m is on high = w.turns gets_token t m on (high, eqb-true m.token 0 is)
-    of-frame-by false t m is on high = w.turns gets_frame t m on high
+    of-frame-by true t m is on high = w.turns gets_token t m on (high, eqb-true m.token 0 is) tt
+    of-frame-by false t m is on high = w.turns gets_frame t m on high tt
 
     pub of-frame : (t : Table) (m : Member) → On t m → Of t (tells_frame m t)
-    of-frame t m on = of-where (is_playing m) (tells_frame_by (m.token == 0) m) t (λ plays. of-frame-by (m.token == 0) t m refl on (leb-true 8 (rank m.status) plays))
+    of-frame t m on = of-where (is_playing m) (tells_frame_by (m.token == 0) m) t (λ plays. of-frame-by (m.token == 0) t m refl on
+        (leb-true 8 (rank m.status) plays))
 
     pub of-frames : (ms : List Member) (t : Table) → Of t (frames_told ms t)
     of-frames [] t = w.still t
     of-frames (m ∷ ms) t =
         let d : Deed = where_some (member_of t m.conn) tells_frame t in
-        of-then t d (frames_told ms) (of-some (member_of t m.conn) tells_frame t (λ n is. of-frame t n (on-found t m.conn n is))) (of-frames ms d.table)
+        of-then t d (frames_told ms) (of-some (member_of t m.conn) tells_frame t (λ n is. of-frame t n (on-found t m.conn n is)))
+            (of-frames ms d.table)
 
     -- ---- the moves of the queue, where it holds of their parts
 
@@ -199,7 +205,8 @@ module _ (o : Origin) (P : Table → List Step → Table → Type 0) where
       of-moved-up place [] t in_queue = w.still t
       of-moved-up zero (conn ∷ conns) t in_queue =
           let d : Deed = begins conn t in
-          of-then t d (moved_up 1 conns) (of-some (member_of t conn) begins_for t (λ m is. moves.moving begins_map t m (on-found t conn m is) tt))
+          of-then t d (moved_up 1 conns) (of-some (member_of t conn) begins_where t (λ m is. of-where (is_in MapWait m) (begins_for m) t
+              (λ waiting. moves.moving begins_map t m (on-found t conn m is) (eqb-true (rank m.status) 5 waiting))))
           (of-moved-up 1 conns d.table (begun-within (member_of t conn) conns t (λ c h. (in_queue c h).1)))
       of-moved-up (suc place) (conn ∷ conns) t in_queue =
           of-then t (waits conn (suc place) t) (moved_up (suc (suc place)) conns) (moves.waits_on t conn _ (λ c h. ((in_queue c h).0, tt)))
@@ -219,7 +226,8 @@ module _ (o : Origin) (P : Table → List Step → Table → Type 0) where
           let d : Deed = tells_what (m.conn ∷ []) End (without_member m.conn t) in
           let e : Deed = d ▹ where_ (is_welcomed m) (tells_farewell farewell m) in
           of-then t e (leaves_queue m.conn)
-          (of-then t d (where_ (is_welcomed m) (tells_farewell farewell m)) (moves.parts t m on) (of-where (is_welcomed m) (tells_farewell farewell m) d.table (λ is. of-farewell farewell m d.table)))
+          (of-then t d (where_ (is_welcomed m) (tells_farewell farewell m)) (moves.parts t m on)
+              (of-where (is_welcomed m) (tells_farewell farewell m) d.table (λ is. of-farewell farewell m d.table)))
           (of-leaves-queue m.conn e.table)
 
       pub of-asks : (t : Table) (m : Member) → On t m → rank m.status ≡ 4 → Of t (asks m t)
@@ -251,30 +259,38 @@ module _ (o : Origin) (P : Table → List Step → Table → Type 0) where
     -- ---- packets
 
     pub of-ends : (t : Table) (m : Member) (code : ℕ) → On t m → Of t (ends m code t)
-    of-ends t m code on = of-then w.base t (tells (m.conn ∷ []) (ServerError code) t) (leaves m (Failing code)) (w.base.tells_one t m (ServerError code) on tt) (w.goes t m (Failing code) on)
+    of-ends t m code on = of-then w.base t (tells (m.conn ∷ []) (ServerError code) t) (leaves m (Failing code))
+        (w.base.tells_one t m (ServerError code) on tt) (w.goes t m (Failing code) on)
 
-    of-welcomes : (t : Table) (m : Member) (name : List ℕ) (asked : ℕ) → On t m → Asks o t m name asked → Of t (welcomes o (record m { name = name; asked = asked }) t)
+    of-welcomes : (t : Table) (m : Member) (name : List ℕ) (asked : ℕ) → On t m → Asks o t m name asked
+        → Of t (welcomes o (record m { name = name; asked = asked }) t)
     of-welcomes t m name asked on may =
         let c : Change = is_let_in name asked in
         let u : Table = turned_in c t m in
-        w.base.joins t u u _ _ (w.base.joins t u u _ _ (w.base.turns c t m on may) (of-playing w.base u (client_info (turned c t m)) tt)) (of-watched w.base client_updates _ u)
+        w.base.joins t u u _ _ (w.base.joins t u u _ _ (w.base.turns c t m on may tt) (of-playing w.base u (client_info (turned c t m)) tt))
+            (of-watched w.base client_updates _ u)
 
-    of-company : (digest : Option (List ℕ)) (t : Table) (m : Member) (name : List ℕ) (asked : ℕ) → On t m → Asks o t m name asked → Of t (company_step_by digest o (record m { name = name; asked = asked }) t)
+    of-company : (digest : Option (List ℕ)) (t : Table) (m : Member) (name : List ℕ) (asked : ℕ) → On t m → Asks o t m name asked
+        → Of t (company_step_by digest o (record m { name = name; asked = asked }) t)
     of-company None t m name asked on may = of-welcomes t m name asked on may
-    of-company (Some digest) t m name asked on may = w.base.turns (wants_password false name asked) t m on may
+    of-company (Some digest) t m name asked on may = w.base.turns (wants_password false name asked) t m on may tt
 
-    of-password : (password : List ℕ) (t : Table) (m : Member) (name : List ℕ) (asked : ℕ) → On t m → Asks o t m name asked → Of t (password_step_by password o (record m { name = name; asked = asked }) t)
+    of-password : (password : List ℕ) (t : Table) (m : Member) (name : List ℕ) (asked : ℕ) → On t m → Asks o t m name asked
+        → Of t (password_step_by password o (record m { name = name; asked = asked }) t)
     of-password [] t m name asked on may = of-company (digest_of t asked) t m name asked on may
-    of-password (b ∷ bs) t m name asked on may = w.base.turns (wants_password true name asked) t m on may
+    of-password (b ∷ bs) t m name asked on may = w.base.turns (wants_password true name asked) t m on may tt
 
-    of-active : (t : Table) (m : Member) → On t m → rank m.status ≡ 8 → Of t (becomes_active m t)
-    of-active t m on at =
+    of-active : (t : Table) (m : Member) → On t m → rank m.status ≡ 8 → is_tick e ≡ false → Of t (becomes_active m t)
+    of-active t m on at still =
         let u : Table = turned_in plays t m in
         let to : List ℕ = filter (λ c. not (c == m.conn)) (playing t) in
         let others : Within to (playing t) = λ c h. all-filter (IsOther c) (λ x. not (x == m.conn)) (playing t) h in
-        let told : P t (step to (Msg (ServerJoin m.client)) ∷ []) u = w.base.joins t t u _ _ (w.base.tells_some t to (Msg (ServerJoin m.client)) others tt) (w.base.turns plays t m on at) in
-        let seen : P t (step to (Msg (ServerJoin m.client)) ∷ step (watching client_updates u) (ToAdmin (admins.ServerClientJoin m.client)) ∷ []) u = w.base.joins t u u _ _ told (of-watched w.base client_updates _ u) in
-        w.base.joins t u _ _ _ seen (of-where w.base (m.asked == founder) (asks_company (turned plays t m)) u (λ is. w.orders u (new_company (turned plays t m)) (turned plays t m, on-turned w.base plays t m on, refl)))
+        let told : P t (step to (Msg (ServerJoin m.client)) ∷ []) u =
+            w.base.joins t t u _ _ (w.base.tells_some t to (Msg (ServerJoin m.client)) others tt) (w.base.turns plays t m on at tt) in
+        let seen : P t (step to (Msg (ServerJoin m.client)) ∷ step (watching client_updates u) (ToAdmin (admins.ServerClientJoin m.client))
+            ∷ []) u = w.base.joins t u u _ _ told (of-watched w.base client_updates _ u) in
+        w.base.joins t u _ _ _ seen (of-where w.base (m.asked == founder) (asks_company (turned plays t m)) u
+            (λ is. w.orders u (new_company (turned plays t m)) (turned plays t m, on-turned w.base plays t m on, refl) still))
 
     acked-status : (frame token : ℕ) (m : Member) → (acknowledged frame token m).status ≡ m.status
     acked-status frame token m = by (token == 0)
@@ -287,69 +303,93 @@ module _ (o : Origin) (P : Table → List Step → Table → Type 0) where
     first-true true y is = refl
     first-true false y is = is
 
-    of-acknowledges : (t : Table) (m : Member) (frame token : ℕ) → On t m → Allows o t m (ClientAck frame token) → Of t (acknowledges m frame token t)
-    of-acknowledges t m frame token on allowed =
+    of-acknowledges : (t : Table) (m : Member) (frame token : ℕ) → On t m → Allows o t m (ClientAck frame token)
+        → Says e m (ClientAck frame token) → Of t (acknowledges m frame token t)
+    of-acknowledges t m frame token on allowed said =
         let c : Change = answers frame token in
         let n : Member = turned c t m in
         let u : Table = turned_in c t m in
-        w.base.joins t u _ _ _ (w.base.turns c t m on allowed) (of-where w.base (has_caught_up frame t m) (becomes_active n) u
-        (λ yes. of-active u n (on-turned w.base c t m on) (ap rank (acked-status frame token m) ∙ eqb-true (rank m.status) 8 (first-true (is_in PreActive m) (nat_le t.frame (frame + 74)) yes))))
+        w.base.joins t u _ _ _ (w.base.turns c t m on allowed said) (of-where w.base (has_caught_up frame t m) (becomes_active n) u
+        (λ yes. of-active u n (on-turned w.base c t m on) (ap rank (acked-status frame token m)
+            ∙ eqb-true (rank m.status) 8 (first-true (is_in PreActive m) (nat_le t.frame (frame + 74)) yes))
+            (ap (λ (d : Event). is_tick d) said.2)))
 
     of-chats : (t : Table) (client scope to : ℕ) (text : List ℕ) → Of t (chats client scope to text t)
     of-chats t client scope to text =
-        w.base.joins t t t _ _ (w.base.tells_some t _ (Msg (ServerChat client scope text)) (λ c h. map-filter-not (λ (m : Member). m.conn) is_playing (is_in_scope scope to) c t.members h) tt) (of-watched w.base chat_updates _ t)
+        w.base.joins t t t _ _ (w.base.tells_some t _ (Msg (ServerChat client scope text))
+            (λ c h. map-filter-not (λ (m : Member). m.conn) is_playing (is_in_scope scope to) c t.members h) tt)
+            (of-watched w.base chat_updates _ t)
 
     of-renames : (t : Table) (m : Member) (name : List ℕ) → On t m → Allows o t m (ClientSetName name) → Of t (renames m name t)
     of-renames t m name on allowed =
         let c : Change = has_name name in
         let u : Table = turned_in c t m in
-        w.base.joins t u u _ _ (w.base.joins t u u _ _ (w.base.turns c t m on allowed) (of-playing w.base u _ tt)) (of-watched w.base client_updates _ u)
+        w.base.joins t u u _ _ (w.base.joins t u u _ _ (w.base.turns c t m on allowed tt) (of-playing w.base u _ tt))
+            (of-watched w.base client_updates _ u)
 
-    of-moves : (c : Change) (t : Table) (m : Member) (company : ℕ) → On t m → May o t m c → turned_in c t m ≡ with_member (record m { company = company }) t → steps_with c o t m ≡ [] → Of t (moves m company t)
-    of-moves c t m company on may is quiet =
+    of-moves : (c : Change) (t : Table) (m : Member) (company : ℕ) → On t m → May o t m c → By e m c → turned_in c t m
+        ≡ with_member (record m { company = company }) t → steps_with c o t m ≡ [] → Of t (moves m company t)
+    of-moves c t m company on may by is quiet =
         let n : Member = record m { company = company } in
         let u : Table = with_member n t in
-        let turn : P t [] u = subst (λ v. P t [] v) is (subst (λ xs. P t xs (turned_in c t m)) quiet (w.base.turns c t m on may)) in
+        let turn : P t [] u = subst (λ v. P t [] v) is (subst (λ xs. P t xs (turned_in c t m)) quiet (w.base.turns c t m on may by)) in
         w.base.joins t u u _ _ (w.base.joins t u u _ _ turn (of-playing w.base u _ tt)) (of-watched w.base client_updates _ u)
 
     -- what was asked for before stands
     asked-before : (t : Table) (m : Member) (r : ℕ) → rank m.status ≡ r → 2 ≤ r → r ≤ 3 → Asks o t m m.name m.asked
     asked-before t m r at low high = inl (refl, refl, omega (arith, at, low), omega (arith, at, high))
 
-    pub of-does : (t : Table) (m : Member) (msg : GameMsg) → On t m → Allows o t m msg → Of t (does o m msg t)
-    of-does t m (ClientJoin revision grf name company) on a =
-        of-password o.setup.password t m (given_name t m.conn name) company on (inr (eqb-true (rank m.status) 0 a.permits, (revision, grf, name, refl, a)))
-    of-does t m ClientGameInfo on a = w.base.tells_one t m _ on tt
-    of-does t m (ClientGamePassword digest) on a = of-company (digest_of t m.asked) t m m.name m.asked on (asked-before t m 2 (eqb-true (rank m.status) 2 a.permits) (omega arith) (omega arith))
-    of-does t m (ClientCompanyPassword digest) on a = of-welcomes t m m.name m.asked on (asked-before t m 3 (eqb-true (rank m.status) 3 a.permits) (omega arith) (omega arith))
-    of-does t m ClientGetmap on a = w.asks_map t m on (eqb-true (rank m.status) 4 a.permits)
-    of-does t m ClientMapOk on a = w.enters_game t m on (eqb-true (rank m.status) 7 a.permits)
-    of-does t m (ClientAck frame token) on a = of-acknowledges t m frame token on a
-    of-does t m (ClientCommand company code number to text) on a =
-        of-some w.base (command_of code number to text) _ t (λ command is. w.base.turns (commands company code number to text command) t m on (is, a))
-    of-does t m (ClientChat scope to text) on a = of-chats t m.client scope to text
-    of-does t m (ClientSetName name) on a = of-renames t m name on a
-    of-does t m (ClientSetPassword digest) on a = w.locks t m digest on a
-    of-does t m (ClientMove company digest) on a = of-moves (goes_to company digest) t m company on a refl refl
-    of-does t m (ClientError code) on a = w.goes t m (Failing code) on
-    of-does t m ClientQuit on a = w.goes t m Quitting on
-    of-does t m other on a = w.base.still t
+    pub of-does : (t : Table) (m : Member) (msg : GameMsg) → On t m → Allows o t m msg → Says e m msg → Of t (does o m msg t)
+    of-does t m (ClientJoin revision grf name company) on a says =
+        of-password o.setup.password t m (given_name t m.conn name) company on
+            (inr (eqb-true (rank m.status) 0 a.permits, (revision, grf, name, refl, a)))
+    of-does t m ClientGameInfo on a says = w.base.tells_one t m _ on tt
+    of-does t m (ClientGamePassword digest) on a says = of-company (digest_of t m.asked) t m m.name m.asked on
+        (asked-before t m 2 (eqb-true (rank m.status) 2 a.permits) (omega arith) (omega arith))
+    of-does t m (ClientCompanyPassword digest) on a says = of-welcomes t m m.name m.asked on
+        (asked-before t m 3 (eqb-true (rank m.status) 3 a.permits) (omega arith) (omega arith))
+    of-does t m ClientGetmap on a says = w.asks_map t m on (eqb-true (rank m.status) 4 a.permits)
+    of-does t m ClientMapOk on a says = w.enters_game t m on (eqb-true (rank m.status) 7 a.permits)
+    of-does t m (ClientAck frame token) on a says = of-acknowledges t m frame token on a says
+    of-does t m (ClientCommand company code number to text) on a says =
+        of-some w.base (command_of code number to text) _ t (λ command is. w.base.turns (commands company code number to text command) t m
+            on (is, a) says)
+    of-does t m (ClientChat scope to text) on a says = of-chats t m.client scope to text
+    of-does t m (ClientSetName name) on a says = of-renames t m name on a
+    of-does t m (ClientSetPassword digest) on a says = w.locks t m digest on a
+    of-does t m (ClientMove company digest) on a says = of-moves (goes_to company digest) t m company on a tt refl refl
+    of-does t m (ClientError code) on a says = w.goes t m (Failing code) on
+    of-does t m ClientQuit on a says = w.goes t m Quitting on
+    of-does t m other on a says = w.base.still t
 
-    of-said : (said : Option GameMsg) (t : Table) (m : Member) → On t m → judged o t m said ≡ Allowed → Of t (where_some said (does o m) t)
-    of-said None t m on is = w.base.still t
-    of-said (Some msg) t m on is = of-does t m msg on (allows o t m msg is)
+    -- the packet of this member that spells this, or nothing
+    abbrev pub IsPacket : Member → Option GameMsg → Type 0
+    IsPacket m None = Unit
+    IsPacket m (Some msg) = Says e m msg
 
-    of-verdict : (v : Verdict) (said : Option GameMsg) (t : Table) (m : Member) → judged o t m said ≡ v → On t m → Of t (by_verdict v o m said t)
-    of-verdict Allowed said t m is on = of-said said t m on is
-    of-verdict (Ends code) said t m is on = of-ends t m code on
+    of-said : (said : Option GameMsg) (t : Table) (m : Member) → On t m → IsPacket m said → judged o t m said ≡ Allowed
+        → Of t (where_some said (does o m) t)
+    of-said None t m on says is = w.base.still t
+    of-said (Some msg) t m on says is = of-does t m msg on (allows o t m msg is) says
 
-    pub of-heard : (said : Option GameMsg) (t : Table) (m : Member) → On t m → Of t (heard o said m t)
-    of-heard said t m on = of-verdict (judged o t m said) said t m refl on
+    of-verdict : (v : Verdict) (said : Option GameMsg) (t : Table) (m : Member) → judged o t m said ≡ v → On t m → IsPacket m said
+        → Of t (by_verdict v o m said t)
+    of-verdict Allowed said t m is on says = of-said said t m on says is
+    of-verdict (Ends code) said t m is on says = of-ends t m code on
+
+    pub of-heard : (said : Option GameMsg) (t : Table) (m : Member) → On t m → IsPacket m said → Of t (heard o said m t)
+    of-heard said t m on says = of-verdict (judged o t m said) said t m refl on says
+
+    is-packet : (said : Option GameMsg) (kind : ℕ) (body : List ℕ) (m : Member) → read_msg kind body ≡ said → e ≡ Packet m.conn kind body
+        → IsPacket m said
+    is-packet None kind body m is by = tt
+    is-packet (Some msg) kind body m is by = (kind, body, by, is)
 
     -- ---- the side door
 
     of-admin-ends : (t : Table) (a : Admin) (code : ℕ) → OnAdmin t a → Of t (admin_ends a code t)
-    of-admin-ends t a code on = of-then w.base t _ (admin_leaves a) (w.base.tells_admins t (a.conn ∷ []) (admins.ServerError code) (λ c h. (among-conn c t.admins a on h, tt))) (w.goes_aside t a on)
+    of-admin-ends t a code on = of-then w.base t _ (admin_leaves a) (w.base.tells_admins t (a.conn ∷ []) (admins.ServerError code)
+        (λ c h. (among-conn c t.admins a on h, tt))) (w.goes_aside t a on)
       where
         among-conn : (c : ℕ) (admins : List Admin) (a : Admin) → Among a admins → NotIn c (admin_conns admins) → IsOther c a.conn
         among-conn c [] a there h = absurd there
@@ -361,7 +401,8 @@ module _ (o : Origin) (P : Table → List Step → Table → Type 0) where
     of-admins-limited (a ∷ admins) t =
         let d : Deed = where_some (admin_of t a.conn) (admin_limited o) t in
         of-then w.base t d (each_admin_limited o admins)
-        (of-some w.base (admin_of t a.conn) (admin_limited o) t (λ b is. of-where w.base (is_slow o t.frame b) (admin_ends b 17) t (λ slow. of-admin-ends t b 17 (found-among (is_admin_on a.conn) b t.admins is))))
+        (of-some w.base (admin_of t a.conn) (admin_limited o) t (λ b is. of-where w.base (is_slow o t.frame b) (admin_ends b 17) t
+            (λ slow. of-admin-ends t b 17 (found-among (is_admin_on a.conn) b t.admins is))))
         (of-admins-limited admins d.table)
 
     -- ---- the steps of a tick behind the frame
@@ -372,7 +413,8 @@ module _ (o : Origin) (P : Table → List Step → Table → Type 0) where
         let rule : Member → Table → Deed = λ m. moves m f.1 in
         let d : Deed = where_some (find (λ m. m.client == f.0) t.members) rule t in
         of-then w.base t d (all_moved fs)
-        (of-some w.base (find (λ m. m.client == f.0) t.members) rule t (λ m is. of-moves (founds f.1) t m f.1 (found-among (λ m. m.client == f.0) m t.members is) tt refl refl))
+        (of-some w.base (find (λ m. m.client == f.0) t.members) rule t (λ m is. of-moves (founds f.1) t m f.1
+            (found-among (λ m. m.client == f.0) m t.members is) tt tt refl refl))
         (of-all-moved fs d.table)
 
     loading-is : (x : Option Member) (m : Member) → if_loading x ≡ Some m → (x ≡ Some m) × (rank m.status ≡ 6)
@@ -395,21 +437,24 @@ module _ (o : Origin) (P : Table → List Step → Table → Type 0) where
         let c : Change = gets_pieces left in
         let n : Member = turned c t m in
         let u : Table = turned_in c t m in
-        w.base.joins t u _ _ _ (w.base.turns c t m on at) (of-where w.base (not (nat_lt (4 * 1400) (length left))) (finishes_map n) u (λ all. w.base.turns has_all u n (on-turned w.base c t m on) at))
+        w.base.joins t u _ _ _ (w.base.turns c t m on at tt) (of-where w.base (not (nat_lt (4 * 1400) (length left))) (finishes_map n) u
+            (λ all. w.base.turns has_all u n (on-turned w.base c t m on) at tt))
 
     of-each-limited : (ms : List Member) (t : Table) → Of t (each_limited o ms t)
     of-each-limited [] t = w.base.still t
     of-each-limited (m ∷ ms) t =
         let d : Deed = where_some (member_of t m.conn) (limited o) t in
         of-then w.base t d (each_limited o ms)
-        (of-some w.base (member_of t m.conn) (limited o) t (λ n is. of-some w.base (late o.setup t.frame n) (ends n) t (λ code late. of-ends t n code (on-found t m.conn n is))))
+        (of-some w.base (member_of t m.conn) (limited o) t (λ n is. of-some w.base (late o.setup t.frame n) (ends n) t
+            (λ code late. of-ends t n code (on-found t m.conn n is))))
         (of-each-limited ms d.table)
 
     of-synced : (t : Table) → Of t (synced o t)
     of-synced t = of-where w.base (t.frame % o.setup.sync_freq == 0) _ t (λ is. w.base.tells_some t (playing t) Sync (λ c h. h) tt)
 
     of-mapped : (left : List ℕ) (t : Table) → Of t (mapped left t)
-    of-mapped left t = of-some w.base (downloader t) (next_pieces left) t (λ m is. let found = loader-on t m is in of-pieces left t m found.0 found.1)
+    of-mapped left t = of-some w.base (downloader t) (next_pieces left) t (λ m is. let found = loader-on t m is in
+        of-pieces left t m found.0 found.1)
 
     pub of-follows : (live : List Bool) (left : List ℕ) (t : Table) → Of t (frame_follows live left o t)
     of-follows live left t =
@@ -427,42 +472,56 @@ module _ (o : Origin) (P : Table → List Step → Table → Type 0) where
 
     -- ---- events
 
-    of-named : (x : Option Member) (y : Option Admin) (f : Member → Table → Deed) (g : Admin → Table → Deed) (t : Table) → ((m : Member) → x ≡ Some m → Of t (f m t)) → ((a : Admin) → y ≡ Some a → Of t (g a t)) → Of t (to_named x y f g t)
+    of-named : (x : Option Member) (y : Option Admin) (f : Member → Table → Deed) (g : Admin → Table → Deed) (t : Table)
+        → ((m : Member) → x ≡ Some m → Of t (f m t)) → ((a : Admin) → y ≡ Some a → Of t (g a t)) → Of t (to_named x y f g t)
     of-named (Some m) y f g t p q = p m refl
     of-named None y f g t p q = of-some w.base y g t q
 
-    of-conn : (conn : ℕ) (f : Member → Table → Deed) (g : Admin → Table → Deed) (t : Table) → ((m : Member) → On t m → Of t (f m t)) → ((a : Admin) → OnAdmin t a → Of t (g a t)) → Of t (on_conn conn f g t)
-    of-conn conn f g t p q = of-named (member_of t conn) (admin_of t conn) f g t (λ m is. p m (on-found t conn m is)) (λ a is. q a (found-among (is_admin_on conn) a t.admins is))
+    of-conn : (conn : ℕ) (f : Member → Table → Deed) (g : Admin → Table → Deed) (t : Table) → ((m : Member) → On t m → m.conn ≡ conn
+        → Of t (f m t)) → ((a : Admin) → OnAdmin t a → Of t (g a t)) → Of t (on_conn conn f g t)
+    of-conn conn f g t p q = of-named (member_of t conn) (admin_of t conn) f g t (λ m is. p m (on-found t conn m is)
+        (found-on conn t.members m is)) (λ a is. q a (found-among (is_admin_on conn) a t.admins is))
+
+    of-packet : (conn kind : ℕ) (body : List ℕ) (t : Table) → e ≡ Packet conn kind body → Of t (by_event o (Packet conn kind body) t)
+    of-packet conn kind body t is =
+        of-conn conn _ _ t (λ m on at. of-heard (read_msg kind body) t m on (is-packet (read_msg kind body) kind body m refl (is
+            ∙ ap (λ (c : ℕ). Packet c kind body) (sym at)))) (λ a on. w.base.still t)
 
     -- an event of a connection, or a stop
-    pub of-event : (e : Event) (t : Table) → is_tick e ≡ false → is_open e ≡ false → Of t (by_event o e t)
-    of-event (Open door peer) t still shut = absurd cc
-    of-event (Packet conn kind body) t still shut = of-conn conn _ _ t (λ m on. of-heard (read_msg kind body) t m on) (λ a on. w.base.still t)
-    of-event (Broken conn) t still shut = of-conn conn _ _ t (λ m on. of-heard None t m on) (λ a on. w.base.still t)
-    of-event (Shut conn) t still shut = of-conn conn _ _ t (λ m on. w.goes t m (Failing 3) on) (λ a on. w.goes_aside t a on)
-    of-event Tick t still shut = absurd cc
-    of-event Stop t still shut = w.base.still t
+    of-event-by : (d : Event) (t : Table) → e ≡ d → is_tick d ≡ false → is_open d ≡ false → Of t (by_event o d t)
+    of-event-by (Open door peer) t is still shut = absurd cc
+    of-event-by (Packet conn kind body) t is still shut = of-packet conn kind body t is
+    of-event-by (Broken conn) t is still shut = of-conn conn _ _ t (λ m on at. of-heard None t m on tt) (λ a on. w.base.still t)
+    of-event-by (Shut conn) t is still shut = of-conn conn _ _ t (λ m on at. w.goes t m (Failing 3) on) (λ a on. w.goes_aside t a on)
+    of-event-by Tick t is still shut = absurd cc
+    of-event-by Stop t is still shut = w.base.still t
+
+    pub of-event : (t : Table) → is_tick e ≡ false → is_open e ≡ false → Of t (by_event o e t)
+    of-event t still shut = of-event-by e t refl still shut
 
     -- and an opening
-    pub of-still : Doors → (e : Event) (t : Table) → is_tick e ≡ false → Of t (by_event o e t)
-    of-still doors (Open Main peer) t still = doors.comes t
-    of-still doors (Open Side peer) t still = doors.comes_aside t
-    of-still doors (Packet conn kind body) t still = of-event (Packet conn kind body) t refl refl
-    of-still doors (Broken conn) t still = of-event (Broken conn) t refl refl
-    of-still doors (Shut conn) t still = of-event (Shut conn) t refl refl
-    of-still doors Tick t still = absurd cc
-    of-still doors Stop t still = of-event Stop t refl refl
+    of-still-by : Doors → (d : Event) (t : Table) → e ≡ d → is_tick d ≡ false → Of t (by_event o d t)
+    of-still-by doors (Open Main peer) t is still = doors.comes t
+    of-still-by doors (Open Side peer) t is still = doors.comes_aside t
+    of-still-by doors (Packet conn kind body) t is still = of-event-by (Packet conn kind body) t is refl refl
+    of-still-by doors (Broken conn) t is still = of-event-by (Broken conn) t is refl refl
+    of-still-by doors (Shut conn) t is still = of-event-by (Shut conn) t is refl refl
+    of-still-by doors Tick t is still = absurd cc
+    of-still-by doors Stop t is still = of-event-by Stop t is refl refl
+
+    pub of-still : Doors → (t : Table) → is_tick e ≡ false → Of t (by_event o e t)
+    of-still doors t still = of-still-by doors e t refl still
 
     -- what follows the rule of an event
-    pub of-taken : Closing → (e : Event) (t : Table) → Of t (by_event o e t) → Of t (taken o e t)
-    of-taken closing e t h =
+    pub of-taken : Closing → (t : Table) → Of t (by_event o e t) → Of t (taken o e t)
+    of-taken closing t h =
         let d : Deed = by_event o e t in
         let v : Table = record d.table { cost = d.table.cost + event_cost e } in
-        of-then w.base t (d ▹ charged e) (closed o (stops o e t)) (of-then w.base t d (charged e) h (closing.charges d.table e))
+        of-then w.base t (d ▹ charged e) (closed o (stops o e t)) (of-then w.base t d (charged e) h (closing.charges d.table))
         (of-where w.base (stops o e t || nat_le o.setup.cost v.cost || (v.frame == last_frame)) shut_down v (λ is. closing.closes v))
 
-    pub of-deed-by : Closing → (e : Event) (t : Table) → (takes t e ≡ true → Of t (by_event o e t)) → Of t (deed o e t)
-    of-deed-by closing e t h = of-where w.base (takes t e) (taken o e) t (λ is. of-taken closing e t (h is))
+    pub of-deed-by : Closing → (t : Table) → (takes t e ≡ true → Of t (by_event o e t)) → Of t (deed o e t)
+    of-deed-by closing t h = of-where w.base (takes t e) (taken o e) t (λ is. of-taken closing t (h is))
 
     -- ---- a tick
 
@@ -471,7 +530,8 @@ module _ (o : Origin) (P : Table → List Step → Table → Type 0) where
       of-stamped t = w.base.joins t (stamping t) _ [] _ (ticks.stamping t) (of-entries w.base (stamps t) (stamping t))
 
       of-runs-by : (b : Bool) (t : Table) → nat_lt t.top (t.frame + 1) ≡ b → Of t (frame_runs_by b o t)
-      of-runs-by true t is = w.base.joins t (running true o t) _ [] _ (ticks.running t true is) (of-frames w.base t.members (running true o t))
+      of-runs-by true t is = w.base.joins t (running true o t) _ [] _ (ticks.running t true is)
+          (of-frames w.base t.members (running true o t))
       of-runs-by false t is = ticks.running t false is
 
       pub of-runs : (t : Table) → Of t (frame_runs o t)
@@ -483,16 +543,17 @@ module _ (o : Origin) (P : Table → List Step → Table → Type 0) where
           let b : Deed = a ▹ frame_runs o in
           let c : Deed = b ▹ sees_frame in
           let pb : Of t b = of-then w.base t a (frame_runs o) (of-stamped t) (of-runs a.table) in
-          of-then w.base t c (frame_follows (living_in o t) (left_of o t) o) (of-then w.base t b sees_frame pb (w.base.still b.table)) (of-follows (living_in o t) (left_of o t) c.table)
+          of-then w.base t c (frame_follows (living_in o t) (left_of o t) o) (of-then w.base t b sees_frame pb (w.base.still b.table))
+              (of-follows (living_in o t) (left_of o t) c.table)
 
-      pub of-any : Doors → (e : Event) (t : Table) → Of t (by_event o e t)
-      of-any doors Tick t = of-ticked t
-      of-any doors (Open door peer) t = of-still doors (Open door peer) t refl
-      of-any doors (Packet conn kind body) t = of-still doors (Packet conn kind body) t refl
-      of-any doors (Broken conn) t = of-still doors (Broken conn) t refl
-      of-any doors (Shut conn) t = of-still doors (Shut conn) t refl
-      of-any doors Stop t = of-still doors Stop t refl
+      of-any-by : Doors → (d : Event) (t : Table) → e ≡ d → Of t (by_event o d t)
+      of-any-by doors Tick t is = of-ticked t
+      of-any-by doors (Open door peer) t is = of-still-by doors (Open door peer) t is refl
+      of-any-by doors (Packet conn kind body) t is = of-still-by doors (Packet conn kind body) t is refl
+      of-any-by doors (Broken conn) t is = of-still-by doors (Broken conn) t is refl
+      of-any-by doors (Shut conn) t is = of-still-by doors (Shut conn) t is refl
+      of-any-by doors Stop t is = of-still-by doors Stop t is refl
 
       -- it holds of every event
-      pub of-deed : Doors → Closing → (e : Event) (t : Table) → Of t (deed o e t)
-      of-deed doors closing e t = of-deed-by closing e t (λ is. of-any doors e t)
+      pub of-deed : Doors → Closing → (t : Table) → Of t (deed o e t)
+      of-deed doors closing t = of-deed-by closing t (λ is. of-any-by doors e t refl)

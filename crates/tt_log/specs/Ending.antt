@@ -31,7 +31,8 @@ tells_farewell farewell m t = tells_playing (news_of farewell m) t ▹ sees_fare
 
 -- it is a member no longer; those that still play are told so where it was welcomed
 abbrev pub leaves : Member → Farewell → Table → Deed
-leaves m farewell t = tells_what (m.conn ∷ []) End (without_member m.conn t) ▹ where_ (is_welcomed m) (tells_farewell farewell m) ▹ leaves_queue m.conn
+leaves m farewell t = tells_what (m.conn ∷ []) End (without_member m.conn t) ▹ where_ (is_welcomed m) (tells_farewell farewell m)
+    ▹ leaves_queue m.conn
 
 -- it is told a code, and ends
 abbrev pub ends : Member → ℕ → Table → Deed

@@ -34,4 +34,6 @@ pub mod Tellings
 pub mod Told
 pub mod Stamps
 pub mod Endings
+pub mod Marks
+pub mod Foundings
 pub mod Shown

@@ -11,6 +11,7 @@ use Rattle.tt_world.specs.World.{WorldState, start}
 use Rattle.tt_world.specs.Commands.{applied}
 use Rattle.tt_world.specs.Economy.{framed}
 use Rattle.tt_map.specs.Maps.{IsTold}
+use Rattle.tt_log.specs.Saved.{last_start_day}
 
 -- a game's setup, and the world that it starts with: a saved one, or the setup's own
 pub record Origin : Type 0 where
@@ -21,11 +22,8 @@ pub record Origin : Type 0 where
 abbrev pub origin_of : Setup → Origin
 origin_of setup = record { setup = setup; start = start setup }
 
--- no saved world is of a later day: so no game comes to a day that a map can't tell
-abbrev pub last_start : ℕ
-last_start = 900000000
-
--- what games are made from: a setup in range, its numbers and texts as their types say, and a world that a map tells
+-- what games are made from: a setup in range, its numbers and texts as their types say, and a world that a map tells, so
+-- early that no game comes to a day that no map tells
 pub record IsOrigin (o : Origin) : Type 0 where
   pub setup : Fits o.setup
   pub seed : o.setup.seed < 2 ^ 32
@@ -33,7 +31,7 @@ pub record IsOrigin (o : Origin) : Type 0 where
   pub revision : IsName o.setup.revision
   pub id : IsName o.setup.id
   pub start : IsTold o.start
-  pub early : o.start.day ≤ last_start
+  pub early : o.start.day ≤ last_start_day
 
 -- the game as lockstep sees it: entries by their frames, what an entry and a frame make of a world, and the word that a
 -- client compares, which is the first of the two random words

@@ -32,7 +32,8 @@ told_command e = ServerCommand e.company (number_of e.command.code) e.command.nu
 
 -- GAME_INFO: the game in a few numbers
 abbrev pub tells_game : Origin → Member → Table → Deed
-tells_game o m t = tells (m.conn ∷ []) (ServerGameInfo o.setup.name t.frame (min (length (welcomed t)) 255) (count_living (living_in o t)) o.setup.max_clients (not (is_empty o.setup.password))) t
+tells_game o m t = tells (m.conn ∷ []) (ServerGameInfo o.setup.name t.frame (min (length (welcomed t)) 255) (count_living (living_in o t))
+    o.setup.max_clients (not (is_empty o.setup.password))) t
 
 -- the company that a member has once it is welcomed: the asked one, none where it asked for a new one
 abbrev pub first_company : ℕ → ℕ
@@ -41,12 +42,14 @@ first_company asked = cond (asked == founder) spectator asked
 -- the welcome: it is AUTHORIZED, and all that play are told of it
 abbrev pub welcomes : Origin → Member → Table → Deed
 welcomes o m t = let in_ = record (now_in Authorized t m) { company = first_company m.asked } in
-    tells (m.conn ∷ []) (ServerWelcome m.client o.setup.seed o.setup.id) (with_member in_ t) ▹ tells_playing (client_info in_) ▹ sees_welcome in_
+    tells (m.conn ∷ []) (ServerWelcome m.client o.setup.seed o.setup.id) (with_member in_ t) ▹ tells_playing (client_info in_)
+        ▹ sees_welcome in_
 
 -- the company step: a company with a password asks for it
 abbrev pub company_step_by : Option (List ℕ) → Origin → Member → Table → Deed
 company_step_by None o m t = welcomes o m t
-company_step_by (Some digest) o m t = tells (m.conn ∷ []) (ServerNeedCompanyPassword o.setup.seed o.setup.id) (with_member (now_in AuthCompany t m) t)
+company_step_by (Some digest) o m t = tells (m.conn ∷ []) (ServerNeedCompanyPassword o.setup.seed o.setup.id)
+    (with_member (now_in AuthCompany t m) t)
 
 abbrev pub company_step : Origin → Member → Table → Deed
 company_step o m t = company_step_by (digest_of t m.asked) o m t
@@ -69,7 +72,8 @@ joins o m name company t = password_step o (record m { name = given_name t m.con
 -- token. The frame of its map counts as acknowledged
 abbrev pub enters : Member → Table → Deed
 enters m t = let in_ = record (now_in PreActive t m) { acked = m.map_frame; told = t.top } in
-    tells_each m.conn (map client_info (welcomed t)) (with_member in_ t) ▹ tells_what (m.conn ∷ []) (Entries m.map_frame) ▹ tells_fresh in_ ▹ leaves_queue m.conn
+    tells_each m.conn (map client_info (welcomed t)) (with_member in_ t) ▹ tells_what (m.conn ∷ []) (Entries m.map_frame) ▹ tells_fresh in_
+        ▹ leaves_queue m.conn
 
 -- a company for a member that asked for a new one, on the server's own list
 abbrev pub new_company : Member → Command
@@ -81,7 +85,8 @@ asks_company m t = becomes (record t { own = t.own ++ new_company m ∷ [] })
 -- ACTIVE: the others that play are told; where it asked for a company, one is ordered
 abbrev pub becomes_active : Member → Table → Deed
 becomes_active m t = let in_ = now_in Active t m in
-    tells (filter (λ c. not (c == m.conn)) (playing t)) (ServerJoin m.client) (with_member in_ t) ▹ sees_active in_ ▹ where_ (m.asked == founder) (asks_company in_)
+    tells (filter (λ c. not (c == m.conn)) (playing t)) (ServerJoin m.client) (with_member in_ t) ▹ sees_active in_
+        ▹ where_ (m.asked == founder) (asks_company in_)
 
 -- whether an acknowledged frame makes a member ACTIVE
 abbrev pub has_caught_up : ℕ → Table → Member → Bool
@@ -97,7 +102,8 @@ acknowledged frame token m = record (cond (token == 0) m (closed_token m)) { ack
 
 -- ACK: a token is the open one, or 0
 abbrev pub acknowledges : Member → ℕ → ℕ → Table → Deed
-acknowledges m frame token t = let in_ = acknowledged frame token m in becomes (with_member in_ t) ▹ where_ (has_caught_up frame t m) (becomes_active in_)
+acknowledges m frame token t = let in_ = acknowledged frame token m in becomes (with_member in_ t) ▹ where_ (has_caught_up frame t m)
+    (becomes_active in_)
 
 -- ---- in the game
 
@@ -111,12 +117,14 @@ is_in_scope scope to m = (scope == 0) || ((scope == 1) && (m.company == to)) || 
 
 -- CHAT: those that play and are in scope are told, the sender too
 abbrev pub chats : ℕ → ℕ → ℕ → List ℕ → Table → Deed
-chats client scope to text t = tells (map (λ m. m.conn) (filter (λ m. is_playing m && is_in_scope scope to m) t.members)) (ServerChat client scope text) t
+chats client scope to text t = tells (map (λ m. m.conn) (filter (λ m. is_playing m && is_in_scope scope to m) t.members))
+    (ServerChat client scope text) t
     ▹ sees_chat client scope text
 
 -- SET_NAME
 abbrev pub renames : Member → List ℕ → Table → Deed
-renames m name t = let in_ = record m { name = given_name t m.conn name } in tells_playing (client_info in_) (with_member in_ t) ▹ sees_change in_
+renames m name t = let in_ = record m { name = given_name t m.conn name } in tells_playing (client_info in_) (with_member in_ t)
+    ▹ sees_change in_
 
 -- SET_PASSWORD: the digest of its company, or none
 abbrev pub locks : Member → Option (List ℕ) → Table → Deed
@@ -124,7 +132,8 @@ locks m digest t = becomes (with_digest m.company digest t)
 
 -- MOVE, also as a founder's
 abbrev pub moves : Member → ℕ → Table → Deed
-moves m company t = let in_ = record m { company = company } in tells_playing (ServerMove m.client company) (with_member in_ t) ▹ sees_change in_
+moves m company t = let in_ = record m { company = company } in tells_playing (ServerMove m.client company) (with_member in_ t)
+    ▹ sees_change in_
 
 -- ---- a packet that is allowed: the last of the four places of a row (the others are named in Judged)
 abbrev pub does : Origin → Member → GameMsg → Table → Deed

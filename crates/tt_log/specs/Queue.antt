@@ -3,9 +3,9 @@ use Rattle.std.specs.Prelude.{ℕ, zero, suc, ◌+◌, min, ◌==◌, List, [], 
 use Rattle.tt_game.specs.declared.message.GameMsg.TheVariants.{ServerWait}
 use Rattle.tt_rules.specs.declared.status.Status.TheVariants.{MapWait, Map}
 use Rattle.tt_log.specs.declared.deed.What.TheVariants.{MapBegin}
-use Rattle.tt_log.specs.Member.{Member}
+use Rattle.tt_log.specs.Member.{Member, is_in}
 use Rattle.tt_log.specs.Table.{Table, member_of, with_member, now_in}
-use Rattle.tt_log.specs.Deed.{tells_what, Deed, ◌▹◌, becomes, where_some, tells}
+use Rattle.tt_log.specs.Deed.{tells_what, Deed, ◌▹◌, becomes, where_, where_some, tells}
 
 -- the member's map is that of this frame, and no piece of it was told
 abbrev pub downloading : Table → Member → Member
@@ -15,8 +15,12 @@ downloading t m = record (now_in Map t m) { map_frame = t.frame; pieces = 0 }
 abbrev pub begins_for : Member → Table → Deed
 begins_for m t = tells_what (m.conn ∷ []) MapBegin (with_member (downloading t m) t)
 
+-- where it waits
+abbrev pub begins_where : Member → Table → Deed
+begins_where m t = where_ (is_in MapWait m) (begins_for m) t
+
 abbrev pub begins : ℕ → Table → Deed
-begins conn t = where_some (member_of t conn) begins_for t
+begins conn t = where_some (member_of t conn) begins_where t
 
 -- it waits behind so many
 abbrev pub waits : ℕ → ℕ → Table → Deed

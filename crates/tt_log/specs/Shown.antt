@@ -60,7 +60,8 @@ whole_map false frame come = told.Stray
 
 -- an entry, where its code is known
 abbrev pub entry_told : Option Command → ℕ → ℕ → ℕ → Told WorldState Entry
-entry_told (Some command) company frame sender = told.Command (record { frame = frame; sender = sender; company = company; command = command })
+entry_told (Some command) company frame sender = told.Command (record { frame = frame; sender = sender; company = company; command =
+    command })
 entry_told None company frame sender = told.Stray
 
 -- before the welcome

@@ -1,10 +1,12 @@
 -- Which commands were accepted, and which the server ordered itself.
-use Rattle.std.specs.Prelude.{ℕ, Bool, true, false, not, ◌&&◌, ◌==◌, List, [], ◌∷◌, ◌++◌, drop, length, Option, Some, None}
+use Rattle.std.specs.Prelude.{ℕ, Bool, true, false, not, cond, ◌&&◌, ◌==◌, List, [], ◌∷◌, ◌++◌, drop, length, Option, Some, None}
 use Rattle.tt_edge.specs.declared.event.Event.{Event}
 use Rattle.tt_edge.specs.declared.event.Event.TheVariants.{Packet}
 use Rattle.tt_game.specs.declared.message.GameMsg.{GameMsg}
 use Rattle.tt_game.specs.declared.message.GameMsg.TheVariants.{ClientCommand}
 use Rattle.tt_world.specs.declared.command.Command.{Command}
+use Rattle.tt_world.specs.declared.command.Entry.{Entry}
+use Rattle.tt_rules.specs.Verdict.{spectator}
 use Rattle.tt_rules.specs.declared.status.Verdict.{Verdict}
 use Rattle.tt_rules.specs.declared.status.Verdict.TheVariants.{Allowed, Ends}
 use Rattle.tt_log.specs.Member.{Member}
@@ -45,7 +47,8 @@ if_so false commands = []
 -- the command of a connection that an event brings and that is allowed: the event is a packet of this connection, and the
 -- game is not over
 abbrev pub accepted_by : Origin → Table → Event → ℕ → List (ℕ × Command)
-accepted_by o t (Packet sender kind body) conn = if_so ((sender == conn) && not t.over) (accepted_of o t (member_of t sender) (read_msg kind body))
+accepted_by o t (Packet sender kind body) conn = if_so ((sender == conn) && not t.over) (accepted_of o t (member_of t sender)
+    (read_msg kind body))
 accepted_by o t other conn = []
 
 abbrev pub accepted_from : Origin → Table → List Event → ℕ → List (ℕ × Command)
@@ -67,3 +70,14 @@ ordered_from o t (e ∷ events) = ordered_by o t e ++ ordered_from o (stepped o 
 -- all that was ever put on the server's own list, in order
 abbrev pub ordered : Origin → List Event → List Command
 ordered o events = ordered_from o (first o) events
+
+-- ---- what of the journal a sender has sent
+
+-- the entries of a sender, in order: each command with its company
+abbrev pub stamped_of : ℕ → List Entry → List (ℕ × Command)
+stamped_of sender [] = []
+stamped_of sender (e ∷ es) = cond (e.sender == sender) ((e.company, e.command) ∷ stamped_of sender es) (stamped_of sender es)
+
+-- a command of the server's own list, as an entry has it: for no company
+abbrev pub owned : Command → ℕ × Command
+owned command = (spectator, command)

@@ -129,4 +129,5 @@ option_list (Option.Some x) = x ∷ []
 
 -- the table in which the company has this digest, or none
 abbrev pub with_digest : ℕ → Option (List ℕ) → Table → Table
-with_digest company digest t = record t { digests = filter (λ (d : ℕ × List ℕ). not (d.0 == company)) t.digests ++ option_list (option_map (λ (d : List ℕ). (company, d)) digest) }
+with_digest company digest t = record t { digests = filter (λ (d : ℕ × List ℕ). not (d.0 == company)) t.digests
+    ++ option_list (option_map (λ (d : List ℕ). (company, d)) digest) }

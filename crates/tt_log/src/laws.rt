@@ -9,6 +9,12 @@ ghost use Rattle.tt_log.specs.Admin.{Admin};
 ghost use Rattle.tt_log.specs.Events.{deed, last_frame, stepped, takes};
 ghost use Rattle.tt_log.specs.Endings.{EndsWith, IsEcho, IsSameGame, StaysButForQueue};
 ghost use Rattle.tt_log.specs.Judged.{judged};
+ghost use Rattle.tt_log.specs.Marks.{IsMarked};
+ghost use Rattle.tt_log.specs.Foundings.{foundings_in};
+ghost use Rattle.tt_log.specs.Tick.{foundings};
+ghost use Rattle.tt_rules.specs.Companies.{living};
+ghost use Rattle.tt_world.specs.World.{WorldState};
+ghost use Rattle.tt_log.specs.Stamps.{accepted, ordered, owned, stamped_of};
 ghost use Rattle.tt_rules.specs.Codes.{illegal_packet};
 ghost use Rattle.tt_rules.specs.declared.status.Verdict.TheVariants.{Ends};
 ghost use Rattle.tt_game.specs.declared.message.GameMsg.TheVariants.{ServerError};
@@ -27,12 +33,14 @@ ghost use Rattle.tt_log.specs.Told.{heard, heard_from, is_entry, sent, told};
 
 /// A new game of a setup in range is one that games are made from.
 pub fn new_game_is_one()
-    ensures { (setup : Setup) → Fits setup → setup.seed < 2 ^ 32 → IsName setup.name → IsName setup.revision → IsName setup.id → IsOrigin (origin_of setup) }
+    ensures { (setup : Setup) → Fits setup → setup.seed < 2 ^ 32 → IsName setup.name → IsName setup.revision → IsName setup.id
+        → IsOrigin (origin_of setup) }
 {}
 
 /// What is told goes on where events go on, and what was sent stays sent.
 pub fn told_goes_on()
-    ensures heard { (o : Origin) (t : Table) (es fs : List Event) (conn : ℕ) → heard_from o t (es ++ fs) conn ≡ heard_from o t es conn ++ heard_from o (fold (stepped o) t es) fs conn }
+    ensures heard { (o : Origin) (t : Table) (es fs : List Event) (conn : ℕ) → heard_from o t (es ++ fs) conn ≡ heard_from o t es conn
+        ++ heard_from o (fold (stepped o) t es) fs conn }
     ensures grows { (o : Origin) (es fs : List Event) (conn : ℕ) → (more : List ℕ) × (sent o (es ++ fs) conn ≡ sent o es conn ++ more) }
 {}
 
@@ -58,17 +66,22 @@ pub fn nobody_behind_the_end()
 /// An event that the table does not take changes nothing, and nobody is told of it.
 pub fn refused_event_changes_nothing()
     ensures does_nothing { (o : Origin) (t : Table) (e : Event) → takes t e ≡ false → deed o e t ≡ becomes t }
-    ensures table { (o : Origin) (es : List Event) (e : Event) → takes (table_of o es) e ≡ false → table_of o (es ++ e ∷ []) ≡ table_of o es }
-    ensures told { (o : Origin) (es : List Event) (e : Event) (conn : ℕ) → takes (table_of o es) e ≡ false → heard o (es ++ e ∷ []) conn ≡ heard o es conn }
-    ensures sent { (o : Origin) (es : List Event) (e : Event) (conn : ℕ) → takes (table_of o es) e ≡ false → sent o (es ++ e ∷ []) conn ≡ sent o es conn }
+    ensures table { (o : Origin) (es : List Event) (e : Event) → takes (table_of o es) e ≡ false → table_of o (es ++ e ∷ [])
+        ≡ table_of o es }
+    ensures told { (o : Origin) (es : List Event) (e : Event) (conn : ℕ) → takes (table_of o es) e ≡ false → heard o (es ++ e ∷ []) conn
+        ≡ heard o es conn }
+    ensures sent { (o : Origin) (es : List Event) (e : Event) (conn : ℕ) → takes (table_of o es) e ≡ false → sent o (es ++ e ∷ []) conn
+        ≡ sent o es conn }
 {}
 
 /// What a journal alone decides: the worlds of a game.
 pub fn one_journal_one_world()
     // Entries above a frame change no world up to it.
-    ensures stable { (o : Origin) (f n : ℕ) (old more : List Entry) → AreAbove (game_of o) n more → f ≤ n → world_at o (old ++ more) f ≡ world_at o old f }
+    ensures stable { (o : Origin) (f n : ℕ) (old more : List Entry) → AreAbove (game_of o) n more → f ≤ n → world_at o (old ++ more) f
+        ≡ world_at o old f }
     // A world may be taken up where it was left, and then the entries above its frame are enough.
-    ensures goes_on { (o : Origin) (s k : ℕ) (journal : List Entry) → world_at o journal (s + k) ≡ folded o (world_at o journal s) s (above o s journal) k }
+    ensures goes_on { (o : Origin) (s k : ℕ) (journal : List Entry) → world_at o journal (s + k) ≡ folded o (world_at o journal s) s
+        (above o s journal) k }
 {}
 
 /// How a journal grows: by entries for the frame above the one that was permitted before, so that no world changes that could be run.
@@ -105,28 +118,62 @@ pub fn malformed_ends_its_own()
     // What spells nothing, and a stream that breaks, are judged with code 4.
     ensures illegal { (o : Origin) (t : Table) (m : Member) → judged o t m None ≡ Ends illegal_packet }
     // It is told its code, and nothing else, and is live no longer.
-    ensures own { (o : Origin) (es : List Event) (e : Event) (m : Member) (code : ℕ) → EndsWith o (table_of o es) e m code → told o es e m.conn ≡ game (ServerError code) ∷ [] }
-    ensures ended { (o : Origin) (es : List Event) (e : Event) (m : Member) (code : ℕ) → EndsWith o (table_of o es) e m code → is_live (table_of o (es ++ e ∷ [])) m.conn ≡ false }
+    ensures own { (o : Origin) (es : List Event) (e : Event) (m : Member) (code : ℕ) → EndsWith o (table_of o es) e m code
+        → told o es e m.conn ≡ game (ServerError code) ∷ [] }
+    ensures ended { (o : Origin) (es : List Event) (e : Event) (m : Member) (code : ℕ) → EndsWith o (table_of o es) e m code
+        → is_live (table_of o (es ++ e ∷ [])) m.conn ≡ false }
     // All others are told at most that it ended and what they have become in the queue; and that the game is over, where it is.
-    ensures told { (o : Origin) (es : List Event) (e : Event) (m : Member) (code other : ℕ) → EndsWith o (table_of o es) e m code → (m.conn == other) ≡ false
+    ensures told { (o : Origin) (es : List Event) (e : Event) (m : Member) (code other : ℕ) → EndsWith o (table_of o es) e m code
+        → (m.conn == other) ≡ false
         → AllByRecursion (IsEcho m code (table_of o (es ++ e ∷ [])).over) (told o es e other) }
     // Where it is not, they live on, and stay as they were but for the queue.
-    ensures others_live { (o : Origin) (es : List Event) (e : Event) (m : Member) (code other : ℕ) → EndsWith o (table_of o es) e m code → (table_of o (es ++ e ∷ [])).over ≡ false
+    ensures others_live { (o : Origin) (es : List Event) (e : Event) (m : Member) (code other : ℕ) → EndsWith o (table_of o es) e m code
+        → (table_of o (es ++ e ∷ [])).over ≡ false
         → (m.conn == other) ≡ false → is_live (table_of o (es ++ e ∷ [])) other ≡ is_live (table_of o es) other }
-    ensures others_stand { (o : Origin) (es : List Event) (e : Event) (m : Member) (code other : ℕ) (n : Member) → EndsWith o (table_of o es) e m code → (table_of o (es ++ e ∷ [])).over ≡ false
+    ensures others_stand { (o : Origin) (es : List Event) (e : Event) (m : Member) (code other : ℕ) (n : Member)
+        → EndsWith o (table_of o es) e m code → (table_of o (es ++ e ∷ [])).over ≡ false
         → (m.conn == other) ≡ false → member_of (table_of o es) other ≡ Some n
         → (k : Member) × (member_of (table_of o (es ++ e ∷ [])) other ≡ Some k) × StaysButForQueue (table_of o es) n k }
-    ensures admins_stand { (o : Origin) (es : List Event) (e : Event) (m : Member) (code : ℕ) → EndsWith o (table_of o es) e m code → (table_of o (es ++ e ∷ [])).over ≡ false
+    ensures admins_stand { (o : Origin) (es : List Event) (e : Event) (m : Member) (code : ℕ) → EndsWith o (table_of o es) e m code
+        → (table_of o (es ++ e ∷ [])).over ≡ false
         → (table_of o (es ++ e ∷ [])).admins ≡ (table_of o es).admins }
     // The game goes on as it was: its frame, the permitted frame, the journal, the server's own list, passwords and tokens.
-    ensures game { (o : Origin) (es : List Event) (e : Event) (m : Member) (code : ℕ) → EndsWith o (table_of o es) e m code → IsSameGame (table_of o es) (table_of o (es ++ e ∷ [])) }
+    ensures game { (o : Origin) (es : List Event) (e : Event) (m : Member) (code : ℕ) → EndsWith o (table_of o es) e m code
+        → IsSameGame (table_of o es) (table_of o (es ++ e ∷ [])) }
+{}
+
+/// How each member stands: what it acknowledged is at most what it was told, and that at most what is permitted; at most
+/// sixteen of its commands wait, and only in the game; and it has at most one open token, and only in the game.
+pub fn members_are_marked()
+    ensures { (o : Origin) (es : List Event) → AllByRecursion (IsMarked (table_of o es).frame (table_of o es).top) (table_of o es).members }
+{}
+
+/// Each entry of a client was accepted of its connection, with the company for which it was allowed, and stamped once: what was
+/// accepted of a member is, in order, what was stamped of it, and then what waits.
+pub fn stamped_once()
+    ensures clients { (o : Origin) (es : List Event) (conn : ℕ) (m : Member) → member_of (table_of o es) conn ≡ Some m
+        → accepted o es conn ≡ stamped_of m.client (journal_of o es) ++ m.waiting }
+    // What the server ordered itself is what was stamped of it, and then its own list.
+    ensures servers { (o : Origin) (es : List Event)
+        → map owned (ordered o es) ≡ stamped_of 1 (journal_of o es) ++ map owned (table_of o es).own }
+    // Every sender is the server, or a client number that was given.
+    ensures senders { (o : Origin) (es : List Event) → AllByRecursion (λ (e : Entry). e.sender ≤ (table_of o es).clients)
+        (journal_of o es) }
+{}
+
+/// Which companies a frame founds, and for whom, follows from the companies that live and the entries alone.
+pub fn foundings_are_the_worlds()
+    ensures { (w : WorldState) (entries : List Entry) → foundings (living w) entries ≡ foundings_in w entries }
 {}
 
 /// A connection that ended stays so, and is told no more.
 pub fn ended_stays()
-    ensures not_live { (o : Origin) (es fs : List Event) (conn : ℕ) → conn ≤ (table_of o es).openings → is_live (table_of o es) conn ≡ false → is_live (table_of o (es ++ fs)) conn ≡ false }
-    ensures heard { (o : Origin) (es fs : List Event) (conn : ℕ) → conn ≤ (table_of o es).openings → is_live (table_of o es) conn ≡ false → heard o (es ++ fs) conn ≡ heard o es conn }
-    ensures sent { (o : Origin) (es fs : List Event) (conn : ℕ) → conn ≤ (table_of o es).openings → is_live (table_of o es) conn ≡ false → sent o (es ++ fs) conn ≡ sent o es conn }
+    ensures not_live { (o : Origin) (es fs : List Event) (conn : ℕ) → conn ≤ (table_of o es).openings → is_live (table_of o es) conn ≡ false
+        → is_live (table_of o (es ++ fs)) conn ≡ false }
+    ensures heard { (o : Origin) (es fs : List Event) (conn : ℕ) → conn ≤ (table_of o es).openings → is_live (table_of o es) conn ≡ false
+        → heard o (es ++ fs) conn ≡ heard o es conn }
+    ensures sent { (o : Origin) (es fs : List Event) (conn : ℕ) → conn ≤ (table_of o es).openings → is_live (table_of o es) conn ≡ false
+        → sent o (es ++ fs) conn ≡ sent o es conn }
 {}
 
 /// A member that does not play yet was told no command of the journal.
@@ -137,8 +184,10 @@ pub fn not_yet_told()
 
 /// Who waits for the map or is told it stands once in the queue, and nobody else does.
 pub fn queue_is_of_those_that_load()
-    ensures members { (o : Origin) (es : List Event) (conn : ℕ) (m : Member) → member_of (table_of o es) conn ≡ Some m → list_any (λ (c : ℕ). c == conn) (table_of o es).queue ≡ is_loading m }
-    ensures others { (o : Origin) (es : List Event) (conn : ℕ) → is_live (table_of o es) conn ≡ false → list_any (λ (c : ℕ). c == conn) (table_of o es).queue ≡ false }
+    ensures members { (o : Origin) (es : List Event) (conn : ℕ) (m : Member) → member_of (table_of o es) conn ≡ Some m
+        → list_any (λ (c : ℕ). c == conn) (table_of o es).queue ≡ is_loading m }
+    ensures others { (o : Origin) (es : List Event) (conn : ℕ) → is_live (table_of o es) conn ≡ false
+        → list_any (λ (c : ℕ). c == conn) (table_of o es).queue ≡ false }
     ensures once { (o : Origin) (es : List Event) (conn : ℕ) → length (filter (λ (c : ℕ). c == conn) (table_of o es).queue) ≤ 1 }
 {}
 
@@ -147,12 +196,16 @@ pub fn queue_is_of_those_that_load()
 /// numbers rise in the same order, from above the server's own, and each was given. So do the admins, and nobody is both.
 pub fn members_in_order()
     ensures rising { (o : Origin) (es : List Event) → AreRising 0 (map (λ (m : Member). m.conn) (table_of o es).members) }
-    ensures opened { (o : Origin) (es : List Event) → AllByRecursion (λ (c : ℕ). c ≤ (table_of o es).openings) (map (λ (m : Member). m.conn) (table_of o es).members) }
+    ensures opened { (o : Origin) (es : List Event) → AllByRecursion (λ (c : ℕ). c ≤ (table_of o es).openings)
+        (map (λ (m : Member). m.conn) (table_of o es).members) }
     ensures clients { (o : Origin) (es : List Event) → AreRising 1 (map (λ (m : Member). m.client) (table_of o es).members) }
-    ensures given { (o : Origin) (es : List Event) → AllByRecursion (λ (k : ℕ). k ≤ (table_of o es).clients) (map (λ (m : Member). m.client) (table_of o es).members) }
+    ensures given { (o : Origin) (es : List Event) → AllByRecursion (λ (k : ℕ). k ≤ (table_of o es).clients)
+        (map (λ (m : Member). m.client) (table_of o es).members) }
     ensures admins_rising { (o : Origin) (es : List Event) → AreRising 0 (map (λ (a : Admin). a.conn) (table_of o es).admins) }
-    ensures admins_opened { (o : Origin) (es : List Event) → AllByRecursion (λ (c : ℕ). c ≤ (table_of o es).openings) (map (λ (a : Admin). a.conn) (table_of o es).admins) }
-    ensures apart { (o : Origin) (es : List Event) (conn : ℕ) (m : Member) → member_of (table_of o es) conn ≡ Some m → admin_of (table_of o es) conn ≡ None }
+    ensures admins_opened { (o : Origin) (es : List Event) → AllByRecursion (λ (c : ℕ). c ≤ (table_of o es).openings)
+        (map (λ (a : Admin). a.conn) (table_of o es).admins) }
+    ensures apart { (o : Origin) (es : List Event) (conn : ℕ) (m : Member) → member_of (table_of o es) conn ≡ Some m
+        → admin_of (table_of o es) conn ≡ None }
 {}
 
 /// Only a tick runs the game, and it runs one frame; any other event leaves the frame, the permitted frame and the journal.

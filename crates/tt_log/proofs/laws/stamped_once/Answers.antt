@@ -1,0 +1,12 @@
+use Rattle.tt_log.proofs.Stamping.{live-stamped, are-kept}
+use Rattle.tt_log.proofs.Ordering.{all-served}
+use Rattle.tt_log.proofs.laws.stamped_once.Goals as goal
+
+pub returns-clause-clients : goal.returns-clause-clients
+returns-clause-clients c o es conn m is = live-stamped o es conn m is
+
+pub returns-clause-senders : goal.returns-clause-senders
+returns-clause-senders c o es = (are-kept 0 o es).senders
+
+pub returns-clause-servers : goal.returns-clause-servers
+returns-clause-servers c o es = all-served o es
