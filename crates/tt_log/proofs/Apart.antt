@@ -1,5 +1,30 @@
 -- A connection that stands nowhere in a table: no rule tells it anything, nor brings it in.
-use Rattle.std.proofs.Common.{◌≡◌, ◌⊎◌, inl, inr, ℕ, ◌+◌, ◌≤◌, ◌<◌, List, [], ◌∷◌, ◌++◌, refl, ap, sym, ◌∙◌, subst, true, false, Bool, Option, Some, None, arith}
+use Rattle.std.proofs.Common.{
+  ◌≡◌,
+  ◌⊎◌,
+  inl,
+  inr,
+  ℕ,
+  ◌+◌,
+  ◌≤◌,
+  ◌<◌,
+  List,
+  [],
+  ◌∷◌,
+  ◌++◌,
+  refl,
+  ap,
+  sym,
+  ◌∙◌,
+  subst,
+  true,
+  false,
+  Bool,
+  Option,
+  Some,
+  None,
+  arith,
+}
 use Rattle.std.specs.Prelude.{◌==◌, drop, take, length, nat_le, map, find, filter, cond, not, fold, is_some, ◌||◌}
 use Rattle.std.specs.List.{AllByRecursion, list_any}
 use Rattle.std.proofs.lemmas.Bool.{ne_eqb}
@@ -16,7 +41,19 @@ use Rattle.tt_log.specs.Tick.{drawn}
 use Rattle.tt_log.specs.Events.{arrives, opened, counted_in, stepped, deed, shut_down}
 use Rattle.tt_log.specs.Tellings.{Filling, Telling, telling, filled, said_by, filling}
 use Rattle.tt_log.specs.Told.{told_to, told_by, heard_from}
-use Rattle.tt_log.proofs.Lists.{Among, NotIn, IsOther, Within, all-append, all-take, all-drop, all-filter, any-not, among-all, all-of-filter}
+use Rattle.tt_log.proofs.Lists.{
+  Among,
+  NotIn,
+  IsOther,
+  Within,
+  all-append,
+  all-take,
+  all-drop,
+  all-filter,
+  any-not,
+  among-all,
+  all-of-filter,
+}
 use Rattle.tt_log.proofs.Crew.{On, OnAdmin, put, conns, admin_conns, put-conns, live-conns, live-admins}
 use Rattle.tt_log.proofs.Changes.{step, Change, told_with, turned, turned-conn, moved, moved-conn, Move, queues, begins_map, loads}
 use Rattle.tt_log.proofs.Walk.{Base, Walk, Doors, Closing, Moves, Ticks, running, told_moved, of-asks, of-enters, of-leaves, of-deed}
@@ -60,8 +97,12 @@ playing-not : (c : ℕ) (t : Table) → Apart c t → NotIn c (playing t)
 playing-not c t a = all-of-filter (λ (m : Member). m.conn) is_playing c t.members a.members
 
 put-apart : (c : ℕ) (n : Member) (t : Table) → Apart c t → IsApart c (conns (put n t.members)) (admin_conns t.admins) t.queue
-put-apart c n t a = record { members = subst (λ (xs : List ℕ). NotIn c xs) (sym (put-conns n t.members)) a.members; admins =
-    a.admins; queue = a.queue }
+put-apart c n t a = record {
+  members = subst (λ (xs : List ℕ). NotIn c xs) (sym (put-conns n t.members)) a.members;
+  admins =
+      a.admins;
+  queue = a.queue;
+}
 
 own-missed : (c conn : ℕ) (ws : List What) → IsOther c conn → Misses c (map (λ w. step (conn ∷ []) w) ws)
 own-missed c conn [] ne = tt
@@ -108,8 +149,11 @@ apart-base : (c : ℕ) (o : Origin) (e : Event) → Base o e (PassesBy c)
 apart-base c o e = record {
   still = λ t. still-passes c t;
   joins = λ t u v xs ys a b. then-passes c t u v xs ys a b;
-  turns = λ k t m on may by. passes c t _ _ refl (λ a. record { apart = put-apart c (turned k t m) t a; misses =
-      own-missed c m.conn (told_with k o t m) (among-not c m t.members on a.members) });
+  turns = λ k t m on may by. passes c t _ _ refl (λ a. record {
+    apart = put-apart c (turned k t m) t a;
+    misses =
+        own-missed c m.conn (told_with k o t m) (among-not c m t.members on a.members);
+  });
   tells_one = λ t m msg on talk. says c t (m.conn ∷ []) _ (λ a. (among-not c m t.members on a.members, tt));
   tells_some = λ t to w there news. says c t to w (λ a. there c (playing-not c t a));
   tells_admins = λ t to msg there. says c t to _ (λ a. there c a.admins);
@@ -117,37 +161,76 @@ apart-base c o e = record {
 
 apart-moves : (c : ℕ) (o : Origin) (e : Event) → Moves o e (PassesBy c)
 apart-moves c o e = record {
-  moving = λ v t m on may. passes c t _ _ refl (λ a. record { apart = put-apart c (moved v t m) t a; misses =
-      moved-missed c v m (among-not c m t.members on a.members) });
+  moving = λ v t m on may. passes c t _ _ refl (λ a. record {
+    apart = put-apart c (moved v t m) t a;
+    misses =
+        moved-missed c v m (among-not c m t.members on a.members);
+  });
   recalls = λ t m on at. says c t (m.conn ∷ []) _ (λ a. (among-not c m t.members on a.members, tt));
   waits_on = λ t conn n there. says c t (conn ∷ []) _ (λ a. there c a.queue);
-  stands = λ t m on. passes c t [] _ refl (λ a. record { apart = record { members = a.members; admins = a.admins; queue =
-      all-append (IsOther c) t.queue (m.conn ∷ []) a.queue (among-not c m t.members on a.members, tt) }; misses = tt });
+  stands = λ t m on. passes c t [] _ refl (λ a. record {
+    apart = record {
+      members = a.members;
+      admins = a.admins;
+      queue =
+          all-append (IsOther c) t.queue (m.conn ∷ []) a.queue (among-not c m t.members on a.members, tt);
+    };
+    misses = tt;
+  });
   cuts = λ t place. passes c t [] _ refl (λ a. record {
-    apart = record { members = a.members; admins = a.admins; queue = all-append (IsOther c) (take place t.queue) (drop (place + 1) t.queue)
-        (all-take (IsOther c) place t.queue a.queue) (all-drop (IsOther c) (place + 1) t.queue a.queue) };
+    apart = record {
+      members = a.members;
+      admins = a.admins;
+      queue = all-append (IsOther c) (take place t.queue) (drop (place + 1) t.queue)
+          (all-take (IsOther c) place t.queue a.queue) (all-drop (IsOther c) (place + 1) t.queue a.queue);
+    };
     misses = tt;
   });
   parts = λ t m on. passes c t _ _ refl
-      (λ a. record { apart = record { members = all-of-filter (λ (n : Member). n.conn) (λ n. not (is_on m.conn n)) c t.members a.members;
-      admins = a.admins; queue = a.queue }; misses = ((among-not c m t.members on a.members, tt), tt) });
-  greets = λ t m on at. passes c t _ _ refl (λ a. record { apart = put-apart c _ t a; misses =
-      ((among-not c m t.members on a.members, tt), tt) });
+      (λ a. record {
+        apart = record {
+          members = all-of-filter (λ (n : Member). n.conn) (λ n. not (is_on m.conn n)) c t.members a.members;
+          admins = a.admins;
+          queue = a.queue;
+        };
+        misses = ((among-not c m t.members on a.members, tt), tt);
+      });
+  greets = λ t m on at. passes c t _ _ refl (λ a. record {
+    apart = put-apart c _ t a;
+    misses =
+        ((among-not c m t.members on a.members, tt), tt);
+  });
 }
 
 apart-walk : (c : ℕ) (o : Origin) (e : Event) → Walk o e (PassesBy c)
 apart-walk c o e = record {
   base = apart-base c o e;
-  locks = λ t m digest on allowed. passes c t [] _ refl (λ a. record { apart = record { members = a.members; admins = a.admins; queue =
-      a.queue }; misses = tt });
-  orders = λ t k is still. passes c t [] _ refl (λ a. record { apart = record { members = a.members; admins = a.admins; queue = a.queue };
-      misses = tt });
+  locks = λ t m digest on allowed. passes c t [] _ refl (λ a. record {
+    apart = record {
+      members = a.members;
+      admins = a.admins;
+      queue =
+          a.queue;
+    };
+    misses = tt;
+  });
+  orders = λ t k is still. passes c t [] _ refl (λ a. record {
+    apart = record { members = a.members; admins = a.admins; queue = a.queue };
+    misses = tt;
+  });
   asks_map = λ t m on at. of-asks o e (PassesBy c) (apart-base c o e) (apart-moves c o e) t m on at;
   enters_game = λ t m on at. of-enters o e (PassesBy c) (apart-base c o e) (apart-moves c o e) t m on at;
   goes = λ t m farewell on. of-leaves o e (PassesBy c) (apart-base c o e) (apart-moves c o e) t m farewell on;
   goes_aside = λ t b on. passes c t _ _ refl
-      (λ a. record { apart = record { members = a.members; admins = all-of-filter (λ (d : Admin). d.conn) (λ d. not (is_admin_on b.conn d))
-      c t.admins a.admins; queue = a.queue }; misses = ((admin-not c b t.admins on a.admins, tt), tt) });
+      (λ a. record {
+        apart = record {
+          members = a.members;
+          admins = all-of-filter (λ (d : Admin). d.conn) (λ d. not (is_admin_on b.conn d))
+              c t.admins a.admins;
+          queue = a.queue;
+        };
+        misses = ((admin-not c b t.admins on a.admins, tt), tt);
+      });
 }
 
 -- what is opened is another one
@@ -156,57 +239,97 @@ is-new c n (inl opened) = ne_eqb (n + 1) c (λ e. omega (arith, e, opened))
 is-new c n (inr unopened) = ne_eqb (n + 1) c (λ e. omega (arith, e, unopened))
 
 arrives-passes : (full : Bool) (c : ℕ) (t : Table) → Passes c t (arrives full (counted_in t)).told (arrives full (counted_in t)).table
-arrives-passes true c t = record { openings = omega arith; unseen =
-    λ is a. record { apart = record { members = a.members; admins = a.admins; queue = a.queue }; misses =
-    ((is-new c t.openings is, tt), ((is-new c t.openings is, tt), tt)) } }
+arrives-passes true c t = record {
+  openings = omega arith;
+  unseen =
+      λ is a. record {
+        apart = record { members = a.members; admins = a.admins; queue = a.queue };
+        misses =
+            ((is-new c t.openings is, tt), ((is-new c t.openings is, tt), tt));
+      };
+}
 arrives-passes false c t = record {
   openings = omega arith;
   unseen = λ is a. record {
-    apart = record { members = all-more (IsOther c) (λ (m : Member). m.conn) t.members _ a.members (is-new c t.openings is); admins =
-        a.admins; queue = a.queue };
+    apart = record {
+      members = all-more (IsOther c) (λ (m : Member). m.conn) t.members _ a.members (is-new c t.openings is);
+      admins =
+          a.admins;
+      queue = a.queue;
+    };
     misses = tt;
   };
 }
 
 aside-passes : (full : Bool) (c : ℕ) (t : Table) → Passes c t (admin_arrives full (counted_aside t)).told
     (admin_arrives full (counted_aside t)).table
-aside-passes true c t = record { openings = omega arith; unseen =
-    λ is a. record { apart = record { members = a.members; admins = a.admins; queue = a.queue }; misses =
-    ((is-new c t.openings is, tt), ((is-new c t.openings is, tt), tt)) } }
+aside-passes true c t = record {
+  openings = omega arith;
+  unseen =
+      λ is a. record {
+        apart = record { members = a.members; admins = a.admins; queue = a.queue };
+        misses =
+            ((is-new c t.openings is, tt), ((is-new c t.openings is, tt), tt));
+      };
+}
 aside-passes false c t = record {
   openings = omega arith;
   unseen = λ is a. record {
-    apart = record { members = a.members; admins = all-more (IsOther c) (λ (b : Admin). b.conn) t.admins _ a.admins
-        (is-new c t.openings is); queue = a.queue };
+    apart = record {
+      members = a.members;
+      admins = all-more (IsOther c) (λ (b : Admin). b.conn) t.admins _ a.admins
+          (is-new c t.openings is);
+      queue = a.queue;
+    };
     misses = tt;
   };
 }
 
 apart-doors : (c : ℕ) (o : Origin) (e : Event) → Doors o e (PassesBy c)
-apart-doors c o e = record { comes = λ t. arrives-passes (nat_le o.setup.max_clients (length t.members)) c t; comes_aside =
-    λ t. aside-passes (nat_le most_admins (length t.admins)) c t }
+apart-doors c o e = record {
+  comes = λ t. arrives-passes (nat_le o.setup.max_clients (length t.members)) c t;
+  comes_aside =
+      λ t. aside-passes (nat_le most_admins (length t.admins)) c t;
+}
 
 running-passes : (b : Bool) (c : ℕ) (o : Origin) (t : Table) → Passes c t [] (running b o t)
-running-passes true c o t = passes c t [] _ refl (λ a. record { apart = record { members = a.members; admins = a.admins; queue = a.queue };
-    misses = tt })
-running-passes false c o t = passes c t [] _ refl (λ a. record { apart = record { members = a.members; admins = a.admins; queue = a.queue };
-    misses = tt })
+running-passes true c o t = passes c t [] _ refl (λ a. record {
+  apart = record { members = a.members; admins = a.admins; queue = a.queue };
+  misses = tt;
+})
+running-passes false c o t = passes c t [] _ refl (λ a. record {
+  apart = record { members = a.members; admins = a.admins; queue = a.queue };
+  misses = tt;
+})
 
 apart-ticks : (c : ℕ) (o : Origin) (e : Event) → Ticks o e (PassesBy c)
 apart-ticks c o e = record {
   stamping = λ t. passes c t [] _ refl
-      (λ a. record { apart =
-      record { members = subst (λ (xs : List ℕ). NotIn c xs) (sym (map-same (λ (m : Member). m.conn) drawn t.members (λ m. refl)))
-      a.members; admins = a.admins; queue = a.queue }; misses = tt });
+      (λ a. record {
+        apart =
+            record {
+              members = subst (λ (xs : List ℕ). NotIn c xs) (sym (map-same (λ (m : Member). m.conn) drawn t.members (λ m. refl)))
+                  a.members;
+              admins = a.admins;
+              queue = a.queue;
+            };
+        misses = tt;
+      });
   running = λ t b is. running-passes b c o t;
 }
 
 apart-closing : (c : ℕ) (o : Origin) (e : Event) → Closing o e (PassesBy c)
 apart-closing c o e = record {
-  charges = λ t. passes c t [] _ refl (λ a. record { apart = record { members = a.members; admins = a.admins; queue = a.queue }; misses =
-      tt });
-  closes = λ t. passes c t _ _ refl (λ a. record { apart = record { members = tt; admins = tt; queue = tt }; misses =
-      (a.members, (a.admins, (all-append (IsOther c) (conns t.members) (admin_conns t.admins) a.members a.admins, tt))) });
+  charges = λ t. passes c t [] _ refl (λ a. record {
+    apart = record { members = a.members; admins = a.admins; queue = a.queue };
+    misses =
+        tt;
+  });
+  closes = λ t. passes c t _ _ refl (λ a. record {
+    apart = record { members = tt; admins = tt; queue = tt };
+    misses =
+        (a.members, (a.admins, (all-append (IsOther c) (conns t.members) (admin_conns t.admins) a.members a.admins, tt)));
+  });
 }
 
 pub step-passes : (c : ℕ) (o : Origin) (e : Event) (t : Table) → Passes c t (deed o e t).told (stepped o t e)

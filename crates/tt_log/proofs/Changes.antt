@@ -4,7 +4,25 @@ use Rattle.std.specs.Prelude.{length, map, cond, ◌==◌}
 use Rattle.tt_edge.specs.declared.event.Event.{Event}
 use Rattle.tt_edge.specs.declared.event.Event.TheVariants.{Packet}
 use Rattle.tt_game.specs.declared.message.GameMsg.{GameMsg}
-use Rattle.tt_game.specs.declared.message.GameMsg.TheVariants.{ClientJoin, ClientAck, ClientCommand, ClientSetName, ClientMove, ServerNeedGamePassword, ServerNeedCompanyPassword, ServerWelcome, ServerFrame, ServerCommand, ServerFull, ServerMapBegin, ServerMapSize, ServerMapData, ServerMapDone, ServerSync, ServerShutdown}
+use Rattle.tt_game.specs.declared.message.GameMsg.TheVariants.{
+  ClientJoin,
+  ClientAck,
+  ClientCommand,
+  ClientSetName,
+  ClientMove,
+  ServerNeedGamePassword,
+  ServerNeedCompanyPassword,
+  ServerWelcome,
+  ServerFrame,
+  ServerCommand,
+  ServerFull,
+  ServerMapBegin,
+  ServerMapSize,
+  ServerMapData,
+  ServerMapDone,
+  ServerSync,
+  ServerShutdown,
+}
 use Rattle.tt_world.specs.declared.command.Command.{Command}
 use Rattle.tt_world.specs.declared.command.Entry.{Entry}
 use Rattle.tt_world.specs.Random.{next_random}
@@ -81,7 +99,7 @@ abbrev pub Asks : Origin → Table → Member → List ℕ → ℕ → Type 0
 Asks o t m name asked =
     ((name ≡ m.name) × (asked ≡ m.asked) × (2 ≤ rank m.status) × (rank m.status ≤ 3))
     ⊎ ((rank m.status ≡ 0) × ((revision : List ℕ) × (grf : ℕ) × (wanted : List ℕ) × (name ≡ given_name t m.conn wanted)
-        × Allows o t m (ClientJoin revision grf wanted asked)))
+    × Allows o t m (ClientJoin revision grf wanted asked)))
 
 -- when it may change so
 abbrev pub May : Origin → Table → Member → Change → Type 0

@@ -1,5 +1,29 @@
 -- Which rules leave the clock and the journal, and that the permitted frame is never behind the frame nor far ahead of it.
-use Rattle.std.proofs.Common.{◌≡◌, ◌⊎◌, inl, inr, ℕ, ◌+◌, ◌≤◌, ◌<◌, List, [], ◌∷◌, ◌++◌, refl, ap, sym, ◌∙◌, true, false, Bool, Option, Some, None, arith}
+use Rattle.std.proofs.Common.{
+  ◌≡◌,
+  ◌⊎◌,
+  inl,
+  inr,
+  ℕ,
+  ◌+◌,
+  ◌≤◌,
+  ◌<◌,
+  List,
+  [],
+  ◌∷◌,
+  ◌++◌,
+  refl,
+  ap,
+  sym,
+  ◌∙◌,
+  true,
+  false,
+  Bool,
+  Option,
+  Some,
+  None,
+  arith,
+}
 use Rattle.std.specs.Prelude.{fold, length, nat_lt, nat_le, not, ◌&&◌}
 use Rattle.std.proofs.lemmas.Bool.{ltb-true, ltb-false}
 use Rattle.tt_edge.specs.declared.event.Event.{Event}
@@ -14,9 +38,38 @@ use Rattle.tt_log.specs.Table.{Table, first, living_in}
 use Rattle.tt_log.specs.Deed.{Deed, ◌▹◌, where_}
 use Rattle.tt_log.specs.Desk.{admin_arrives, admin_opens, counted_aside, most_admins}
 use Rattle.tt_log.specs.Tick.{stamps, tells_entries, stamped, frame_runs_by, frame_runs, frame_follows, left_of, ticked}
-use Rattle.tt_log.specs.Events.{arrives, opened, counted_in, by_event, charged, closed, shut_down, stops, taken, takes, names_live, deed, stepped}
+use Rattle.tt_log.specs.Events.{
+  arrives,
+  opened,
+  counted_in,
+  by_event,
+  charged,
+  closed,
+  shut_down,
+  stops,
+  taken,
+  takes,
+  names_live,
+  deed,
+  stepped,
+}
 use Rattle.tt_log.specs.History.{table_of}
-use Rattle.tt_log.proofs.Walk.{stamping, running, Base, Walk, Doors, Closing, Moves, of-entries, of-frames, of-asks, of-enters, of-leaves, of-follows, of-still}
+use Rattle.tt_log.proofs.Walk.{
+  stamping,
+  running,
+  Base,
+  Walk,
+  Doors,
+  Closing,
+  Moves,
+  of-entries,
+  of-frames,
+  of-asks,
+  of-enters,
+  of-leaves,
+  of-follows,
+  of-still,
+}
 
 -- ---- what leaves the clock
 
@@ -124,7 +177,7 @@ ticked-is o t =
     let b : Bool = nat_lt s.top (s.frame + 1) in
     let u : Table = (frame_runs_by b o s).table in
     ticked-by b o t s u (ticked o t).table (stamped-same o t) refl (runs-same o b s) (of-follows o Tick KeepsClock (same-walk o Tick)
-        (living_in o t) (left_of o t) u)
+    (living_in o t) (left_of o t) u)
 
 -- ---- what follows the rule of an event
 

@@ -12,7 +12,20 @@ use Rattle.tt_log.specs.Origin.{Origin}
 use Rattle.tt_log.specs.Table.{Table, first}
 use Rattle.tt_log.specs.Deed.{Deed, where_}
 use Rattle.tt_log.specs.Desk.{admin_arrives, counted_aside, most_admins}
-use Rattle.tt_log.specs.Events.{arrives, counted_in, by_event, charged, shut_down, stops, taken, takes, stepped, names_live, last_frame, is_stop}
+use Rattle.tt_log.specs.Events.{
+  arrives,
+  counted_in,
+  by_event,
+  charged,
+  shut_down,
+  stops,
+  taken,
+  takes,
+  stepped,
+  names_live,
+  last_frame,
+  is_stop,
+}
 use Rattle.tt_log.specs.History.{table_of, AllTaken, IsHistory}
 use Rattle.tt_log.proofs.Walk.{Base, Walk, Moves, Ticks, running, of-asks, of-enters, of-leaves, of-event, of-ticked}
 use Rattle.tt_log.proofs.Clock.{ticked-is, event-same, event-over, taken-run, from-all, no-tick}
@@ -197,7 +210,7 @@ low-by true o e t is h =
     let l : v.frame ≤ last_frame = event-low o e t (h.over (not-over t.over (names_live t e) is)) in
     closed-low (stops o e t || nat_le o.setup.cost v.cost || (v.frame == last_frame)) v l
     (λ no. let ne : (v.frame == last_frame) ≡ false = or-last (stops o e t) (nat_le o.setup.cost v.cost) (v.frame == last_frame) no in
-        below v.frame l (λ same. eqb-false v.frame last_frame ne same))
+    below v.frame l (λ same. eqb-false v.frame last_frame ne same))
   where
     below : (n : ℕ) → n ≤ last_frame → (n ≡ last_frame → ⊥) → n < last_frame
     below n l apart = omega (arith, l, apart)

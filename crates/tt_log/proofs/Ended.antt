@@ -1,5 +1,31 @@
 -- What a connection was told by its phase, and that one that has ended stays so.
-use Rattle.std.proofs.Common.{◌≡◌, ◌⊎◌, inl, inr, ℕ, ◌+◌, ◌≤◌, ◌<◌, List, [], ◌∷◌, ◌++◌, refl, ap, sym, ◌∙◌, true, false, Bool, Option, Some, None, arith, append-nil, append_assoc}
+use Rattle.std.proofs.Common.{
+  ◌≡◌,
+  ◌⊎◌,
+  inl,
+  inr,
+  ℕ,
+  ◌+◌,
+  ◌≤◌,
+  ◌<◌,
+  List,
+  [],
+  ◌∷◌,
+  ◌++◌,
+  refl,
+  ap,
+  sym,
+  ◌∙◌,
+  true,
+  false,
+  Bool,
+  Option,
+  Some,
+  None,
+  arith,
+  append-nil,
+  append_assoc,
+}
 use Rattle.std.specs.Prelude.{fold, ◌*◌, ◌==◌, length, nat_lt, nat_le, map, cond, ◌&&◌, ◌||◌}
 use Rattle.std.specs.List.{AllByRecursion, list_any}
 use Rattle.std.proofs.lemmas.Bool.{eqb-true, eq-eqb, ltb-true, ltb-false, le-leb}
@@ -180,11 +206,15 @@ from-kept c o (e ∷ es) t said order kept =
     let s : Table = stepped o t e in
     let next : IsKept c s (said ++ told_by o t e c) = step-by (nat_lt s.openings c) c o e t said refl order kept in
     rw (sym (append_assoc said (told_by o t e c) (heard_from o s es c))) (from-kept c o es s (said ++ told_by o t e c)
-        (step-ordered o e t order) next)
+    (step-ordered o e t order) next)
 
 pub is-kept : (c : ℕ) (o : Origin) (es : List Event) → IsKept c (table_of o es) (heard o es c)
-is-kept c o es = from-kept c o es (first o) [] (is-ordered o []) (record { phase = Early; holds = record { suits = tt; place = tt };
-    unopened = λ above. refl; plain = tt })
+is-kept c o es = from-kept c o es (first o) [] (is-ordered o []) (record {
+  phase = Early;
+  holds = record { suits = tt; place = tt };
+  unopened = λ above. refl;
+  plain = tt;
+})
 
 -- ---- a connection that was not opened
 
@@ -252,8 +282,12 @@ pub gone-apart : (c : ℕ) (p : Phase) (t : Table) → is_live t c ≡ false →
 gone-apart c p t gone h =
     let both = first-false _ _ gone in
     let none : list_any (λ x. x == c) (conns t.members) ≡ false = sym (live-conns c t.members) ∙ both.0 in
-    record { members = none-there c (conns t.members) none; admins = none-there c (admin_conns t.admins) (sym (live-admins c t.admins)
-        ∙ both.1); queue = place-gone p c t.queue (conns t.members) none h.place }
+    record {
+      members = none-there c (conns t.members) none;
+      admins = none-there c (admin_conns t.admins) (sym (live-admins c t.admins)
+          ∙ both.1);
+      queue = place-gone p c t.queue (conns t.members) none h.place;
+    }
 
 from-ended : (c : ℕ) (o : Origin) (es : List Event) (t : Table) → c ≤ t.openings → Apart c t → Apart c (fold (stepped o) t es)
     × (heard_from o t es c ≡ [])
@@ -263,7 +297,7 @@ from-ended c o (e ∷ es) t l a =
     let p : Passes c t (deed o e t).told s = step-passes c o e t in
     let unseen : Unseen c (deed o e t).told s = p.unseen (inl l) a in
     let rest : Apart c (fold (stepped o) s es) × (heard_from o s es c ≡ []) =
-        from-ended c o es s (omega (arith, l, p.openings)) unseen.apart in
+    from-ended c o es s (omega (arith, l, p.openings)) unseen.apart in
     (rest.0, ap (λ (xs : List Said). xs ++ heard_from o s es c) (missed c o (filling o t s) (deed o e t).told unseen.misses) ∙ rest.1)
 
 pub ended : (o : Origin) (es fs : List Event) (c : ℕ) → c ≤ (table_of o es).openings → is_live (table_of o es) c ≡ false

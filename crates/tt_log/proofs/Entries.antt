@@ -1,5 +1,28 @@
 -- What events add to the journal.
-use Rattle.std.proofs.Common.{◌≡◌, ◌⊎◌, inl, inr, ℕ, ◌+◌, ◌≤◌, ◌<◌, List, [], ◌∷◌, ◌++◌, refl, ap, sym, ◌∙◌, true, false, Bool, arith, append-nil, append_assoc}
+use Rattle.std.proofs.Common.{
+  ◌≡◌,
+  ◌⊎◌,
+  inl,
+  inr,
+  ℕ,
+  ◌+◌,
+  ◌≤◌,
+  ◌<◌,
+  List,
+  [],
+  ◌∷◌,
+  ◌++◌,
+  refl,
+  ap,
+  sym,
+  ◌∙◌,
+  true,
+  false,
+  Bool,
+  arith,
+  append-nil,
+  append_assoc,
+}
 use Rattle.std.specs.Prelude.{fold, map, flat_map, take}
 use Rattle.std.proofs.lemmas.List.Sums.{fold-append}
 use Rattle.tt_edge.specs.declared.event.Event.{Event}
@@ -51,8 +74,13 @@ pub record Adds (t u : Table) : Type 0 where
   pub are_for : AreFor (t.top + 1) more
 
 adds-none : (t u : Table) → SameRun t u → Adds t u
-adds-none t u same = record { rises = omega (arith, same.top); more = []; journal = same.journal ∙ sym (append-nil t.journal); are_for =
-    tt }
+adds-none t u same = record {
+  rises = omega (arith, same.top);
+  more = [];
+  journal = same.journal ∙ sym (append-nil t.journal);
+  are_for =
+      tt;
+}
 
 top-rises : (o : Origin) (t u : Table) → ((t.top < t.frame + 1) × (u.top ≡ t.frame + 1 + o.setup.frame_freq))
     ⊎ ((t.frame + 1 ≤ t.top) × (u.top ≡ t.top)) → t.top ≤ u.top
@@ -63,8 +91,13 @@ ticked-adds : (o : Origin) (t u : Table) → Ticked o t u → Adds t u
 ticked-adds o t u is = record { rises = top-rises o t u is.top; more = stamps t; journal = is.journal; are_for = stamps-for t }
 
 adds-run : (t u v : Table) → Adds t u → SameRun u v → Adds t v
-adds-run t u v a same = record { rises = omega (arith, a.rises, same.top); more = a.more; journal = same.journal ∙ a.journal; are_for =
-    a.are_for }
+adds-run t u v a same = record {
+  rises = omega (arith, a.rises, same.top);
+  more = a.more;
+  journal = same.journal ∙ a.journal;
+  are_for =
+      a.are_for;
+}
 
 clock-adds : (t u : Table) → SameClock t u → Adds t u
 clock-adds t u same = adds-none t u (record { frame = same.frame; top = same.top; journal = same.journal })
@@ -166,5 +199,5 @@ pub world-stays : (o : Origin) (es fs : List Event) (f : ℕ) → f ≤ (table_o
 world-stays o es fs f l =
     let g : Grows o (table_of o es) (fold (stepped o) (table_of o es) fs) = from-grows o fs (table_of o es) in
     ap (λ (t : Table). world_at o t.journal f) (fold-append (stepped o) (first o) es fs)
-        ∙ ap (λ (xs : List Entry). world_at o xs f) g.journal ∙ world-stable (game_of o) f (table_of o es).top
-        (journal_of o es) g.more g.are_above l
+    ∙ ap (λ (xs : List Entry). world_at o xs f) g.journal ∙ world-stable (game_of o) f (table_of o es).top
+    (journal_of o es) g.more g.are_above l

@@ -1,5 +1,26 @@
 -- Reading is the inverse of spelling: for each form of a word, and then for each row of a table.
-use Rattle.std.proofs.Common.{◌≡◌, ℕ, ◌<◌, List, [], ◌∷◌, ◌++◌, Bool, true, false, cond, Option, Some, None, refl, sym, ap, subst, ◌∙◌, arith}
+use Rattle.std.proofs.Common.{
+  ◌≡◌,
+  ℕ,
+  ◌<◌,
+  List,
+  [],
+  ◌∷◌,
+  ◌++◌,
+  Bool,
+  true,
+  false,
+  cond,
+  Option,
+  Some,
+  None,
+  refl,
+  sym,
+  ap,
+  subst,
+  ◌∙◌,
+  arith,
+}
 use Rattle.std.specs.Prelude.{◌==◌}
 use Rattle.std.specs.Str.{bytes_eq}
 use Rattle.std.specs.Fmt.{decimal}
@@ -10,11 +31,49 @@ use Rattle.tt_lines.specs.Lines.{HasNo}
 use Rattle.tt_log.specs.Forms.{Form, number, text, hex, saved, key, Value, spelled, text_spelled, Fits, IsTextFrom}
 use Rattle.tt_lines.specs.Digits.{IsPiece}
 use Rattle.tt_log.specs.Saved.{IsSaved}
-use Rattle.tt_log.specs.Rows.{◌>>=◌, front_word, behind_word, word_at, rest_at, number_in, within, hex_in, text_in, text_within, saved_within, number_at, hex_at, text_at, saved_at, value_at, Row, none, end, all, ◌▸◌, ended_at, row_at, Branch, pick}
+use Rattle.tt_log.specs.Rows.{
+  ◌>>=◌,
+  front_word,
+  behind_word,
+  word_at,
+  rest_at,
+  number_in,
+  within,
+  hex_in,
+  text_in,
+  text_within,
+  saved_within,
+  number_at,
+  hex_at,
+  text_at,
+  saved_at,
+  value_at,
+  Row,
+  none,
+  end,
+  all,
+  ◌▸◌,
+  ended_at,
+  row_at,
+  Branch,
+  pick,
+}
 use Rattle.tt_lines.proofs.Breaks.{has_no-rest, has_no-cons, decimal_one}
 use Rattle.tt_lines.proofs.HexDigits.{lower_one}
 use Rattle.tt_log.proofs.SavedLaws.{saved_found, saved_back}
-use Rattle.tt_log.proofs.ValueLaws.{if_some, number_found, number_back, within_found, within_back, hex_found, hex_back, text_found, text_back, text_within_found, text_within_back}
+use Rattle.tt_log.proofs.ValueLaws.{
+  if_some,
+  number_found,
+  number_back,
+  within_found,
+  within_back,
+  hex_found,
+  hex_back,
+  text_found,
+  text_back,
+  text_within_found,
+  text_within_back,
+}
 
 -- what may be left of a line: nothing, or a blank and more
 abbrev pub IsLeft : List ℕ → Type 0
@@ -37,9 +96,11 @@ word_found w left one is = let parts = front_of w left one is in rw (parts.0, pa
 
 front_by : (b : ℕ) (bytes : List ℕ) (t : Bool) → (b == 32) ≡ t
     → HasNo 32 (front_word bytes) × IsLeft (behind_word bytes) × (bytes ≡ front_word bytes ++ behind_word bytes)
-    → HasNo 32 (cond t [] (b ∷ front_word bytes)) × IsLeft (cond t (b ∷ bytes) (behind_word bytes)) × (b ∷ bytes ≡ cond t [] (b ∷ front_word bytes) ++ cond t (b ∷ bytes) (behind_word bytes))
+    → HasNo 32 (cond t [] (b ∷ front_word bytes)) × IsLeft (cond t (b ∷ bytes) (behind_word bytes))
+    × (b ∷ bytes ≡ cond t [] (b ∷ front_word bytes) ++ cond t (b ∷ bytes) (behind_word bytes))
 front_by b bytes true e rec = ((λ i lt. absurd (omega (arith, lt))), eqb-true b 32 e, refl)
-front_by b bytes false e rec = (has_no-cons 32 b (front_word bytes) (λ is. let yes = eq-eqb b 32 is in absurd cc) rec.0, rec.1, ap (λ (t : List ℕ). b ∷ t) rec.2)
+front_by b bytes false e rec =
+    (has_no-cons 32 b (front_word bytes) (λ is. let yes = eq-eqb b 32 is in absurd cc) rec.0, rec.1, ap (λ (t : List ℕ). b ∷ t) rec.2)
 
 front_facts : (bytes : List ℕ) → HasNo 32 (front_word bytes) × IsLeft (behind_word bytes) × (bytes ≡ front_word bytes ++ behind_word bytes)
 front_facts [] = ((λ i lt. absurd (omega (arith, lt))), tt, refl)
@@ -63,7 +124,8 @@ pub bind_some : {A B : Type 0} (o : Option A) (f : A → Option B) (y : B) → o
 bind_some None f y e = absurd cc
 bind_some (Some x) f y e = (x, refl, e)
 
-pub text_one : (byte : ℕ) (content : List ℕ) (least most : ℕ) → byte < 45 → IsTextFrom least most content → HasNo byte (text_spelled content)
+pub text_one : (byte : ℕ) (content : List ℕ) (least most : ℕ) → byte < 45 → IsTextFrom least most content
+    → HasNo byte (text_spelled content)
 text_one byte [] least most low fits = has_no-cons byte 45 [] (λ is. omega (arith, is, low)) (λ i lt. absurd (omega (arith, lt)))
 text_one byte (b ∷ content) least most low fits = lower_one byte (b ∷ content) (omega (arith, low)) fits.bytes
 
@@ -80,34 +142,52 @@ blank_one key w fits = fits
 
 hex_at_found : (piece left : List ℕ) → IsPiece piece → IsLeft left → hex_at (32 ∷ encode_lower piece ++ left) ≡ Some (piece, left)
 unfolding hex_at
-hex_at_found piece left fits is = rw (word_found (encode_lower piece) left (blank_one hex piece fits) is, hex_found (encode_lower piece) piece fits refl) refl
+hex_at_found piece left fits is =
+    rw (word_found (encode_lower piece) left (blank_one hex piece fits) is, hex_found (encode_lower piece) piece fits refl) refl
 
 -- a value is read from its spelling
 pub value_found : (f : Form) (x : Value f) (left : List ℕ) → Fits f x → IsLeft left → value_at f (32 ∷ spelled f x ++ left) ≡ Some (x, left)
 unfolding number_at text_at saved_at
 value_found (number least most) n left fits is =
-    rw (word_found (decimal n) left (blank_one (number least most) n fits) is, number_found (decimal n) n refl fits.2, within_found least most n fits.0 fits.1) refl
+    rw (
+      word_found (decimal n) left (blank_one (number least most) n fits) is,
+      number_found (decimal n) n refl fits.2,
+      within_found least most n fits.0 fits.1,
+    ) refl
 value_found (text least most) content left fits is =
-    rw (word_found (text_spelled content) left (blank_one (text least most) content fits) is, text_found (text_spelled content) content fits.bytes refl, text_within_found least most content fits) refl
+    rw (
+      word_found (text_spelled content) left (blank_one (text least most) content fits) is,
+      text_found (text_spelled content) content
+          fits.bytes refl,
+      text_within_found least most content fits,
+    ) refl
 value_found hex piece left fits is = hex_at_found piece left fits is
 value_found saved map left fits is = rw (hex_at_found map left fits.0 is, saved_found map fits.1) refl
 value_found key w left fits is = word_found w left fits is
 
-pairs : {A : Type 0} (x y : A) (left after : List ℕ) → ◌≡◌ {A = Option (A × List ℕ)} (Some (x, left)) (Some (y, after)) → (x ≡ y) × (left ≡ after)
-pairs {A} x y left after e = let both : (x, left) ≡ (y, after) = cc in (ap (λ (p : A × List ℕ). p.0) both, ap (λ (p : A × List ℕ). p.1) both)
+pairs : {A : Type 0} (x y : A) (left after : List ℕ) → ◌≡◌ {A = Option (A × List ℕ)} (Some (x, left)) (Some (y, after)) → (x ≡ y)
+    × (left ≡ after)
+pairs {A} x y left after e = let both : (x, left) ≡ (y, after) =
+    cc in (ap (λ (p : A × List ℕ). p.0) both, ap (λ (p : A × List ℕ). p.1) both)
 
-hex_at_back : (left piece after : List ℕ) → hex_at left ≡ Some (piece, after) → IsPiece piece × IsLeft after × (left ≡ 32 ∷ encode_lower piece ++ after)
+hex_at_back : (left piece after : List ℕ) → hex_at left ≡ Some (piece, after) → IsPiece piece × IsLeft after
+    × (left ≡ 32 ∷ encode_lower piece ++ after)
 unfolding hex_at
 hex_at_back left piece after e =
     let w = bind_some (word_at left) _ (piece, after) e in
     let read = bind_some (hex_in w.0.0) _ (piece, after) w.2 in
     let end = pairs read.0 piece w.0.1 after read.2 in
     let parts = word_parts left w.0.0 w.0.1 w.1 in
-    let digits = hex_back w.0.0 read.0 read.1 in
-    (subst IsPiece end.0 digits.0, subst IsLeft end.1 parts.1, (let whole = parts.2 in let spelled = digits.1 ∙ ap encode_lower end.0 in let rest = end.1 in cc))
+    let digits = hex_back w.0.0 read.0 read.1 in (
+      subst IsPiece end.0 digits.0,
+      subst IsLeft end.1 parts.1,
+      (let whole = parts.2 in let spelled = digits.1 ∙ ap encode_lower end.0
+          in let rest = end.1 in cc),
+    )
 
 -- what is read stands there, spelled as it should be
-pub value_back : (f : Form) (left : List ℕ) (x : Value f) (after : List ℕ) → value_at f left ≡ Some (x, after) → Fits f x × IsLeft after × (left ≡ 32 ∷ spelled f x ++ after)
+pub value_back : (f : Form) (left : List ℕ) (x : Value f) (after : List ℕ) → value_at f left ≡ Some (x, after) → Fits f x × IsLeft after
+    × (left ≡ 32 ∷ spelled f x ++ after)
 unfolding number_at text_at saved_at
 value_back (number least most) left n after e =
     let w = bind_some (word_at left) _ (n, after) e in
@@ -117,8 +197,11 @@ value_back (number least most) left n after e =
     let parts = word_parts left w.0.0 w.0.1 w.1 in
     let digits = number_back w.0.0 read.0 read.1 in
     let range = within_back least most read.0 kept.0 kept.1 in
-    let same : read.0 ≡ n = range.0 ∙ end.0 in
-    ((omega (arith, range.1, same), omega (arith, range.2, same), omega (arith, digits.1, same)), subst IsLeft end.1 parts.1, (let whole = parts.2 in let spelled = digits.0 ∙ ap decimal same in let rest = end.1 in cc))
+    let same : read.0 ≡ n = range.0 ∙ end.0 in (
+      (omega (arith, range.1, same), omega (arith, range.2, same), omega (arith, digits.1, same)),
+      subst IsLeft end.1 parts.1,
+      (let whole = parts.2 in let spelled = digits.0 ∙ ap decimal same in let rest = end.1 in cc),
+    )
 value_back (text least most) left content after e =
     let w = bind_some (word_at left) _ (content, after) e in
     let read = bind_some (text_in w.0.0) _ (content, after) w.2 in
@@ -128,8 +211,12 @@ value_back (text least most) left content after e =
     let digits = text_back w.0.0 read.0 read.1 in
     let range = text_within_back least most read.0 kept.0 kept.1 in
     let same : read.0 ≡ content = range.0 ∙ end.0 in
-    let fits : IsTextFrom least most read.0 = record { bytes = digits.0; some = range.1; text = range.2 } in
-    (subst (IsTextFrom least most) same fits, subst IsLeft end.1 parts.1, (let whole = parts.2 in let spelled = digits.1 ∙ ap text_spelled same in let rest = end.1 in cc))
+    let fits : IsTextFrom least most read.0 = record { bytes = digits.0; some = range.1; text = range.2 } in (
+      subst (IsTextFrom least most) same fits,
+      subst IsLeft end.1 parts.1,
+      (let whole = parts.2 in let spelled = digits.1
+          ∙ ap text_spelled same in let rest = end.1 in cc),
+    )
 value_back hex left piece after e = hex_at_back left piece after e
 value_back saved left map after e =
     let read = bind_some (hex_at left) _ (map, after) e in
@@ -137,8 +224,12 @@ value_back saved left map after e =
     let end = pairs kept.0 map read.0.1 after kept.2 in
     let parts = hex_at_back left read.0.0 read.0.1 read.1 in
     let good = saved_back read.0.0 kept.0 parts.0.bytes kept.1 in
-    let same : read.0.0 ≡ map = good.0 ∙ end.0 in
-    ((subst IsPiece same parts.0, subst IsSaved same good.1), subst IsLeft end.1 parts.1, (let whole = parts.2 in let spelled = ap encode_lower same in let rest = end.1 in cc))
+    let same : read.0.0 ≡ map = good.0 ∙ end.0 in (
+      (subst IsPiece same parts.0, subst IsSaved same good.1),
+      subst IsLeft end.1 parts.1,
+      (let whole = parts.2 in let spelled =
+          ap encode_lower same in let rest = end.1 in cc),
+    )
 value_back key left w after e = word_parts left w after e
 
 -- ---- rows
@@ -171,7 +262,8 @@ ended_back : {M : Type 0} (m n : M) (left : List ℕ) → ended_at m left ≡ So
 ended_back m n [] e = (cc, refl)
 ended_back m n (b ∷ left) e = absurd cc
 
-pub sound : {M : Type 0} (r : Row M) (P : M → List ℕ → Type 0) → Sound r P → (left : List ℕ) → HasNo 10 left → (m : M) → row_at r left ≡ Some m → P m left
+pub sound : {M : Type 0} (r : Row M) (P : M → List ℕ → Type 0) → Sound r P → (left : List ℕ) → HasNo 10 left → (m : M)
+    → row_at r left ≡ Some m → P m left
 sound none P s left one m e = absurd cc
 sound (end n) P s left one m e = let back = ended_back n m left e in subst (λ k. P k left) back.0 (subst (λ t. P n t) (sym back.1) s)
 sound {M} (all make) P s left one m e =
@@ -183,22 +275,27 @@ sound (f ▸ more) P s left one m e =
     let read = bind_some (value_at f left) _ m e in
     let back = value_back f left read.0.0 read.0.1 read.1 in
     let after : HasNo 10 read.0.1 = has_no-behind 10 (32 ∷ spelled f read.0.0) read.0.1 (subst (HasNo 10) back.2 one) in
-    subst (λ t. P m t) (sym back.2) (sound (more read.0.0) (λ k t. P k (32 ∷ spelled f read.0.0 ++ t)) (s read.0.0 back.0) read.0.1 after m read.2)
+    subst (λ t. P m t) (sym back.2) (sound (more read.0.0) (λ k t. P k (32 ∷ spelled f read.0.0 ++ t)) (s read.0.0 back.0) read.0.1 after m
+    read.2)
 
 -- the same of each branch of a table
 abbrev pub Each : {M : Type 0} → List (Branch M) → (M → List ℕ → Type 0) → Type 0
 Each [] P = Unit {0}
 Each (b ∷ bs) P = Sound b.row (λ m after. P m (32 ∷ b.word ++ after)) × Each bs P
 
-picked : {M : Type 0} (P : M → List ℕ → Type 0) (r s : Row M) (v w : List ℕ) (t : Bool) → bytes_eq w v ≡ t → Sound r (λ m after. P m (32 ∷ v ++ after)) → Sound s (λ m after. P m (32 ∷ w ++ after))
+picked : {M : Type 0} (P : M → List ℕ → Type 0) (r s : Row M) (v w : List ℕ) (t : Bool) → bytes_eq w v ≡ t
+    → Sound r (λ m after. P m (32 ∷ v ++ after)) → Sound s (λ m after. P m (32 ∷ w ++ after))
     → Sound (cond t r s) (λ m after. P m (32 ∷ w ++ after))
-picked P r s v w true e hit miss = let is : w ≡ v = (bytes_eq-Decides w v).0 e in subst (λ u. Sound r (λ m after. P m (32 ∷ u ++ after))) (sym is) hit
+picked P r s v w true e hit miss = let is : w ≡ v =
+    (bytes_eq-Decides w v).0 e in subst (λ u. Sound r (λ m after. P m (32 ∷ u ++ after))) (sym is) hit
 picked P r s v w false e hit miss = miss
 
-pub pick_sound : {M : Type 0} (bs : List (Branch M)) (P : M → List ℕ → Type 0) → Each bs P → (w : List ℕ) → Sound (pick bs w) (λ m after. P m (32 ∷ w ++ after))
+pub pick_sound : {M : Type 0} (bs : List (Branch M)) (P : M → List ℕ → Type 0) → Each bs P → (w : List ℕ)
+    → Sound (pick bs w) (λ m after. P m (32 ∷ w ++ after))
 pick_sound [] P each w = tt
 pick_sound (b ∷ bs) P each w = picked P b.row (pick bs w) b.word w (bytes_eq w b.word) refl each.0 (pick_sound bs P each.1 w)
 
 -- a value in front of a row
-pub go : {M : Type 0} (f : Form) (more : Value f → Row M) (x : Value f) (left : List ℕ) → Fits f x → IsLeft left → row_at (f ▸ more) (32 ∷ spelled f x ++ left) ≡ row_at (more x) left
+pub go : {M : Type 0} (f : Form) (more : Value f → Row M) (x : Value f) (left : List ℕ) → Fits f x → IsLeft left
+    → row_at (f ▸ more) (32 ∷ spelled f x ++ left) ≡ row_at (more x) left
 go {M} f more x left fits is = ap (λ (o : Option (Value f × List ℕ)). o >>= λ p. row_at (more p.0) p.1) (value_found f x left fits is)

@@ -1,18 +1,66 @@
 -- Which companies entries found follows from the live companies alone.
-use Rattle.std.proofs.Common.{◌≡◌, ℕ, ◌+◌, ◌≤◌, ◌<◌, List, [], ◌∷◌, ◌++◌, refl, ap, ap₂, sym, ◌∙◌, true, false, Bool, Option, Some, None, arith, suc}
+use Rattle.std.proofs.Common.{
+  ◌≡◌,
+  ℕ,
+  ◌+◌,
+  ◌≤◌,
+  ◌<◌,
+  List,
+  [],
+  ◌∷◌,
+  ◌++◌,
+  refl,
+  ap,
+  ap₂,
+  sym,
+  ◌∙◌,
+  true,
+  false,
+  Bool,
+  Option,
+  Some,
+  None,
+  arith,
+  suc,
+}
 use Rattle.std.specs.Prelude.{cond, not, map, length, nat_lt, is_some, is_none, option_map, slice_set, slice_index_or}
 use Rattle.std.specs.List.{list_any, position, position_or_len}
 use Rattle.std.proofs.lemmas.Bool.{lt-ltb, le-ltb, ltb-true, ltb-false}
 use Rattle.std.proofs.lemmas.List.{map-set}
 use Rattle.std.proofs.Math.Seq.{map-set_same}
 use Rattle.tt_world.specs.declared.command.Code.{Code}
-use Rattle.tt_world.specs.declared.command.Code.TheVariants.{IncreaseLoan, DecreaseLoan, Give, PlaceSign, RenameSign, RenameCompany, RenamePresident, Pause, NewCompany}
+use Rattle.tt_world.specs.declared.command.Code.TheVariants.{
+  IncreaseLoan,
+  DecreaseLoan,
+  Give,
+  PlaceSign,
+  RenameSign,
+  RenameCompany,
+  RenamePresident,
+  Pause,
+  NewCompany,
+}
 use Rattle.tt_world.specs.declared.command.Entry.{Entry}
 use Rattle.tt_world.specs.declared.company.Company.{Company}
 use Rattle.tt_world.specs.declared.effect.Why.{Why}
 use Rattle.tt_world.specs.declared.effect.Effect.{Effect}
 use Rattle.tt_world.specs.World.{WorldState, company_of}
-use Rattle.tt_world.specs.Commands.{applied, answered, refusal, done, refusal_by, done_by, changed, given, richer, poorer, new_number, new_company, founded, found_refusal}
+use Rattle.tt_world.specs.Commands.{
+  applied,
+  answered,
+  refusal,
+  done,
+  refusal_by,
+  done_by,
+  changed,
+  given,
+  richer,
+  poorer,
+  new_number,
+  new_company,
+  founded,
+  found_refusal,
+}
 use Rattle.tt_rules.specs.Companies.{living, least_free}
 use Rattle.tt_log.specs.Tick.{founding, founder_of, living_with, foundings}
 use Rattle.tt_log.specs.Foundings.{founded_by, foundings_in}
@@ -78,17 +126,32 @@ founds-by false number company to text w any free = record {
 }
 
 agree : (code : Code) (number company to : ℕ) (text : List ℕ) (w : WorldState) → Agree code number company to text w
-agree IncreaseLoan n company to text w = record { founders = refl; lives = answered-lives (refusal_by IncreaseLoan company n to text w) w _
-    (changed-lives company _ w) }
-agree DecreaseLoan n company to text w = record { founders = refl; lives = answered-lives (refusal_by DecreaseLoan company n to text w) w _
-    (changed-lives company _ w) }
-agree Give n company to text w = record { founders = refl; lives = answered-lives (refusal_by Give company n to text w) w _
-    (changed-lives to (richer n) (changed company (poorer n) w) ∙ changed-lives company (poorer n) w) }
+agree IncreaseLoan n company to text w = record {
+  founders = refl;
+  lives = answered-lives (refusal_by IncreaseLoan company n to text w) w _
+      (changed-lives company _ w);
+}
+agree DecreaseLoan n company to text w = record {
+  founders = refl;
+  lives = answered-lives (refusal_by DecreaseLoan company n to text w) w _
+      (changed-lives company _ w);
+}
+agree Give n company to text w = record {
+  founders = refl;
+  lives = answered-lives (refusal_by Give company n to text w) w _
+      (changed-lives to (richer n) (changed company (poorer n) w) ∙ changed-lives company (poorer n) w);
+}
 agree PlaceSign n company to text w = record { founders = refl; lives = answered-lives (refusal_by PlaceSign company n to text w) w _ refl }
-agree RenameSign n company to text w = record { founders = refl; lives = answered-lives (refusal_by RenameSign company n to text w) w _
-    refl }
-agree RenameCompany n company to text w = record { founders = refl; lives = answered-lives (refusal_by RenameCompany company n to text w) w
-    _ (changed-lives company _ w) }
+agree RenameSign n company to text w = record {
+  founders = refl;
+  lives = answered-lives (refusal_by RenameSign company n to text w) w _
+      refl;
+}
+agree RenameCompany n company to text w = record {
+  founders = refl;
+  lives = answered-lives (refusal_by RenameCompany company n to text w) w
+      _ (changed-lives company _ w);
+}
 agree RenamePresident n company to text w =
     record { founders = refl; lives = answered-lives (refusal_by RenamePresident company n to text w) w _ (changed-lives company _ w) }
 agree Pause n company to text w = record { founders = refl; lives = answered-lives (refusal_by Pause company n to text w) w _ refl }
@@ -98,7 +161,7 @@ pub foundings-are : (w : WorldState) (es : List Entry) → foundings (living w) 
 foundings-are w [] = refl
 foundings-are w (e ∷ es) =
     let a : Agree e.command.code e.command.number e.company e.command.to e.command.text w =
-        agree e.command.code e.command.number e.company e.command.to e.command.text w in
+    agree e.command.code e.command.number e.company e.command.to e.command.text w in
     ap₂ (λ (xs : List (ℕ × ℕ)) (live : List Bool). xs ++ foundings live es) a.founders (sym a.lives)
     ∙ ap (λ (ys : List (ℕ × ℕ)). founded_by e.command.code (applied w e).1 e.command.number (new_number w.companies) ++ ys)
-        (foundings-are (applied w e).0 es)
+    (foundings-are (applied w e).0 es)

@@ -1,5 +1,30 @@
 -- Lists: what holds of each element, and who is among whom.
-use Rattle.std.proofs.Common.{◌≡◌, ◌⊎◌, inl, inr, ℕ, ◌+◌, List, [], ◌∷◌, ◌++◌, refl, ap, ap₂, sym, ◌∙◌, subst, true, false, Bool, Option, Some, None, zero, suc}
+use Rattle.std.proofs.Common.{
+  ◌≡◌,
+  ◌⊎◌,
+  inl,
+  inr,
+  ℕ,
+  ◌+◌,
+  List,
+  [],
+  ◌∷◌,
+  ◌++◌,
+  refl,
+  ap,
+  ap₂,
+  sym,
+  ◌∙◌,
+  subst,
+  true,
+  false,
+  Bool,
+  Option,
+  Some,
+  None,
+  zero,
+  suc,
+}
 use Rattle.std.specs.Prelude.{◌==◌, drop, take, map, find, filter, cond, not, ◌&&◌, is_some}
 use Rattle.std.specs.List.{AllByRecursion, list_any}
 use Rattle.std.proofs.lemmas.Bool.{eqb-true}
@@ -22,8 +47,11 @@ all-drop P (suc n) (x ∷ xs) a = all-drop P n xs a.1
 
 pub all-filter : {A : Type 0} (P : A → Type 0) (p : A → Bool) (xs : List A) → AllByRecursion P xs → AllByRecursion P (filter p xs)
 all-filter P p [] a = tt
-all-filter P p (x ∷ xs) a = elim (p x) as (λ b. AllByRecursion P (cond b (x ∷ filter p xs) (filter p xs))) [ true ↦
-    (a.0, all-filter P p xs a.1) | false ↦ all-filter P p xs a.1 ]
+all-filter P p (x ∷ xs) a = elim (p x) as (λ b. AllByRecursion P (cond b (x ∷ filter p xs) (filter p xs))) [
+  | true ↦
+      (a.0, all-filter P p xs a.1)
+  | false ↦ all-filter P p xs a.1
+]
 
 pub all-map : {A B : Type 0} (P : A → Type 0) (Q : B → Type 0) (f : A → B) (xs : List A) → ((x : A) → P x → Q (f x)) → AllByRecursion P xs
     → AllByRecursion Q (map f xs)
@@ -94,5 +122,8 @@ map-filter-not f p q c (x ∷ xs) a = map-filter-by f (p x) (q x) c x (filter (�
 
 pub all-of-filter : {A : Type 0} (f : A → ℕ) (p : A → Bool) (c : ℕ) (xs : List A) → NotIn c (map f xs) → NotIn c (map f (filter p xs))
 all-of-filter f p c [] a = tt
-all-of-filter f p c (x ∷ xs) a = elim (p x) as (λ b. NotIn c (map f (cond b (x ∷ filter p xs) (filter p xs)))) [ true ↦
-    (a.0, all-of-filter f p c xs a.1) | false ↦ all-of-filter f p c xs a.1 ]
+all-of-filter f p c (x ∷ xs) a = elim (p x) as (λ b. NotIn c (map f (cond b (x ∷ filter p xs) (filter p xs)))) [
+  | true ↦
+      (a.0, all-of-filter f p c xs a.1)
+  | false ↦ all-of-filter f p c xs a.1
+]

@@ -1,5 +1,35 @@
 -- An event that ends a member with a code ends nobody else, but where the game is over by it.
-use Rattle.std.proofs.Common.{◌≡◌, ◌⊎◌, inl, inr, ℕ, ◌+◌, ◌≤◌, ◌<◌, List, [], ◌∷◌, ◌++◌, refl, ap, ap₂, sym, ◌∙◌, subst, true, false, Bool, Option, Some, None, arith, zero, suc, append-nil, append_assoc}
+use Rattle.std.proofs.Common.{
+  ◌≡◌,
+  ◌⊎◌,
+  inl,
+  inr,
+  ℕ,
+  ◌+◌,
+  ◌≤◌,
+  ◌<◌,
+  List,
+  [],
+  ◌∷◌,
+  ◌++◌,
+  refl,
+  ap,
+  ap₂,
+  sym,
+  ◌∙◌,
+  subst,
+  true,
+  false,
+  Bool,
+  Option,
+  Some,
+  None,
+  arith,
+  zero,
+  suc,
+  append-nil,
+  append_assoc,
+}
 use Rattle.std.specs.Prelude.{◌==◌, drop, take, length, nat_lt, nat_le, map, find, filter, cond, not, ◌&&◌, ◌||◌, position, is_some}
 use Rattle.std.specs.List.{AllByRecursion, list_any, position_or_len}
 use Rattle.std.proofs.lemmas.Bool.{eqb-true, eqb-false, eq-eqb, ne_eqb}
@@ -23,13 +53,47 @@ use Rattle.tt_log.specs.Queue.{moved_up, left_place, leaves_queue, begins, begin
 use Rattle.tt_log.specs.Ending.{Failing, tells_farewell, leaves, ends}
 use Rattle.tt_log.specs.Judged.{judged}
 use Rattle.tt_log.specs.Desk.{admin_hears}
-use Rattle.tt_log.specs.Events.{read_msg, read_admin, heard, on_conn, to_named, by_verdict, by_event, charged, stops, closed, shut_down, taken, takes, deed, stepped, names_live, is_stop, last_frame}
+use Rattle.tt_log.specs.Events.{
+  read_msg,
+  read_admin,
+  heard,
+  on_conn,
+  to_named,
+  by_verdict,
+  by_event,
+  charged,
+  stops,
+  closed,
+  shut_down,
+  taken,
+  takes,
+  deed,
+  stepped,
+  names_live,
+  is_stop,
+  last_frame,
+}
 use Rattle.tt_log.specs.History.{table_of}
 use Rattle.tt_log.specs.Tellings.{Filling, Telling, telling, filled, said_by, filling}
 use Rattle.tt_log.specs.Told.{kept_if, told_to, told_by, told}
 use Rattle.tt_log.specs.Endings.{EndsWith, IsEcho, StaysButForQueue, IsSameGame}
 use Rattle.tt_log.proofs.Lists.{IsOther, NotIn, Among, all-append, all-filter, any-not, all-of-filter}
-use Rattle.tt_log.proofs.Crew.{On, put, put-conns, conns, admin_conns, others, live-conns, live-admins, found-on, on-found, find-put-here, find-put-other, find-others, none-left}
+use Rattle.tt_log.proofs.Crew.{
+  On,
+  put,
+  put-conns,
+  conns,
+  admin_conns,
+  others,
+  live-conns,
+  live-admins,
+  found-on,
+  on-found,
+  find-put-here,
+  find-put-other,
+  find-others,
+  none-left,
+}
 use Rattle.tt_log.proofs.Changes.{step, turned, moved}
 use Rattle.tt_log.proofs.Walk.{Base, Moves, of-leaves, of-leaves-queue}
 use Rattle.tt_log.proofs.Clock.{SameClock, KeepsClock, same-base, same-moves, over-is-empty}
@@ -105,8 +169,13 @@ rest-put c n t a = subst (λ (xs : List ℕ). NotIn c xs) (sym (put-conns n t.me
 rest-base : (c : ℕ) (o : Origin) (e : Event) → Base o e (KeepsRest c)
 rest-base c o e = record {
   still = λ t. record { admins = refl; own = refl; digests = refl; away = λ a. a };
-  joins = λ t u v xs ys a b. record { admins = b.admins ∙ a.admins; own = b.own ∙ a.own; digests = b.digests ∙ a.digests; away =
-      λ h. b.away (a.away h) };
+  joins = λ t u v xs ys a b. record {
+    admins = b.admins ∙ a.admins;
+    own = b.own ∙ a.own;
+    digests = b.digests ∙ a.digests;
+    away =
+        λ h. b.away (a.away h);
+  };
   turns = λ k t m on may by. record { admins = refl; own = refl; digests = refl; away = λ a. rest-put c (turned k t m) t a };
   tells_one = λ t m msg on talk. record { admins = refl; own = refl; digests = refl; away = λ a. a };
   tells_some = λ t to w there news. record { admins = refl; own = refl; digests = refl; away = λ a. a };
@@ -120,8 +189,13 @@ rest-moves c o e = record {
   waits_on = λ t conn n there. record { admins = refl; own = refl; digests = refl; away = λ a. a };
   stands = λ t m on. record { admins = refl; own = refl; digests = refl; away = λ a. a };
   cuts = λ t place. record { admins = refl; own = refl; digests = refl; away = λ a. a };
-  parts = λ t m on. record { admins = refl; own = refl; digests = refl; away = λ a. all-of-filter (λ (n : Member). n.conn)
-      (λ n. not (is_on m.conn n)) c t.members a };
+  parts = λ t m on. record {
+    admins = refl;
+    own = refl;
+    digests = refl;
+    away = λ a. all-of-filter (λ (n : Member). n.conn)
+        (λ n. not (is_on m.conn n)) c t.members a;
+  };
   greets = λ t m on at. record { admins = refl; own = refl; digests = refl; away = λ a. rest-put c _ t a };
 }
 
@@ -137,8 +211,10 @@ farewell-told false m code t = refl
 
 farewell-silent : (b : Bool) (c : ℕ) (m : Member) (code : ℕ) (t : Table) → NotIn c (conns t.members) → NotIn c (admin_conns t.admins)
     → Silent c (where_ b (tells_farewell (Failing code) m) t).told
-farewell-silent true c m code t none apart = (inl (all-of-filter (λ (n : Member). n.conn) is_playing c t.members none),
-    (inl (all-of-filter (λ (a : Admin). a.conn) (is_automatic client_updates) c t.admins apart), tt))
+farewell-silent true c m code t none apart = (
+  inl (all-of-filter (λ (n : Member). n.conn) is_playing c t.members none),
+  (inl (all-of-filter (λ (a : Admin). a.conn) (is_automatic client_updates) c t.admins apart), tt),
+)
 farewell-silent false c m code t none apart = tt
 
 farewell-queue : (b : Bool) (m : Member) (code : ℕ) (t : Table) (steps : Table → List Step) (P : List Step → Type 0) → P (steps t)
@@ -152,11 +228,11 @@ leaves-silent t m code apart once =
     let u : Table = gone m t in
     let b : Bool = is_welcomed m in
     let first : Silent m.conn (step (m.conn ∷ []) End ∷ (where_ b (tells_farewell (Failing code) m) u).told) =
-        (inr refl, farewell-silent b m.conn m code u (none-left m.conn t.members) apart) in
+    (inr refl, farewell-silent b m.conn m code u (none-left m.conn t.members) apart) in
     all-append (IsSilent m.conn) (step (m.conn ∷ []) End ∷ (where_ b (tells_farewell (Failing code) m) u).told)
-        (leaves_queue m.conn (where_ b (tells_farewell (Failing code) m) u).table).told first
+    (leaves_queue m.conn (where_ b (tells_farewell (Failing code) m) u).table).told first
     (farewell-queue b m code u (λ v. (leaves_queue m.conn v).told) (λ steps. Silent m.conn steps)
-        (left-silent (nat_lt (place_in m.conn t.queue) (length t.queue)) m.conn u once))
+    (left-silent (nat_lt (place_in m.conn t.queue) (length t.queue)) m.conn u once))
 
 -- ---- what others are told
 
@@ -201,8 +277,10 @@ module _ (m : Member) (code : ℕ) (over : Bool) (o : Origin) (f : Filling) wher
 
   left-echo : (x : Option ℕ) (t : Table) → AllEcho (where_some x left_place t).told
   left-echo None t = tt
-  left-echo (Some place) t = moved-echo place (drop (place + 1) t.queue) (record t { queue = take place t.queue
-      ++ drop (place + 1) t.queue })
+  left-echo (Some place) t = moved-echo place (drop (place + 1) t.queue) (record t {
+    queue = take place t.queue
+        ++ drop (place + 1) t.queue;
+  })
 
   farewell-echo : (b : Bool) (t : Table) → AllEcho (where_ b (tells_farewell (Failing code) m) t).told
   farewell-echo true t = (((refl, refl), tt), (((refl, refl), tt), tt))
@@ -213,7 +291,7 @@ module _ (m : Member) (code : ℕ) (over : Bool) (o : Origin) (f : Filling) wher
       let u : Table = gone m t in
       let v : Table = (where_ (is_welcomed m) (tells_farewell (Failing code) m) u).table in
       all-append (Echoes m code over o f) (step (m.conn ∷ []) End ∷ (where_ (is_welcomed m) (tells_farewell (Failing code) m) u).told)
-          (leaves_queue m.conn v).told (tt, farewell-echo (is_welcomed m) u)
+      (leaves_queue m.conn v).told (tt, farewell-echo (is_welcomed m) u)
       (left-echo (position (λ c. c == m.conn) v.queue) v)
 
   closed-echo : (b : Bool) (t : Table) → (b ≡ true → over ≡ true) → AllEcho (where_ b shut_down t).told
@@ -261,8 +339,10 @@ moved-stays c (suc place) (x ∷ xs) t u frame = subst (λ (v : Table). Stays c 
 
 left-stays : (x : Option ℕ) (c : ℕ) (t u : Table) → u.frame ≡ t.frame → Stays c t u (where_some x left_place u).table
 left-stays None c t u frame = λ n there. (n, there, inl refl)
-left-stays (Some place) c t u frame = moved-stays c place (drop (place + 1) u.queue) t (record u { queue = take place u.queue
-    ++ drop (place + 1) u.queue }) frame
+left-stays (Some place) c t u frame = moved-stays c place (drop (place + 1) u.queue) t (record u {
+  queue = take place u.queue
+      ++ drop (place + 1) u.queue;
+}) frame
 
 leaves-stays : (t : Table) (m : Member) (code c : ℕ) → (m.conn == c) ≡ false → Stays c t t (leaves m (Failing code) t).table
 leaves-stays t m code c apart n there =
@@ -311,8 +391,10 @@ moved-tokens (suc place) (x ∷ xs) t = moved-tokens (suc (suc place)) xs t
 
 left-tokens : (x : Option ℕ) (t : Table) → (where_some x left_place t).table.tokens ≡ t.tokens
 left-tokens None t = refl
-left-tokens (Some place) t = moved-tokens place (drop (place + 1) t.queue) (record t { queue = take place t.queue
-    ++ drop (place + 1) t.queue })
+left-tokens (Some place) t = moved-tokens place (drop (place + 1) t.queue) (record t {
+  queue = take place t.queue
+      ++ drop (place + 1) t.queue;
+})
 
 none-member : (c : ℕ) (x : Option Member) (ms : List Member) → find (is_on c) ms ≡ x → x ≡ None → NotIn c (conns ms)
 none-member c x ms is none = none-there c (conns ms) (sym (live-conns c ms) ∙ ap (λ (y : Option Member). is_some y) (is ∙ none))
@@ -326,7 +408,7 @@ module _ (o : Origin) (t : Table) (m : Member) (code : ℕ) (on : On t m) (apart
   rest-of c =
       let u : Table = gone m t in
       subst (λ (v : Table). Rest c u (leaves_queue m.conn v).table) (sym (farewell-told (is_welcomed m) m code u))
-          (of-leaves-queue o Stop (KeepsRest c) (rest-base c o Stop) (rest-moves c o Stop) m.conn u)
+      (of-leaves-queue o Stop (KeepsRest c) (rest-base c o Stop) (rest-moves c o Stop) m.conn u)
 
   left-none : NotIn m.conn (conns Left.members)
   left-none = (rest-of m.conn).away (none-left m.conn t.members)
@@ -361,7 +443,7 @@ module _ (o : Origin) (t : Table) (m : Member) (code : ℕ) (on : On t m) (apart
   left-live : (c : ℕ) → (m.conn == c) ≡ false → is_live Left c ≡ is_live t c
   left-live c other =
       ap₂ (λ (x : Bool) (admins : List Admin). x || is_some (find (is_admin_on c) admins)) (left-live-by c (member_of t c) other refl)
-          (rest-of c).admins
+      (rest-of c).admins
 
   -- what the event does
   abbrev pub Ended : Event → Bool → Deed
@@ -378,11 +460,11 @@ module _ (o : Origin) (t : Table) (m : Member) (code : ℕ) (on : On t m) (apart
       let silent : Silent m.conn (((leaves m (Failing code) t).told ++ []) ++ (where_ (Closes e stopped) shut_down (Behind e)).told) =
       all-append (IsSilent m.conn) ((leaves m (Failing code) t).told ++ []) (where_ (Closes e stopped) shut_down (Behind e)).told
       (all-append (IsSilent m.conn) (leaves m (Failing code) t).told [] (leaves-silent t m code apart once) tt)
-          (closed-silent (Closes e stopped) m.conn (Behind e) left-none left-apart) in
+      (closed-silent (Closes e stopped) m.conn (Behind e) left-none left-apart) in
       ap (λ (b : Bool). kept_if (b || false) (game (ServerError code)) (told_to m.conn (filled o f (((leaves m (Failing code) t).told ++ [])
-          ++ (where_ (Closes e stopped) shut_down (Behind e)).told)))) (eq-eqb m.conn m.conn refl)
+      ++ (where_ (Closes e stopped) shut_down (Behind e)).told)))) (eq-eqb m.conn m.conn refl)
       ∙ ap (λ (said : List Said). game (ServerError code) ∷ said) (silent-told m.conn o f (((leaves m (Failing code) t).told ++ [])
-          ++ (where_ (Closes e stopped) shut_down (Behind e)).told) silent)
+      ++ (where_ (Closes e stopped) shut_down (Behind e)).told) silent)
 
   others-told : (e : Event) (stopped : Bool) (f : Filling) (c : ℕ) → (m.conn == c) ≡ false
       → AllByRecursion (IsEcho m code (Ended e stopped).table.over) (told_to c (filled o f (Ended e stopped).told))
@@ -392,9 +474,9 @@ module _ (o : Origin) (t : Table) (m : Member) (code : ℕ) (on : On t m) (apart
       let echo : AllEcho m code over o f rest =
       all-append (Echoes m code over o f) ((leaves m (Failing code) t).told ++ []) (where_ (Closes e stopped) shut_down (Behind e)).told
       (all-append (Echoes m code over o f) (leaves m (Failing code) t).told [] (leaves-echo m code over o f t) tt)
-          (closed-echo m code over o f (Closes e stopped) (Behind e) (λ is. rw is refl)) in
+      (closed-echo m code over o f (Closes e stopped) (Behind e) (λ is. rw is refl)) in
       subst (λ (b : Bool). AllByRecursion (IsEcho m code over) (kept_if (b || false) (game (ServerError code))
-          (told_to c (filled o f rest)))) (sym other) (echo-told c m code over o f rest echo)
+      (told_to c (filled o f rest)))) (sym other) (echo-told c m code over o f rest echo)
 
   -- all that the law says, of what the event does
   pub record EndsSo (d : Deed) : Type 0 where
@@ -407,8 +489,15 @@ module _ (o : Origin) (t : Table) (m : Member) (code : ℕ) (on : On t m) (apart
     pub game : IsSameGame t d.table
 
   game-then : (u v : Table) → IsSameGame t u → IsSameGame u v → IsSameGame t v
-  game-then u v a b = record { frame = b.frame ∙ a.frame; top = b.top ∙ a.top; journal = b.journal ∙ a.journal; own = b.own
-      ∙ a.own; digests = b.digests ∙ a.digests; tokens = b.tokens ∙ a.tokens }
+  game-then u v a b = record {
+    frame = b.frame ∙ a.frame;
+    top = b.top ∙ a.top;
+    journal = b.journal ∙ a.journal;
+    own = b.own
+        ∙ a.own;
+    digests = b.digests ∙ a.digests;
+    tokens = b.tokens ∙ a.tokens;
+  }
 
   pub ends-so : (e : Event) (stopped : Bool) → EndsSo (Ended e stopped)
   ends-so e stopped =
@@ -422,8 +511,15 @@ module _ (o : Origin) (t : Table) (m : Member) (code : ℕ) (on : On t m) (apart
         stand = λ going c other. subst (λ (w : Table). Stays c t t w) (sym (closed-not b v going))
             (λ n there. leaves-stays t m code c other n there);
         admins = λ going. ap (λ (w : Table). w.admins) (closed-not b v going) ∙ (rest-of 0).admins;
-        game = game-then v _ (record { frame = left-game.frame; top = left-game.top; journal = left-game.journal; own =
-            left-game.own; digests = left-game.digests; tokens = left-game.tokens }) (closed-game b v);
+        game = game-then v _ (record {
+          frame = left-game.frame;
+          top = left-game.top;
+          journal = left-game.journal;
+          own =
+              left-game.own;
+          digests = left-game.digests;
+          tokens = left-game.tokens;
+        }) (closed-game b v);
       }
 
 -- ---- the event is that of a member that ends

@@ -1,5 +1,30 @@
 -- The marks of members: frames that they were told, have acknowledged, and at which something began; commands that wait; tokens.
-use Rattle.std.proofs.Common.{◌≡◌, ◌⊎◌, inl, inr, ℕ, ◌+◌, ◌≤◌, ◌<◌, List, [], ◌∷◌, ◌++◌, refl, ap, sym, ◌∙◌, subst, true, false, Bool, Option, Some, None, arith}
+use Rattle.std.proofs.Common.{
+  ◌≡◌,
+  ◌⊎◌,
+  inl,
+  inr,
+  ℕ,
+  ◌+◌,
+  ◌≤◌,
+  ◌<◌,
+  List,
+  [],
+  ◌∷◌,
+  ◌++◌,
+  refl,
+  ap,
+  sym,
+  ◌∙◌,
+  subst,
+  true,
+  false,
+  Bool,
+  Option,
+  Some,
+  None,
+  arith,
+}
 use Rattle.std.specs.Prelude.{◌==◌, ◌||◌, ◌/◌, ◌*◌, ◌^◌, length, drop, nat_lt, nat_le, map, filter, cond, not}
 use Rattle.std.specs.List.{AllByRecursion}
 use Rattle.std.proofs.lemmas.Bool.{leb-true, leb-false, ltb-true, ltb-false, eqb-true}
@@ -26,7 +51,30 @@ use Rattle.tt_log.specs.History.{table_of}
 use Rattle.tt_log.specs.Marks.{IsMarked}
 use Rattle.tt_log.proofs.Lists.{all-append, all-filter, all-map, all-so, among-all}
 use Rattle.tt_log.proofs.Crew.{On, put-all}
-use Rattle.tt_log.proofs.Changes.{Allows, Change, wants_password, is_let_in, gets_token, gets_frame, answers, plays, commands, has_name, goes_to, founds, gets_pieces, has_all, Asks, May, turned, moved, Move, queues, begins_map, loads}
+use Rattle.tt_log.proofs.Changes.{
+  Allows,
+  Change,
+  wants_password,
+  is_let_in,
+  gets_token,
+  gets_frame,
+  answers,
+  plays,
+  commands,
+  has_name,
+  goes_to,
+  founds,
+  gets_pieces,
+  has_all,
+  Asks,
+  May,
+  turned,
+  moved,
+  Move,
+  queues,
+  begins_map,
+  loads,
+}
 use Rattle.tt_log.proofs.Walk.{MayMove, Base, Walk, Doors, Closing, Moves, Ticks, running, of-asks, of-enters, of-leaves, of-deed}
 use Rattle.tt_log.proofs.Clock.{from-all}
 
@@ -46,7 +94,7 @@ fresh-low : (words : ℕ × ℕ) → fresh_token words ≤ 255
 fresh-low words =
     let low : (next_random words).1 < 2 ^ 32 = mod-lt (rotate_right w32 words.0 3 + (2 ^ 32 - 1)) {m = 2 ^ 32} (omega arith) in
     let q : (next_random words).1 * 255 / 2 ^ 32 < 255 = (div-lt_iff_lt-mul {k = 2 ^ 32} {x = (next_random words).1 * 255} {y = 255}
-        (omega arith)).1 (omega (arith, low)) in
+    (omega arith)).1 (omega (arith, low)) in
     omega (arith, q)
 
 -- ---- a member that changes
@@ -87,16 +135,40 @@ turned-mark : (c : Change) (o : Origin) (t : Table) (m : Member) → May o t m c
     → IsMarked t.frame t.top (turned c t m)
 turned-mark (wants_password true name asked) o t m may ahead h =
     let i = h.idle (asked-early o t m name asked may) in
-    record { since = omega arith; mapped = h.mapped; acked = λ is. absurd (omega (arith, is)); few = h.few; idle = λ is. i; token =
-        h.token; token_frame = h.token_frame }
+    record {
+      since = omega arith;
+      mapped = h.mapped;
+      acked = λ is. absurd (omega (arith, is));
+      few = h.few;
+      idle = λ is. i;
+      token =
+          h.token;
+      token_frame = h.token_frame;
+    }
 turned-mark (wants_password false name asked) o t m may ahead h =
     let i = h.idle (asked-early o t m name asked may) in
-    record { since = omega arith; mapped = h.mapped; acked = λ is. absurd (omega (arith, is)); few = h.few; idle = λ is. i; token =
-        h.token; token_frame = h.token_frame }
+    record {
+      since = omega arith;
+      mapped = h.mapped;
+      acked = λ is. absurd (omega (arith, is));
+      few = h.few;
+      idle = λ is. i;
+      token =
+          h.token;
+      token_frame = h.token_frame;
+    }
 turned-mark (is_let_in name asked) o t m may ahead h =
     let i = h.idle (asked-early o t m name asked may) in
-    record { since = omega arith; mapped = h.mapped; acked = λ is. absurd (omega (arith, is)); few = h.few; idle = λ is. i; token =
-        h.token; token_frame = h.token_frame }
+    record {
+      since = omega arith;
+      mapped = h.mapped;
+      acked = λ is. absurd (omega (arith, is));
+      few = h.few;
+      idle = λ is. i;
+      token =
+          h.token;
+      token_frame = h.token_frame;
+    }
 turned-mark gets_token o t m may ahead h =
     let high : 8 ≤ rank m.status = may.0 in
     record {
@@ -109,16 +181,32 @@ turned-mark gets_token o t m may ahead h =
       token_frame = omega arith;
     }
 turned-mark gets_frame o t m may ahead h =
-    record { since = h.since; mapped = h.mapped; acked = λ is. let a = h.acked is in (a.0, omega (arith, a.1, a.2), omega arith); few =
-        h.few; idle = h.idle; token = h.token; token_frame = h.token_frame }
+    record {
+      since = h.since;
+      mapped = h.mapped;
+      acked = λ is. let a = h.acked is in (a.0, omega (arith, a.1, a.2), omega arith);
+      few =
+          h.few;
+      idle = h.idle;
+      token = h.token;
+      token_frame = h.token_frame;
+    }
 turned-mark (answers frame token) o t m may ahead h =
     let first = none-first (nat_lt frame m.acked || nat_lt m.told frame) 7 _ may.standing in
     let both = or-false (nat_lt frame m.acked) (nat_lt m.told frame) first.0 in
     ack-mark (token == 0) frame token t.frame t.top m (ltb-false m.told frame both.1) (ltb-false frame m.acked both.0)
-        (leb-true 8 (rank m.status) may.permits) h
+    (leb-true 8 (rank m.status) may.permits) h
 turned-mark plays o t m may ahead h =
-    record { since = omega arith; mapped = h.mapped; acked = λ is. h.acked (omega (arith, may)); few = h.few; idle =
-        λ is. absurd (omega (arith, is)); token = h.token; token_frame = h.token_frame }
+    record {
+      since = omega arith;
+      mapped = h.mapped;
+      acked = λ is. h.acked (omega (arith, may));
+      few = h.few;
+      idle =
+          λ is. absurd (omega (arith, is));
+      token = h.token;
+      token_frame = h.token_frame;
+    }
 turned-mark (commands company code number to text command) o t m may ahead h =
     let first = none-first (nat_le 16 (length m.waiting)) 15 _ may.1.standing in
     let low : length m.waiting < 16 = leb-false 16 (length m.waiting) first.0 in
@@ -132,30 +220,86 @@ turned-mark (commands company code number to text command) o t m may ahead h =
       token = h.token;
       token_frame = h.token_frame;
     }
-turned-mark (has_name name) o t m may ahead h = record { since = h.since; mapped = h.mapped; acked = h.acked; few = h.few; idle =
-    h.idle; token = h.token; token_frame = h.token_frame }
-turned-mark (goes_to company digest) o t m may ahead h = record { since = h.since; mapped = h.mapped; acked = h.acked; few = h.few; idle =
-    h.idle; token = h.token; token_frame = h.token_frame }
-turned-mark (founds company) o t m may ahead h = record { since = h.since; mapped = h.mapped; acked = h.acked; few = h.few; idle =
-    h.idle; token = h.token; token_frame = h.token_frame }
-turned-mark (gets_pieces left) o t m may ahead h = record { since = h.since; mapped = h.mapped; acked = h.acked; few = h.few; idle =
-    h.idle; token = h.token; token_frame = h.token_frame }
+turned-mark (has_name name) o t m may ahead h = record {
+  since = h.since;
+  mapped = h.mapped;
+  acked = h.acked;
+  few = h.few;
+  idle =
+      h.idle;
+  token = h.token;
+  token_frame = h.token_frame;
+}
+turned-mark (goes_to company digest) o t m may ahead h = record {
+  since = h.since;
+  mapped = h.mapped;
+  acked = h.acked;
+  few = h.few;
+  idle =
+      h.idle;
+  token = h.token;
+  token_frame = h.token_frame;
+}
+turned-mark (founds company) o t m may ahead h = record {
+  since = h.since;
+  mapped = h.mapped;
+  acked = h.acked;
+  few = h.few;
+  idle =
+      h.idle;
+  token = h.token;
+  token_frame = h.token_frame;
+}
+turned-mark (gets_pieces left) o t m may ahead h = record {
+  since = h.since;
+  mapped = h.mapped;
+  acked = h.acked;
+  few = h.few;
+  idle =
+      h.idle;
+  token = h.token;
+  token_frame = h.token_frame;
+}
 turned-mark has_all o t m may ahead h =
     let i = h.idle (omega (arith, may)) in
-    record { since = h.since; mapped = h.mapped; acked = λ is. absurd (omega (arith, is)); few = h.few; idle = λ is. i; token =
-        h.token; token_frame = h.token_frame }
+    record {
+      since = h.since;
+      mapped = h.mapped;
+      acked = λ is. absurd (omega (arith, is));
+      few = h.few;
+      idle = λ is. i;
+      token =
+          h.token;
+      token_frame = h.token_frame;
+    }
 
 -- one that is in the queue moves on
 moved-mark : (v : Move) (t : Table) (m : Member) → MayMove v m → t.frame ≤ t.top → IsMarked t.frame t.top m
     → IsMarked t.frame t.top (moved v t m)
 moved-mark queues t m may ahead h =
     let i = h.idle (omega (arith, may)) in
-    record { since = omega arith; mapped = h.mapped; acked = λ is. absurd (omega (arith, is)); few = h.few; idle = λ is. i; token =
-        h.token; token_frame = h.token_frame }
+    record {
+      since = omega arith;
+      mapped = h.mapped;
+      acked = λ is. absurd (omega (arith, is));
+      few = h.few;
+      idle = λ is. i;
+      token =
+          h.token;
+      token_frame = h.token_frame;
+    }
 moved-mark begins_map t m may ahead h =
     let i = h.idle (omega (arith, may)) in
-    record { since = omega arith; mapped = omega arith; acked = λ is. absurd (omega (arith, is)); few = h.few; idle = λ is. i; token =
-        h.token; token_frame = h.token_frame }
+    record {
+      since = omega arith;
+      mapped = omega arith;
+      acked = λ is. absurd (omega (arith, is));
+      few = h.few;
+      idle = λ is. i;
+      token =
+          h.token;
+      token_frame = h.token_frame;
+    }
 moved-mark loads t m may ahead h =
     record {
       since = omega arith;
@@ -197,8 +341,16 @@ drawn-mark f top m h = record {
     fewer (x ∷ y ∷ ws) l = omega (arith, l)
 
 new-mark : (conn client f top : ℕ) → IsMarked f top (new_member conn client f)
-new-mark conn client f top = record { since = omega arith; mapped = omega arith; acked = λ is. absurd (omega (arith, is)); few =
-    omega arith; idle = λ is. (refl, refl); token = omega arith; token_frame = omega arith }
+new-mark conn client f top = record {
+  since = omega arith;
+  mapped = omega arith;
+  acked = λ is. absurd (omega (arith, is));
+  few =
+      omega arith;
+  idle = λ is. (refl, refl);
+  token = omega arith;
+  token_frame = omega arith;
+}
 
 abbrev KeepsMarks : Table → List Step → Table → Type 0
 KeepsMarks t steps u = Marks t → Marks u
@@ -263,18 +415,25 @@ aside-marks true t h = h
 aside-marks false t h = h
 
 mark-doors : (o : Origin) (e : Event) → Doors o e KeepsMarks
-mark-doors o e = record { comes = λ t h. arrives-marks (nat_le o.setup.max_clients (length t.members)) t h; comes_aside =
-    λ t h. aside-marks (nat_le most_admins (length t.admins)) t h }
+mark-doors o e = record {
+  comes = λ t h. arrives-marks (nat_le o.setup.max_clients (length t.members)) t h;
+  comes_aside =
+      λ t h. aside-marks (nat_le most_admins (length t.admins)) t h;
+}
 
 run-marks : (b : Bool) (o : Origin) (t : Table) → nat_lt t.top (t.frame + 1) ≡ b → Marks t → Marks (running b o t)
 run-marks true o t is h =
-    let low : t.top < t.frame + 1 = ltb-true t.top (t.frame + 1) is in
-    (omega arith, all-so (IsMarked t.frame t.top) (IsMarked (t.frame + 1) (t.frame + 1 + o.setup.frame_freq)) t.members
-        (λ m a. later-mark t.frame (t.frame + 1) t.top (t.frame + 1 + o.setup.frame_freq) m (omega arith) (omega (arith, low)) a) h.1)
+    let low : t.top < t.frame + 1 = ltb-true t.top (t.frame + 1) is in (
+      omega arith,
+      all-so (IsMarked t.frame t.top) (IsMarked (t.frame + 1) (t.frame + 1 + o.setup.frame_freq)) t.members
+          (λ m a. later-mark t.frame (t.frame + 1) t.top (t.frame + 1 + o.setup.frame_freq) m (omega arith) (omega (arith, low)) a) h.1,
+    )
 run-marks false o t is h =
-    let high : t.frame + 1 ≤ t.top = ltb-false t.top (t.frame + 1) is in
-    (high, all-so (IsMarked t.frame t.top) (IsMarked (t.frame + 1) t.top) t.members (λ m a. later-mark t.frame (t.frame + 1) t.top t.top m
-        (omega arith) (omega arith) a) h.1)
+    let high : t.frame + 1 ≤ t.top = ltb-false t.top (t.frame + 1) is in (
+      high,
+      all-so (IsMarked t.frame t.top) (IsMarked (t.frame + 1) t.top) t.members (λ m a. later-mark t.frame (t.frame + 1) t.top t.top m
+          (omega arith) (omega arith) a) h.1,
+    )
 
 mark-ticks : (o : Origin) (e : Event) → Ticks o e KeepsMarks
 mark-ticks o e = record {

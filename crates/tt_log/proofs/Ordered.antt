@@ -1,5 +1,31 @@
 -- Members and admins stand in the order of their connections, each on one of its own; client numbers rise in the same order.
-use Rattle.std.proofs.Common.{◌≡◌, ◌⊎◌, inl, inr, ℕ, ◌+◌, ◌≤◌, ◌<◌, List, [], ◌∷◌, ◌++◌, refl, ap, ap₂, sym, ◌∙◌, subst, true, false, Bool, Option, Some, None, arith}
+use Rattle.std.proofs.Common.{
+  ◌≡◌,
+  ◌⊎◌,
+  inl,
+  inr,
+  ℕ,
+  ◌+◌,
+  ◌≤◌,
+  ◌<◌,
+  List,
+  [],
+  ◌∷◌,
+  ◌++◌,
+  refl,
+  ap,
+  ap₂,
+  sym,
+  ◌∙◌,
+  subst,
+  true,
+  false,
+  Bool,
+  Option,
+  Some,
+  None,
+  arith,
+}
 use Rattle.std.specs.Prelude.{◌==◌, length, nat_le, map, filter, find, cond, not, fold}
 use Rattle.std.specs.List.{AllByRecursion}
 use Rattle.std.proofs.lemmas.Bool.{eq-eqb, ne_eqb}
@@ -29,15 +55,20 @@ rise-from j k (x ∷ xs) l r = let a : k < x = r.0 in (omega (arith, l, a), r.1)
 pub rise-filter : {A : Type 0} (f : A → ℕ) (p : A → Bool) (k : ℕ) (xs : List A) → AreRising k (map f xs) → AreRising k (map f (filter p xs))
 rise-filter f p k [] r = tt
 rise-filter f p k (x ∷ xs) r = let a : k < f x = r.0 in
-    elim (p x) as (λ b. AreRising k (map f (cond b (x ∷ filter p xs) (filter p xs))))
-    [ true ↦ (r.0, rise-filter f p (f x) xs r.1) | false ↦ rise-from k (f x) (map f (filter p xs)) (omega (arith, a))
-        (rise-filter f p (f x) xs r.1) ]
+    elim (p x) as (λ b. AreRising k (map f (cond b (x ∷ filter p xs) (filter p xs)))) [
+      | true ↦ (r.0, rise-filter f p (f x) xs r.1)
+      | false ↦ rise-from k (f x) (map f (filter p xs)) (omega (arith, a))
+          (rise-filter f p (f x) xs r.1)
+    ]
 
 pub all-map-filter : {A : Type 0} (Q : ℕ → Type 0) (f : A → ℕ) (p : A → Bool) (xs : List A) → AllByRecursion Q (map f xs)
     → AllByRecursion Q (map f (filter p xs))
 all-map-filter Q f p [] a = tt
-all-map-filter Q f p (x ∷ xs) a = elim (p x) as (λ b. AllByRecursion Q (map f (cond b (x ∷ filter p xs) (filter p xs)))) [ true ↦
-    (a.0, all-map-filter Q f p xs a.1) | false ↦ all-map-filter Q f p xs a.1 ]
+all-map-filter Q f p (x ∷ xs) a = elim (p x) as (λ b. AllByRecursion Q (map f (cond b (x ∷ filter p xs) (filter p xs)))) [
+  | true ↦
+      (a.0, all-map-filter Q f p xs a.1)
+  | false ↦ all-map-filter Q f p xs a.1
+]
 
 pub rise-more : {A : Type 0} (f : A → ℕ) (k n : ℕ) (xs : List A) (new : A) → AreRising k (map f xs) → AllByRecursion (λ x. x ≤ n) (map f xs)
     → k ≤ n → n < f new → AreRising k (map f (xs ++ new ∷ []))
@@ -150,8 +181,17 @@ fewer-admins p t h = record {
 }
 
 none-ordered : (openings last : ℕ) → 1 ≤ last → IsOrdered openings last [] [] []
-none-ordered openings last some = record { rise = tt; under = tt; clients = tt; given = tt; some = some; admins_rise = tt; admins_under =
-    tt; apart = tt }
+none-ordered openings last some = record {
+  rise = tt;
+  under = tt;
+  clients = tt;
+  given = tt;
+  some = some;
+  admins_rise = tt;
+  admins_under =
+      tt;
+  apart = tt;
+}
 
 -- ---- the walk
 
@@ -204,9 +244,10 @@ others-new : (n : ℕ) (ms : List Member) (new : Member) (admins : List ℕ) →
     → AllByRecursion (λ a. NotIn a (conns ms)) admins → AllByRecursion (λ a. NotIn a (conns (ms ++ new ∷ []))) admins
 others-new n ms new [] is low apart = tt
 others-new n ms new (a ∷ admins) is low apart =
-    let l : a ≤ n = low.0 in
-    (all-more (IsOther a) (λ (m : Member). m.conn) ms new apart.0 (ne_eqb new.conn a (λ e. omega (arith, e, is, l))),
-        others-new n ms new admins is low.1 apart.1)
+    let l : a ≤ n = low.0 in (
+      all-more (IsOther a) (λ (m : Member). m.conn) ms new apart.0 (ne_eqb new.conn a (λ e. omega (arith, e, is, l))),
+      others-new n ms new admins is low.1 apart.1,
+    )
 
 arrives-ordered : (full : Bool) (t : Table) → Ordered t → Ordered (arrives full (counted_in t)).table
 arrives-ordered true t h = later-ordered t (t.clients + 1) (omega arith) h
@@ -242,8 +283,11 @@ aside-ordered false t h =
     }
 
 pub order-doors : (o : Origin) (e : Event) → Doors o e KeepsOrder
-order-doors o e = record { comes = λ t h. arrives-ordered (nat_le o.setup.max_clients (length t.members)) t h; comes_aside =
-    λ t h. aside-ordered (nat_le most_admins (length t.admins)) t h }
+order-doors o e = record {
+  comes = λ t h. arrives-ordered (nat_le o.setup.max_clients (length t.members)) t h;
+  comes_aside =
+      λ t h. aside-ordered (nat_le most_admins (length t.admins)) t h;
+}
 
 pub order-ticks : (o : Origin) (e : Event) → Ticks o e KeepsOrder
 order-ticks o e = record {
@@ -275,9 +319,10 @@ apart-from : (conn : ℕ) (ms : List Member) (m : Member) (admins : List ℕ) �
     → AllByRecursion (λ a. NotIn a (conns ms)) admins → NotIn conn admins
 apart-from conn ms m [] on at h = tt
 apart-from conn ms m (a ∷ admins) on at h =
-    let other : IsOther a m.conn = among-all (λ (n : Member). IsOther a n.conn) m ms on (others-all a ms h.0) in
-    (ne_eqb a conn (λ same. let e : (m.conn == a) ≡ true = eq-eqb m.conn a (at ∙ sym same) in absurd cc),
-        apart-from conn ms m admins on at h.1)
+    let other : IsOther a m.conn = among-all (λ (n : Member). IsOther a n.conn) m ms on (others-all a ms h.0) in (
+      ne_eqb a conn (λ same. let e : (m.conn == a) ≡ true = eq-eqb m.conn a (at ∙ sym same) in absurd cc),
+      apart-from conn ms m admins on at h.1,
+    )
   where
     others-all : (a : ℕ) (ms : List Member) → NotIn a (conns ms) → AllByRecursion (λ (n : Member). IsOther a n.conn) ms
     others-all a [] h = tt

@@ -1,5 +1,30 @@
 -- What the server ordered itself is what was stamped of it, and then its own list.
-use Rattle.std.proofs.Common.{◌≡◌, ◌⊎◌, ℕ, ◌+◌, ◌≤◌, ◌<◌, List, [], ◌∷◌, ◌++◌, refl, ap, ap₂, sym, ◌∙◌, subst, true, false, Bool, arith, append-nil, append_assoc, zero, suc}
+use Rattle.std.proofs.Common.{
+  ◌≡◌,
+  ◌⊎◌,
+  ℕ,
+  ◌+◌,
+  ◌≤◌,
+  ◌<◌,
+  List,
+  [],
+  ◌∷◌,
+  ◌++◌,
+  refl,
+  ap,
+  ap₂,
+  sym,
+  ◌∙◌,
+  subst,
+  true,
+  false,
+  Bool,
+  arith,
+  append-nil,
+  append_assoc,
+  zero,
+  suc,
+}
 use Rattle.std.specs.Prelude.{◌==◌, ◌||◌, fold, length, drop, nat_le, nat_lt, map, cond}
 use Rattle.std.specs.List.{AllByRecursion}
 use Rattle.tt_edge.specs.declared.event.Event.{Event}
@@ -16,7 +41,21 @@ use Rattle.tt_log.specs.Tick.{stamps, own_entry, stamped, frame_runs_by, left_of
 use Rattle.tt_log.specs.Events.{arrives, counted_in, by_event, charged, shut_down, stops, taken, takes, stepped, last_frame}
 use Rattle.tt_log.specs.History.{table_of, journal_of}
 use Rattle.tt_log.specs.Stamps.{ordered, ordered_by, ordered_from, owned, stamped_of}
-use Rattle.tt_log.proofs.Walk.{Base, Walk, Doors, Moves, running, stamping, of-asks, of-enters, of-leaves, of-still, of-entries, of-frames, of-follows}
+use Rattle.tt_log.proofs.Walk.{
+  Base,
+  Walk,
+  Doors,
+  Moves,
+  running,
+  stamping,
+  of-asks,
+  of-enters,
+  of-leaves,
+  of-still,
+  of-entries,
+  of-frames,
+  of-follows,
+}
 use Rattle.tt_log.proofs.Clock.{Ticked, ticked-is, event-same, taken-run}
 use Rattle.tt_log.proofs.Ordered.{Ordered, is-ordered, step-ordered}
 use Rattle.tt_log.proofs.Stamping.{stamped-append, drawing, drawing-none, numbers-other, drop-front, rising-none}
@@ -118,7 +157,7 @@ stamps-own : (t : Table) → Ordered t → stamped_of 1 (stamps t) ≡ map owned
 stamps-own t r =
     stamped-append 1 (map (own_entry (t.top + 1)) t.own) (drawing (t.top + 1) t.members)
     ∙ ap₂ (λ (xs ys : List (ℕ × Command)). xs ++ ys) (own-stamped (t.top + 1) t.own) (drawing-none 1 (t.top + 1) t.members
-        (rising-none t.members r.clients))
+    (rising-none t.members r.clients))
     ∙ append-nil (map owned t.own)
 
 -- ---- what holds behind every list of events
@@ -165,7 +204,7 @@ tick-served : (said : List Command) (t u : Table) → Ordered t → u.own ≡ []
 tick-served said t u r own journal h = record {
   all = ap (λ (xs : List Command). map owned (said ++ drop (length t.own) xs)) own
       ∙ ap (λ (xs : List Command). map owned (said ++ xs)) (drop-none (length t.own)) ∙ ap (λ (xs : List Command). map owned xs)
-          (append-nil said) ∙ h.all
+      (append-nil said) ∙ h.all
       ∙ ap (λ (xs : List (ℕ × Command)). stamped_of 1 t.journal ++ xs) (sym (stamps-own t r)) ∙ sym (stamped-append 1 t.journal (stamps t))
       ∙ ap (λ (xs : List Entry). stamped_of 1 xs) (sym journal) ∙ sym (append-nil (stamped_of 1 u.journal))
       ∙ ap (λ (xs : List Command). stamped_of 1 u.journal ++ map owned xs) (sym own);
@@ -193,7 +232,7 @@ step-served : (b : Bool) (said : List Command) (o : Origin) (e : Event) (t : Tab
 step-served true said o e t r h = taken-served said o e t r h
 step-served false said o e t r h =
     let none : drop (length t.own) t.own ≡ [] = ap (λ (xs : List Command). drop (length t.own) xs) (sym (append-nil t.own))
-        ∙ drop-front t.own [] in
+    ∙ drop-front t.own [] in
     subst (λ (xs : List Command). Served xs t) (sym (append-nil said) ∙ ap (λ (xs : List Command). said ++ xs) (sym none)) h
 
 from-served : (o : Origin) (es : List Event) (t : Table) (said : List Command) → Ordered t → Served said t

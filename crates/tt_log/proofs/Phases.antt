@@ -1,5 +1,33 @@
 -- How far a connection has come: it only comes further, and stands once in the queue just while it waits or downloads.
-use Rattle.std.proofs.Common.{◌≡◌, ◌⊎◌, inl, inr, ap₂, ℕ, ◌+◌, ◌≤◌, ◌<◌, List, [], ◌∷◌, ◌++◌, refl, ap, sym, ◌∙◌, subst, true, false, Bool, Option, Some, None, arith, zero, suc}
+use Rattle.std.proofs.Common.{
+  ◌≡◌,
+  ◌⊎◌,
+  inl,
+  inr,
+  ap₂,
+  ℕ,
+  ◌+◌,
+  ◌≤◌,
+  ◌<◌,
+  List,
+  [],
+  ◌∷◌,
+  ◌++◌,
+  refl,
+  ap,
+  sym,
+  ◌∙◌,
+  subst,
+  true,
+  false,
+  Bool,
+  Option,
+  Some,
+  None,
+  arith,
+  zero,
+  suc,
+}
 use Rattle.std.specs.Prelude.{◌==◌, drop, take, length, nat_lt, nat_le, map, find, filter, cond, not, ◌&&◌, ◌||◌, position}
 use Rattle.std.specs.List.{AllByRecursion, list_any, position_or_len}
 use Rattle.std.proofs.lemmas.Bool.{eqb-true, eqb-false, ltb-false, leb-false}
@@ -25,10 +53,53 @@ use Rattle.tt_log.specs.Ending.{Farewell, Quitting, Failing, tells_farewell, lea
 use Rattle.tt_log.specs.PacketRules.{client_info, enters, acknowledged, closed_token}
 use Rattle.tt_log.specs.Desk.{admin_arrives, admin_opens, counted_aside, most_admins}
 use Rattle.tt_log.specs.Tick.{drawn, ticked}
-use Rattle.tt_log.specs.Events.{by_event, arrives, opened, counted_in, charged, closed, stops, shut_down, taken, takes, deed, is_stop, last_frame}
+use Rattle.tt_log.specs.Events.{
+  by_event,
+  arrives,
+  opened,
+  counted_in,
+  charged,
+  closed,
+  stops,
+  shut_down,
+  taken,
+  takes,
+  deed,
+  is_stop,
+  last_frame,
+}
 use Rattle.tt_log.proofs.Lists.{Among, IsOther, NotIn, Within, all-append, all-drop, all-filter, all-map, among-all, any-not}
 use Rattle.tt_log.proofs.Crew.{On, put, put-all, put-conns, conns, others, live-conns, found-on}
-use Rattle.tt_log.proofs.Changes.{step, Change, wants_password, is_let_in, gets_token, gets_frame, answers, plays, commands, has_name, goes_to, founds, gets_pieces, has_all, Asks, May, turned, told_with, turned_in, steps_with, moved, Move, queues, begins_map, loads, IsTalk, IsNews, turned-conn}
+use Rattle.tt_log.proofs.Changes.{
+  step,
+  Change,
+  wants_password,
+  is_let_in,
+  gets_token,
+  gets_frame,
+  answers,
+  plays,
+  commands,
+  has_name,
+  goes_to,
+  founds,
+  gets_pieces,
+  has_all,
+  Asks,
+  May,
+  turned,
+  told_with,
+  turned_in,
+  steps_with,
+  moved,
+  Move,
+  queues,
+  begins_map,
+  loads,
+  IsTalk,
+  IsNews,
+  turned-conn,
+}
 use Rattle.tt_log.proofs.Ordered.{map-same}
 use Rattle.tt_log.proofs.Walk.{stamping, running, Base, Walk, Ticks, Closing, Of, of-event, of-ticked, of-taken}
 
@@ -162,16 +233,26 @@ pub then-goes : (c : ℕ) (p : Phase) (d : Deed) (rule : Table → Deed) → Goe
     → ((q : Phase) → Has c q d.table → GoesBy c q (rule d.table)) → GoesBy c p (d ▹ rule)
 then-goes c p d rule a b =
     let next : GoesBy c a.to (rule d.table) = b a.to a.holds in
-    record { to = next.to; later = later-then p a.to next.to a.later next.later; holds = next.holds; quiet =
-        while-then a.to next.to c d.told (rule d.table).told next.later a.quiet next.quiet }
+    record {
+      to = next.to;
+      later = later-then p a.to next.to a.later next.later;
+      holds = next.holds;
+      quiet =
+          while-then a.to next.to c d.told (rule d.table).told next.later a.quiet next.quiet;
+    }
 
 -- a deed that keeps, and a rule that goes on from the same phase
 pub kept-goes : (c : ℕ) (p : Phase) (d : Deed) (rule : Table → Deed) → KeepsBy c p d → (Has c p d.table → GoesBy c p (rule d.table))
     → GoesBy c p (d ▹ rule)
 kept-goes c p d rule a b =
     let next : GoesBy c p (rule d.table) = b a.holds in
-    record { to = next.to; later = next.later; holds = next.holds; quiet = while-then p next.to c d.told (rule d.table).told next.later
-        (while-all p c d.told a.quiet) next.quiet }
+    record {
+      to = next.to;
+      later = next.later;
+      holds = next.holds;
+      quiet = while-then p next.to c d.told (rule d.table).told next.later
+          (while-all p c d.told a.quiet) next.quiet;
+    }
 
 pub still-keeps : (c : ℕ) (p : Phase) (t : Table) → Has c p t → KeepsBy c p (becomes t)
 still-keeps c p t h = record { holds = h; quiet = tt }
@@ -206,8 +287,11 @@ pub any-with : (c : ℕ) (n : Member) (ms : List Member) → list_any (λ x. x =
 any-with c n ms = ap (λ (xs : List ℕ). list_any (λ x. x == c) xs) (put-conns n ms)
 
 pub put-holds : (c : ℕ) (p : Phase) (n : Member) (t : Table) → Suits c p n → Has c p t → Holds c p (put n t.members) t.queue
-put-holds c p n t s h = record { suits = put-all (Suits c p) n t.members s h.suits; place = place-live p c t.queue (conns t.members)
-    (conns (put n t.members)) (any-with c n t.members) h.place }
+put-holds c p n t s h = record {
+  suits = put-all (Suits c p) n t.members s h.suits;
+  place = place-live p c t.queue (conns t.members)
+      (conns (put n t.members)) (any-with c n t.members) h.place;
+}
 
 pub put-own-one : (b : Bool) (c : ℕ) (p : Phase) (n x : Member) → (x.conn == n.conn) ≡ b → (n.conn == c) ≡ true → fits p (rank n.status)
     → Suits c p (cond b n x)
@@ -274,8 +358,11 @@ once-one false c x y ys is apart (inr other) next none = inr (other.0, next othe
 
 pub none-removed : (c x : ℕ) (ys : List ℕ) → NotIn c ys → NotIn c (removed x ys)
 none-removed c x [] a = tt
-none-removed c x (y ∷ ys) a = elim (y == x) as (λ b. NotIn c (cond b ys (y ∷ removed x ys))) [ true ↦ a.1 | false ↦
-    (a.0, none-removed c x ys a.1) ]
+none-removed c x (y ∷ ys) a = elim (y == x) as (λ b. NotIn c (cond b ys (y ∷ removed x ys))) [
+  | true ↦ a.1
+  | false ↦
+      (a.0, none-removed c x ys a.1)
+]
 
 pub once-removed : (c x : ℕ) (ys : List ℕ) → (x == c) ≡ false → OnceIn c ys → OnceIn c (removed x ys)
 once-removed c x [] apart a = a
@@ -354,7 +441,7 @@ pub left-keeps : (b : Bool) (c x : ℕ) (p : Phase) (t : Table) → (x == c) ≡
 left-keeps true c x p t apart h =
     let u : Table = record t { queue = take (place_in x t.queue) t.queue ++ drop (place_in x t.queue + 1) t.queue } in
     moved-keeps c p (place_in x t.queue) (drop (place_in x t.queue + 1) t.queue) u (moves-behind p c (place_in x t.queue + 1) t.queue
-        (conns t.members) h.place)
+    (conns t.members) h.place)
     (record { suits = h.suits; place = place-cut p c x t.queue (conns t.members) apart h.place })
 left-keeps false c x p t apart h = still-keeps c p t h
 
@@ -386,7 +473,7 @@ left-cut true c t is cut =
     let none : NotIn c u.queue = rw (removed-is c t.queue) (cut-none c t.queue cut.once) in
     (moved-keeps c InGame (place_in c t.queue) (drop (place_in c t.queue + 1) t.queue) u
     (none-moves c InGame (drop (place_in c t.queue + 1) t.queue) (none-behind c (take (place_in c t.queue) t.queue)
-        (drop (place_in c t.queue + 1) t.queue) none))
+    (drop (place_in c t.queue + 1) t.queue) none))
     (record { suits = cut.suits; place = none })).holds
 left-cut false c t is cut = record { suits = cut.suits; place = not-found c t.queue is cut.once }
 
@@ -421,8 +508,11 @@ any-others c x [] apart = refl
 any-others c x (m ∷ ms) apart = gone-one (m.conn == x) c x m (others x ms) ms refl apart (any-others c x ms apart)
 
 pub without-holds : (c x : ℕ) (p : Phase) (t : Table) → (x == c) ≡ false → Has c p t → Has c p (without_member x t)
-without-holds c x p t apart h = record { suits = all-filter (Suits c p) (λ m. not (is_on x m)) t.members h.suits; place =
-    place-live p c t.queue (conns t.members) (conns (others x t.members)) (any-others c x t.members apart) h.place }
+without-holds c x p t apart h = record {
+  suits = all-filter (Suits c p) (λ m. not (is_on x m)) t.members h.suits;
+  place =
+      place-live p c t.queue (conns t.members) (conns (others x t.members)) (any-others c x t.members apart) h.place;
+}
 
 gone-suits-one : (b : Bool) (c x : ℕ) (m : Member) (ms : List Member) → (m.conn == x) ≡ b → x ≡ c → AllByRecursion (Suits c InGame) ms
     → AllByRecursion (Suits c InGame) (cond (not b) (m ∷ ms) ms)
@@ -449,15 +539,18 @@ leaves-by true c p m f t is h =
     let u : Table = without_member m.conn t in
     let v : Table = (where_ (is_welcomed m) (tells_farewell f m) u).table in
     let same : m.conn ≡ c = eqb-true m.conn c is in
-    let cut : Cut c v.members v.queue = farewell-cut f (is_welcomed m) c m u (record { suits = gone-suits c m.conn t.members same; once =
-        place-once p c t.queue (conns t.members) h.place }) in
+    let cut : Cut c v.members v.queue = farewell-cut f (is_welcomed m) c m u (record {
+      suits = gone-suits c m.conn t.members same;
+      once =
+          place-once p c t.queue (conns t.members) h.place;
+    }) in
     record { to = InGame; later = later-end p; holds = leaves-queue-cut c m.conn v same cut; quiet = tt }
 leaves-by false c p m f t is h =
     let u : Table = without_member m.conn t in
     let a : Deed = tells_what (m.conn ∷ []) End u in
     let d : Deed = a ▹ where_ (is_welcomed m) (tells_farewell f m) in
     let k : KeepsBy c p d = then-keeps c p a (where_ (is_welcomed m) (tells_farewell f m)) (says-keeps c p (m.conn ∷ []) End u refl
-        (without-holds c m.conn p t is h))
+    (without-holds c m.conn p t is h))
     (λ b. where-keeps c p (is_welcomed m) (tells_farewell f m) u b (λ yes. farewell-keeps f c p m u b)) in
     goes-kept c p (leaves m f t) (then-keeps c p d (leaves_queue m.conn) k (λ b. leaves-queue-keeps c m.conn p d.table is b))
 
@@ -472,8 +565,11 @@ enters-by true c p m t is h =
     let n : Member = moved loads t m in
     let u : Table = with_member n t in
     let v : Table = (tells_fresh n u).table in
-    let cut : Cut c v.members v.queue = record { suits = put-own c InGame (turned gets_token u n) (put n t.members) is (omega arith); once =
-        place-once p c t.queue (conns t.members) h.place } in
+    let cut : Cut c v.members v.queue = record {
+      suits = put-own c InGame (turned gets_token u n) (put n t.members) is (omega arith);
+      once =
+          place-once p c t.queue (conns t.members) h.place;
+    } in
     record { to = InGame; later = later-end p; holds = leaves-queue-cut c m.conn v (eqb-true m.conn c is) cut; quiet = tt }
 enters-by false c p m t is h =
     let n : Member = moved loads t m in
@@ -484,9 +580,9 @@ enters-by false c p m t is h =
     let k1 : KeepsBy c p d1 = record { holds = put-holds c p n t (λ own. absurd cc) h; quiet = infos-quiet c m.conn (welcomed t) } in
     let away : list_any (λ x. x == c) (m.conn ∷ []) ≡ false = any-not c (m.conn ∷ []) (is, tt) in
     let k2 : KeepsBy c p d2 = then-keeps c p d1 (tells_what (m.conn ∷ []) (Entries m.map_frame)) k1
-        (λ b. record { holds = b; quiet = (away, tt) }) in
+    (λ b. record { holds = b; quiet = (away, tt) }) in
     let k3 : KeepsBy c p d3 = then-keeps c p d2 (tells_fresh n) k2
-        (λ b. record { holds = put-holds c p (turned gets_token d2.table n) d2.table (λ own. absurd cc) b; quiet = (refl, tt) }) in
+    (λ b. record { holds = put-holds c p (turned gets_token d2.table n) d2.table (λ own. absurd cc) b; quiet = (refl, tt) }) in
     goes-kept c p (enters m t) (then-keeps c p d3 (leaves_queue m.conn) k3 (λ b. leaves-queue-keeps c m.conn p d3.table is b))
 
 -- ---- a member asks for the map: it stands last
@@ -520,10 +616,13 @@ asks-own : (p : Phase) (c : ℕ) (m : Member) (t : Table) → rank m.status ≡ 
 asks-own Early c m t at own fit on h =
     let n : Member = now_in MapWait t m in
     let u : Table = record (with_member n t) { queue = t.queue ++ m.conn ∷ [] } in
-    let k : Has c Queued u = record { suits = put-own c Queued n t.members own (omega arith, omega arith); place =
-        (once-last c m.conn t.queue own h.place, any-with c n t.members ∙ on-there c m t.members on own) } in
+    let k : Has c Queued u = record {
+      suits = put-own c Queued n t.members own (omega arith, omega arith);
+      place =
+          (once-last c m.conn t.queue own h.place, any-with c n t.members ∙ on-there c m t.members on own);
+    } in
     let d : KeepsBy c Queued (moved_up (length t.queue) (m.conn ∷ []) u) = moved-keeps c Queued (length t.queue) (m.conn ∷ []) u
-        (λ own. refl, tt) k in
+    (λ own. refl, tt) k in
     record { to = Queued; later = tt; holds = d.holds; quiet = d.quiet }
 asks-own Queued c m t at own fit on h = let low : 5 ≤ rank m.status = fit.0 in absurd (omega (arith, at, low))
 asks-own InGame c m t at own fit on h = absurd (omega (arith, at, fit))

@@ -1,5 +1,33 @@
 -- Every event brings a connection further, or leaves it in its phase.
-use Rattle.std.proofs.Common.{◌≡◌, ◌⊎◌, inl, inr, ap₂, ℕ, ◌+◌, ◌≤◌, ◌<◌, List, [], ◌∷◌, ◌++◌, refl, ap, sym, ◌∙◌, subst, true, false, Bool, Option, Some, None, arith, zero, suc}
+use Rattle.std.proofs.Common.{
+  ◌≡◌,
+  ◌⊎◌,
+  inl,
+  inr,
+  ap₂,
+  ℕ,
+  ◌+◌,
+  ◌≤◌,
+  ◌<◌,
+  List,
+  [],
+  ◌∷◌,
+  ◌++◌,
+  refl,
+  ap,
+  sym,
+  ◌∙◌,
+  subst,
+  true,
+  false,
+  Bool,
+  Option,
+  Some,
+  None,
+  arith,
+  zero,
+  suc,
+}
 use Rattle.std.specs.Prelude.{◌==◌, drop, take, length, nat_lt, nat_le, map, find, filter, cond, not, ◌&&◌, ◌||◌, position}
 use Rattle.std.specs.List.{AllByRecursion, list_any, position_or_len}
 use Rattle.std.proofs.lemmas.Bool.{eqb-true, leb-true}
@@ -25,12 +53,87 @@ use Rattle.tt_log.specs.Ending.{Farewell, Quitting, Failing, tells_farewell, lea
 use Rattle.tt_log.specs.PacketRules.{client_info, enters, acknowledged, closed_token}
 use Rattle.tt_log.specs.Desk.{admin_arrives, admin_opens, counted_aside, most_admins}
 use Rattle.tt_log.specs.Tick.{drawn, ticked}
-use Rattle.tt_log.specs.Events.{by_event, arrives, opened, counted_in, charged, closed, stops, shut_down, taken, takes, deed, is_stop, last_frame}
+use Rattle.tt_log.specs.Events.{
+  by_event,
+  arrives,
+  opened,
+  counted_in,
+  charged,
+  closed,
+  stops,
+  shut_down,
+  taken,
+  takes,
+  deed,
+  is_stop,
+  last_frame,
+}
 use Rattle.tt_log.proofs.Lists.{Among, IsOther, NotIn, Within, all-append, all-drop, all-filter, all-map, among-all, any-not}
 use Rattle.tt_log.proofs.Crew.{On, put, put-all, put-conns, conns, others, live-conns, found-on}
-use Rattle.tt_log.proofs.Changes.{step, Change, wants_password, is_let_in, gets_token, gets_frame, answers, plays, commands, has_name, goes_to, founds, gets_pieces, has_all, Asks, May, turned, told_with, turned_in, steps_with, moved, Move, queues, begins_map, loads, IsTalk, IsNews, turned-conn}
+use Rattle.tt_log.proofs.Changes.{
+  step,
+  Change,
+  wants_password,
+  is_let_in,
+  gets_token,
+  gets_frame,
+  answers,
+  plays,
+  commands,
+  has_name,
+  goes_to,
+  founds,
+  gets_pieces,
+  has_all,
+  Asks,
+  May,
+  turned,
+  told_with,
+  turned_in,
+  steps_with,
+  moved,
+  Move,
+  queues,
+  begins_map,
+  loads,
+  IsTalk,
+  IsNews,
+  turned-conn,
+}
 use Rattle.tt_log.proofs.Ordered.{map-same}
-use Rattle.tt_log.proofs.Phases.{Phase, Early, Queued, InGame, fits, Suits, Place, Holds, Has, is_command, Quiet, AllQuiet, WhileQuiet, Later, Goes, GoesBy, later-self, later-then, while-all, while-then, then-goes, where-goes, place-live, put-holds, early-stays, queued-stays, playing-stays, later-end, asks-by, enters-by, leaves-by}
+use Rattle.tt_log.proofs.Phases.{
+  Phase,
+  Early,
+  Queued,
+  InGame,
+  fits,
+  Suits,
+  Place,
+  Holds,
+  Has,
+  is_command,
+  Quiet,
+  AllQuiet,
+  WhileQuiet,
+  Later,
+  Goes,
+  GoesBy,
+  later-self,
+  later-then,
+  while-all,
+  while-then,
+  then-goes,
+  where-goes,
+  place-live,
+  put-holds,
+  early-stays,
+  queued-stays,
+  playing-stays,
+  later-end,
+  asks-by,
+  enters-by,
+  leaves-by,
+}
 use Rattle.tt_log.proofs.Walk.{stamping, running, Base, Walk, Ticks, Closing, Of, of-event, of-ticked, of-taken}
 
 -- ---- what is told is quiet
@@ -91,10 +194,20 @@ queued-low c (m ∷ ms) a = (λ own. (a.0 own).1, queued-low c ms a.1)
 -- only who plays is told commands
 news-goes : (p : Phase) (c : ℕ) (t : Table) (to : List ℕ) (w : What) → Within to (playing t) → Has c p t
     → Goes c p t.members t.queue (step to w ∷ [])
-news-goes Early c t to w there h = record { to = Early; later = tt; holds = h; quiet =
-    (away-quiet c to w (there c (low-not-playing c t.members (early-low c t.members h.suits))), tt) }
-news-goes Queued c t to w there h = record { to = Queued; later = tt; holds = h; quiet =
-    (away-quiet c to w (there c (low-not-playing c t.members (queued-low c t.members h.suits))), tt) }
+news-goes Early c t to w there h = record {
+  to = Early;
+  later = tt;
+  holds = h;
+  quiet =
+      (away-quiet c to w (there c (low-not-playing c t.members (early-low c t.members h.suits))), tt);
+}
+news-goes Queued c t to w there h = record {
+  to = Queued;
+  later = tt;
+  holds = h;
+  quiet =
+      (away-quiet c to w (there c (low-not-playing c t.members (queued-low c t.members h.suits))), tt);
+}
 news-goes InGame c t to w there h = record { to = InGame; later = tt; holds = h; quiet = tt }
 
 -- ---- a member changes
@@ -145,8 +258,13 @@ further-then : (c : ℕ) (t u v : Table) (xs ys : List Step) → Further c t xs 
 further-then c t u v xs ys a b p h =
     let first : Goes c p u.members u.queue xs = a p h in
     let next : Goes c first.to v.members v.queue ys = b first.to first.holds in
-    record { to = next.to; later = later-then p first.to next.to first.later next.later; holds = next.holds; quiet =
-        while-then first.to next.to c xs ys next.later first.quiet next.quiet }
+    record {
+      to = next.to;
+      later = later-then p first.to next.to first.later next.later;
+      holds = next.holds;
+      quiet =
+          while-then first.to next.to c xs ys next.later first.quiet next.quiet;
+    }
 
 further-base : (c : ℕ) (o : Origin) (e : Event) → Base o e (Further c)
 further-base c o e = record {
@@ -219,8 +337,14 @@ arrives-goes : (full : Bool) (c : ℕ) (p : Phase) (t : Table) → ((t.openings 
 arrives-goes true c p t early h = goes-quiet c p _ _ _ (record { suits = h.suits; place = h.place }) (refl, (refl, tt))
 arrives-goes false c p t early h =
     let n : Member = new_member (t.openings + 1) (t.clients + 1) t.frame in
-    goes-quiet c p _ _ [] (record { suits = all-append (Suits c p) t.members (n ∷ []) h.suits (λ own. early-fits p 0 (omega arith)
-        (early own), tt); place = place-arrived p c t.queue t.members n h.place }) tt
+    goes-quiet c p _ _ [] (record {
+      suits = all-append (Suits c p) t.members (n ∷ []) h.suits (
+        λ own. early-fits p 0 (omega arith)
+            (early own),
+        tt,
+      );
+      place = place-arrived p c t.queue t.members n h.place;
+    }) tt
 
 aside-goes : (full : Bool) (c : ℕ) (p : Phase) (t : Table) → Has c p t → GoesBy c p (admin_arrives full (counted_aside t))
 aside-goes true c p t h = goes-quiet c p _ _ _ (record { suits = h.suits; place = h.place }) (refl, (refl, tt))
@@ -249,7 +373,7 @@ taken-goes : (c : ℕ) (p : Phase) (o : Origin) (e : Event) (t : Table) → Open
 taken-goes c p o e t early h =
     let d : Deed = by_event o e t ▹ charged e in
     then-goes c p d (closed o (stops o e t)) (then-goes c p (by_event o e t) (charged e) (event-goes c p o e t early h)
-        (λ q k. (further-closing c o e).charges (by_event o e t).table q k))
+    (λ q k. (further-closing c o e).charges (by_event o e t).table q k))
     (λ q k. closed-goes (stops o e t || nat_le o.setup.cost d.table.cost || (d.table.frame == last_frame)) c o e d.table q k)
 
 pub deed-goes : (c : ℕ) (p : Phase) (o : Origin) (e : Event) (t : Table) → Opens c p t e → Has c p t → GoesBy c p (deed o e t)

@@ -1,5 +1,37 @@
 -- The text of a script spells it, and what the bytes spell can be printed.
-use Rattle.std.proofs.Common.{◌≡◌, Result, Ok, Err, ℕ, suc, ◌<◌, ◌≤◌, List, [], ◌∷◌, ◌++◌, length, take, map, Bool, true, false, not, cond, ◌⊎◌, inl, inr, refl, sym, ap, ap₂, subst, ◌∙◌, append_assoc, arith}
+use Rattle.std.proofs.Common.{
+  ◌≡◌,
+  Result,
+  Ok,
+  Err,
+  ℕ,
+  suc,
+  ◌<◌,
+  ◌≤◌,
+  List,
+  [],
+  ◌∷◌,
+  ◌++◌,
+  length,
+  take,
+  map,
+  Bool,
+  true,
+  false,
+  not,
+  cond,
+  ◌⊎◌,
+  inl,
+  inr,
+  refl,
+  sym,
+  ap,
+  ap₂,
+  subst,
+  ◌∙◌,
+  append_assoc,
+  arith,
+}
 use Rattle.std.specs.Prelude.{◌==◌, sum_by, fold, filter, IfOk}
 use Rattle.std.specs.List.{AllByRecursion, flat_map, list_all}
 use Rattle.std.proofs.lemmas.Bool.{eqb-true}
@@ -10,7 +42,23 @@ use Rattle.std.proofs.lemmas.Grind.{flat_map-append}
 use Rattle.tt_frame.proofs.TextLaws.{is_text-from_IsText, length_of_text}
 use Rattle.tt_lines.specs.Lines.{HasNo, lines_of}
 use Rattle.tt_log.specs.declared.script.bad.ScriptBad.{ScriptBad}
-use Rattle.tt_log.specs.Forms.{number, text, hex, saved, key, IsTextFrom, Fits, Word, named, word, rest, word_text, WordFits, behind_blanks, parted}
+use Rattle.tt_log.specs.Forms.{
+  number,
+  text,
+  hex,
+  saved,
+  key,
+  IsTextFrom,
+  Fits,
+  Word,
+  named,
+  word,
+  rest,
+  word_text,
+  WordFits,
+  behind_blanks,
+  parted,
+}
 use Rattle.tt_log.specs.Settings.{setting_words, place_of, with_setting, settings_of, is_plain}
 use Rattle.tt_log.specs.Orders.{words_by}
 use Rattle.tt_log.specs.Lines.{line_words, IsLine, openings_of}
@@ -26,15 +74,53 @@ use Rattle.tt_log.proofs.ScriptLaws.{small_place}
 use Rattle.tt_log.proofs.FormLaws.{text_one, number_one}
 use Rattle.tt_lines.proofs.LineLaws.{lines-within}
 use Rattle.tt_log.specs.declared.script.line.Line1.{Line1}
-use Rattle.tt_log.specs.declared.script.line.Line1.TheVariants.{Open, Side, Bytes, Shut, Tick, Stop, Join, Up, Down, Run, Pump, Do, Forge, Expect}
+use Rattle.tt_log.specs.declared.script.line.Line1.TheVariants.{
+  Open,
+  Side,
+  Bytes,
+  Shut,
+  Tick,
+  Stop,
+  Join,
+  Up,
+  Down,
+  Run,
+  Pump,
+  Do,
+  Forge,
+  Expect,
+}
 use Rattle.tt_log.specs.declared.script.setting.Setting.{Setting}
-use Rattle.tt_log.specs.declared.script.setting.Setting.TheVariants.{Seed, FrameFreq, SyncFreq, Clients, Init, PassLimit, Download, Join as JoinLimit, Lag, Cost, Pw, Admin}
+use Rattle.tt_log.specs.declared.script.setting.Setting.TheVariants.{
+  Seed,
+  FrameFreq,
+  SyncFreq,
+  Clients,
+  Init,
+  PassLimit,
+  Download,
+  Join as JoinLimit,
+  Lag,
+  Cost,
+  Pw,
+  Admin,
+}
 use Rattle.tt_log.specs.declared.script.step.Step.{Step}
 use Rattle.tt_log.specs.declared.script.step.Step.TheVariants.{Set, Saved, Line}
 use Rattle.tt_world.specs.Setup.{plain, Fits as FitsSetup}
 use Rattle.tt_world.specs.declared.setup.Setup.{Setup}
 use Rattle.tt_world.specs.declared.command.Code.{Code}
-use Rattle.tt_world.specs.declared.command.Code.TheVariants.{IncreaseLoan, DecreaseLoan, Give, PlaceSign, RenameSign, RenameCompany, RenamePresident, Pause, NewCompany}
+use Rattle.tt_world.specs.declared.command.Code.TheVariants.{
+  IncreaseLoan,
+  DecreaseLoan,
+  Give,
+  PlaceSign,
+  RenameSign,
+  RenameCompany,
+  RenamePresident,
+  Pause,
+  NewCompany,
+}
 
 -- ---- lists
 
@@ -42,11 +128,13 @@ all_append : {A : Type 0} (P : A → Type 0) (xs ys : List A) → AllByRecursion
 all_append P [] ys all more = more
 all_append P (x ∷ xs) ys all more = (all.0, all_append P xs ys all.1 more)
 
-all_map : {A B : Type 0} (f : A → B) (P : B → Type 0) (Q : A → Type 0) → ((x : A) → Q x → P (f x)) → (xs : List A) → AllByRecursion Q xs → AllByRecursion P (map f xs)
+all_map : {A B : Type 0} (f : A → B) (P : B → Type 0) (Q : A → Type 0) → ((x : A) → Q x → P (f x)) → (xs : List A) → AllByRecursion Q xs
+    → AllByRecursion P (map f xs)
 all_map f P Q each [] all = tt
 all_map f P Q each (x ∷ xs) all = (each x all.0, all_map f P Q each xs all.1)
 
-filter_by : {A : Type 0} (P : A → Type 0) (x : A) (kept : List A) (t : Bool) → P x → AllByRecursion P kept → AllByRecursion P (cond t (x ∷ kept) kept)
+filter_by : {A : Type 0} (P : A → Type 0) (x : A) (kept : List A) (t : Bool) → P x → AllByRecursion P kept
+    → AllByRecursion P (cond t (x ∷ kept) kept)
 filter_by P x kept true one all = (one, all)
 filter_by P x kept false one all = all
 
@@ -64,7 +152,8 @@ abbrev differs : Setting → Bool
 differs setting = not (is_plain setting)
 
 told_by : (x : Setting) (xs : List Setting) (t : Bool) → flat_map setting_text xs ≡ flat_map step_line (map Set (filter differs xs))
-    → cond t [] (step_line (Set x)) ++ flat_map setting_text xs ≡ flat_map step_line (map Set (cond (not t) (x ∷ filter differs xs) (filter differs xs)))
+    → cond t [] (step_line (Set x)) ++ flat_map setting_text xs ≡ flat_map step_line (map Set (cond (not t) (x ∷ filter differs xs)
+    (filter differs xs)))
 told_by x xs true rec = rec
 told_by x xs false rec = ap (λ (u : List ℕ). step_line (Set x) ++ u) rec
 
@@ -77,7 +166,8 @@ lines_are [] = refl
 lines_are (line ∷ lines) = ap (λ (u : List ℕ). line_text line ++ u) (lines_are lines)
 
 -- what was written is the text of the script
-pub text_is : (s : Setup) (m : List ℕ) (lines : List Line1) → flat_map setting_text (settings_of s) ++ map_text m ++ flat_map line_text lines ≡ script_text (record { setup = s; saved = m; lines = lines })
+pub text_is : (s : Setup) (m : List ℕ) (lines : List Line1) → flat_map setting_text (settings_of s) ++ map_text m
+    ++ flat_map line_text lines ≡ script_text (record { setup = s; saved = m; lines = lines })
 text_is s m lines =
     let sets = map Set (told_settings s) in
     ap₂ (λ (a b : List ℕ). a ++ map_text m ++ b) (told_is (settings_of s)) (lines_are lines)
@@ -179,7 +269,8 @@ up_less : (j k : ℕ) (xs : List Setting) → j ≤ k → Up_from k xs → Up_fr
 up_less j k [] le up = tt
 up_less j k (x ∷ xs) le up = (omega (arith, le, up.0), up.1)
 
-up_by : (k : ℕ) (x : Setting) (xs : List Setting) (t : Bool) → k ≤ place_of x → Up_from (suc (place_of x)) xs → Up_from k (cond t (x ∷ xs) xs)
+up_by : (k : ℕ) (x : Setting) (xs : List Setting) (t : Bool) → k ≤ place_of x → Up_from (suc (place_of x)) xs
+    → Up_from k (cond t (x ∷ xs) xs)
 up_by k x xs true le up = (le, up)
 up_by k x xs false le up = up_less k (suc (place_of x)) xs (omega (arith, le)) up
 
@@ -195,7 +286,8 @@ lines_order : (lines : List Line1) → InOrder (map Line lines)
 lines_order [] = tt
 lines_order (line ∷ lines) = (lines_free (Line line) lines, lines_order lines)
 
-above : (before : Setting) (k : ℕ) (xs : List Setting) → place_of before < k → Up_from k xs → AllByRecursion (Precedes (Set before)) (map Set xs)
+above : (before : Setting) (k : ℕ) (xs : List Setting) → place_of before < k → Up_from k xs
+    → AllByRecursion (Precedes (Set before)) (map Set xs)
 above before k [] lt up = tt
 above before k (x ∷ xs) lt up = (omega (arith, lt, up.0), above before (suc (place_of x)) xs (omega (arith, lt, up.0)) up.1)
 
@@ -208,16 +300,30 @@ map_order : (m : List ℕ) (lines : List Line1) → InOrder (told_map m ++ map L
 map_order [] lines = lines_order lines
 map_order (b ∷ m) lines = (lines_free (Saved (b ∷ m)) lines, lines_order lines)
 
-up_order : (k : ℕ) (xs : List Setting) (m : List ℕ) (lines : List Line1) → Up_from k xs → InOrder (map Set xs ++ told_map m ++ map Line lines)
+up_order : (k : ℕ) (xs : List Setting) (m : List ℕ) (lines : List Line1) → Up_from k xs → InOrder (map Set xs ++ told_map m
+    ++ map Line lines)
 up_order k [] m lines up = map_order m lines
 up_order k (x ∷ xs) m lines up = (
   all_append (Precedes (Set x)) (map Set xs ++ told_map m) (map Line lines)
-      (all_append (Precedes (Set x)) (map Set xs) (told_map m) (above x (suc (place_of x)) xs (omega arith) up.1) (map_free x m)) (lines_free (Set x) lines),
+      (all_append (Precedes (Set x)) (map Set xs) (told_map m) (above x (suc (place_of x)) xs (omega arith) up.1) (map_free x m))
+      (lines_free (Set x) lines),
   up_order (suc (place_of x)) xs m lines up.1,
 )
 
 settings_up : (s : Setup) → Up_from 0 (settings_of s)
-settings_up s = (omega arith, (omega arith, (omega arith, (omega arith, (omega arith, (omega arith, (omega arith, (omega arith, (omega arith, (omega arith, (omega arith, (omega arith, tt))))))))))))
+settings_up s = (
+  omega arith,
+  (
+    omega arith,
+    (
+      omega arith,
+      (
+        omega arith,
+        (omega arith, (omega arith, (omega arith, (omega arith, (omega arith, (omega arith, (omega arith, (omega arith, tt)))))))),
+      ),
+    ),
+  ),
+)
 
 -- ---- the setup
 
@@ -243,7 +349,8 @@ empty_text : (content : List ℕ) → length content ≡ 0 → content ≡ []
 empty_text [] e = refl
 empty_text (b ∷ content) e = absurd (omega (arith, e))
 
-same_text : (st : Setup) (make : List ℕ → Setting) (content : List ℕ) → (length content == 0) ≡ true → with_setting st (make content) ≡ with_setting st (make [])
+same_text : (st : Setup) (make : List ℕ → Setting) (content : List ℕ) → (length content == 0) ≡ true
+    → with_setting st (make content) ≡ with_setting st (make [])
 same_text st make content e = ap (λ (v : List ℕ). with_setting st (make v)) (empty_text content (eqb-true (length content) 0 e))
 
 -- the plain setup with the first k settings of another
@@ -293,7 +400,25 @@ ap3 : {A B C D : Type 0} (f : A → B → C → D) {a a' : A} {b b' : B} {c c' :
 ap3 f {a' = a'} {b = b} {b' = b'} {c = c} p q r = ap (λ x. f x b c) p ∙ ap (λ y. f a' y c) q ∙ ap (λ z. f a' b' z) r
 
 setup_back : (s : Setup) → IsTold s → fold with_setting plain (settings_of s) ≡ s
-setup_back s told = ap3 (λ (a b c : List ℕ). let made : Setup = record { name = a; revision = b; id = c; seed = s.seed; frame_freq = s.frame_freq; sync_freq = s.sync_freq; max_clients = s.max_clients; init = s.init; pass_limit = s.pass_limit; download = s.download; join = s.join; lag = s.lag; cost = s.cost; password = s.password; admin_password = s.admin_password } in made) (sym told.name) (sym told.revision) (sym told.id)
+setup_back s told = ap3 (λ (a b c : List ℕ). let made : Setup = record {
+  name = a;
+  revision = b;
+  id = c;
+  seed = s.seed;
+  frame_freq =
+      s.frame_freq;
+  sync_freq = s.sync_freq;
+  max_clients = s.max_clients;
+  init = s.init;
+  pass_limit = s.pass_limit;
+  download = s.download;
+  join = s.join;
+  lag = s.lag;
+  cost = s.cost;
+  password = s.password;
+  admin_password = s.admin_password;
+} in made) (sym told.name)
+    (sym told.revision) (sym told.id)
 
 lines_keep : (st : Setup) (lines : List Line1) → fold setup_with st (map Line lines) ≡ st
 lines_keep st [] = refl
@@ -329,7 +454,8 @@ told_lines : (script : Contents) → lines_in (told_steps script) ≡ script.lin
 told_lines script =
     let sets = map Set (told_settings script.setup) in
     flat_map-append line_in (sets ++ told_map script.saved) (map Line script.lines)
-    ∙ ap₂ (λ (a b : List Line1). a ++ b) (flat_map-append line_in sets (told_map script.saved) ∙ ap₂ (λ (a b : List Line1). a ++ b) (no_lines (told_settings script.setup)) (no_lines_of_map script.saved)) (own_lines script.lines)
+    ∙ ap₂ (λ (a b : List Line1). a ++ b) (flat_map-append line_in sets (told_map script.saved) ∙ ap₂ (λ (a b : List Line1). a
+    ++ b) (no_lines (told_settings script.setup)) (no_lines_of_map script.saved)) (own_lines script.lines)
 
 no_map : (xs : List Setting) → saved_in (map Set xs) ≡ []
 no_map [] = refl
@@ -347,7 +473,8 @@ told_saved : (script : Contents) → saved_in (told_steps script) ≡ script.sav
 told_saved script =
     let sets = map Set (told_settings script.setup) in
     flat_map-append map_in_step (sets ++ told_map script.saved) (map Line script.lines)
-    ∙ ap₂ (λ (a b : List ℕ). a ++ b) (flat_map-append map_in_step sets (told_map script.saved) ∙ ap₂ (λ (a b : List ℕ). a ++ b) (no_map (told_settings script.setup)) (own_map script.saved)) (no_map_of_lines script.lines)
+    ∙ ap₂ (λ (a b : List ℕ). a ++ b) (flat_map-append map_in_step sets (told_map script.saved) ∙ ap₂ (λ (a b : List ℕ). a
+    ++ b) (no_map (told_settings script.setup)) (own_map script.saved)) (no_map_of_lines script.lines)
     ∙ append-nil script.saved
 
 no_openings : (xs : List Setting) → sum_by opens (map Set xs) ≡ 0
@@ -356,7 +483,8 @@ no_openings (x ∷ xs) = omega (arith, sum_by-cons opens (Set x) (map Set xs), n
 
 own_openings : (lines : List Line1) → sum_by opens (map Line lines) ≡ sum_by openings_of lines
 own_openings [] = refl
-own_openings (line ∷ lines) = omega (arith, sum_by-cons opens (Line line) (map Line lines), own_openings lines, sum_by-cons openings_of line lines)
+own_openings (line ∷ lines) =
+    omega (arith, sum_by-cons opens (Line line) (map Line lines), own_openings lines, sum_by-cons openings_of line lines)
 
 no_openings_of_map : (m : List ℕ) → sum_by opens (told_map m) ≡ 0
 no_openings_of_map [] = refl
@@ -376,10 +504,12 @@ told_is_steps script is =
     record {
       each = all_append IsStep (sets ++ told_map script.saved) others
           (all_append IsStep sets (told_map script.saved)
-          (all_map Set IsStep IsSetting (λ x fits. fits) (told_settings script.setup) (all_filter IsSetting differs (settings_of script.setup) is.setup.settings))
+          (all_map Set IsStep IsSetting (λ x fits. fits) (told_settings script.setup) (all_filter IsSetting differs
+          (settings_of script.setup) is.setup.settings))
           (map_fits script.saved is.map))
           (all_map Line IsStep IsLine (λ x fits. fits) script.lines is.lines);
-      order = up_order 0 (told_settings script.setup) script.saved script.lines (up_filter differs 0 (settings_of script.setup) (settings_up script.setup));
+      order = up_order 0 (told_settings script.setup) script.saved script.lines (up_filter differs 0 (settings_of script.setup)
+          (settings_up script.setup));
       openings =
           omega (
             arith,
@@ -399,7 +529,8 @@ spelled_text script is =
       steps = told_steps script;
       is = steps;
       text = lines_written (told_steps script) steps.each;
-      makes = ap3 (λ (a : Setup) (m : List ℕ) (b : List Line1). let made : Contents = record { setup = a; saved = m; lines = b } in made) (sym (told_setup script is.setup)) (sym (told_saved script)) (sym (told_lines script));
+      makes = ap3 (λ (a : Setup) (m : List ℕ) (b : List Line1). let made : Contents = record { setup = a; saved = m; lines = b } in made)
+          (sym (told_setup script is.setup)) (sym (told_saved script)) (sym (told_lines script));
     }
 
 -- ---- what the bytes spell is of the grammar
@@ -470,17 +601,232 @@ told_fits st told = record {
 
 told_with : (st : Setup) (x : Setting) → IsSetting x → IsTold st → IsTold (with_setting st x)
 told_with st (Seed x) fits told = record { settings = (fits, told.settings.1); name = told.name; revision = told.revision; id = told.id }
-told_with st (FrameFreq x) fits told = record { settings = (told.settings.0, (fits, told.settings.1.1)); name = told.name; revision = told.revision; id = told.id }
-told_with st (SyncFreq x) fits told = record { settings = (told.settings.0, (told.settings.1.0, (fits, told.settings.1.1.1))); name = told.name; revision = told.revision; id = told.id }
-told_with st (Clients x) fits told = record { settings = (told.settings.0, (told.settings.1.0, (told.settings.1.1.0, (fits, told.settings.1.1.1.1)))); name = told.name; revision = told.revision; id = told.id }
-told_with st (Init x) fits told = record { settings = (told.settings.0, (told.settings.1.0, (told.settings.1.1.0, (told.settings.1.1.1.0, (fits, told.settings.1.1.1.1.1))))); name = told.name; revision = told.revision; id = told.id }
-told_with st (PassLimit x) fits told = record { settings = (told.settings.0, (told.settings.1.0, (told.settings.1.1.0, (told.settings.1.1.1.0, (told.settings.1.1.1.1.0, (fits, told.settings.1.1.1.1.1.1)))))); name = told.name; revision = told.revision; id = told.id }
-told_with st (Download x) fits told = record { settings = (told.settings.0, (told.settings.1.0, (told.settings.1.1.0, (told.settings.1.1.1.0, (told.settings.1.1.1.1.0, (told.settings.1.1.1.1.1.0, (fits, told.settings.1.1.1.1.1.1.1))))))); name = told.name; revision = told.revision; id = told.id }
-told_with st (JoinLimit x) fits told = record { settings = (told.settings.0, (told.settings.1.0, (told.settings.1.1.0, (told.settings.1.1.1.0, (told.settings.1.1.1.1.0, (told.settings.1.1.1.1.1.0, (told.settings.1.1.1.1.1.1.0, (fits, told.settings.1.1.1.1.1.1.1.1)))))))); name = told.name; revision = told.revision; id = told.id }
-told_with st (Lag x) fits told = record { settings = (told.settings.0, (told.settings.1.0, (told.settings.1.1.0, (told.settings.1.1.1.0, (told.settings.1.1.1.1.0, (told.settings.1.1.1.1.1.0, (told.settings.1.1.1.1.1.1.0, (told.settings.1.1.1.1.1.1.1.0, (fits, told.settings.1.1.1.1.1.1.1.1.1))))))))); name = told.name; revision = told.revision; id = told.id }
-told_with st (Cost x) fits told = record { settings = (told.settings.0, (told.settings.1.0, (told.settings.1.1.0, (told.settings.1.1.1.0, (told.settings.1.1.1.1.0, (told.settings.1.1.1.1.1.0, (told.settings.1.1.1.1.1.1.0, (told.settings.1.1.1.1.1.1.1.0, (told.settings.1.1.1.1.1.1.1.1.0, (fits, told.settings.1.1.1.1.1.1.1.1.1.1)))))))))); name = told.name; revision = told.revision; id = told.id }
-told_with st (Pw x) fits told = record { settings = (told.settings.0, (told.settings.1.0, (told.settings.1.1.0, (told.settings.1.1.1.0, (told.settings.1.1.1.1.0, (told.settings.1.1.1.1.1.0, (told.settings.1.1.1.1.1.1.0, (told.settings.1.1.1.1.1.1.1.0, (told.settings.1.1.1.1.1.1.1.1.0, (told.settings.1.1.1.1.1.1.1.1.1.0, (fits, told.settings.1.1.1.1.1.1.1.1.1.1.1))))))))))); name = told.name; revision = told.revision; id = told.id }
-told_with st (Admin x) fits told = record { settings = (told.settings.0, (told.settings.1.0, (told.settings.1.1.0, (told.settings.1.1.1.0, (told.settings.1.1.1.1.0, (told.settings.1.1.1.1.1.0, (told.settings.1.1.1.1.1.1.0, (told.settings.1.1.1.1.1.1.1.0, (told.settings.1.1.1.1.1.1.1.1.0, (told.settings.1.1.1.1.1.1.1.1.1.0, (told.settings.1.1.1.1.1.1.1.1.1.1.0, (fits, told.settings.1.1.1.1.1.1.1.1.1.1.1.1)))))))))))); name = told.name; revision = told.revision; id = told.id }
+told_with st (FrameFreq x) fits told =
+    record { settings = (told.settings.0, (fits, told.settings.1.1)); name = told.name; revision = told.revision; id = told.id }
+told_with st (SyncFreq x) fits told = record {
+  settings = (told.settings.0, (told.settings.1.0, (fits, told.settings.1.1.1)));
+  name =
+      told.name;
+  revision = told.revision;
+  id = told.id;
+}
+told_with st (Clients x) fits told =
+    record {
+      settings = (told.settings.0, (told.settings.1.0, (told.settings.1.1.0, (fits, told.settings.1.1.1.1))));
+      name = told.name;
+      revision = told.revision;
+      id = told.id;
+    }
+told_with st (Init x) fits told =
+    record {
+      settings =
+          (told.settings.0, (told.settings.1.0, (told.settings.1.1.0, (told.settings.1.1.1.0, (fits, told.settings.1.1.1.1.1)))));
+      name =
+          told.name;
+      revision = told.revision;
+      id = told.id;
+    }
+told_with st (PassLimit x) fits told =
+    record {
+      settings = (
+        told.settings.0,
+        (
+          told.settings.1.0,
+          (
+            told.settings.1.1.0,
+            (
+              told.settings.1.1.1.0,
+              (
+                told.settings.1.1.1.1.0,
+                (fits, told.settings.1.1.1.1.1.1),
+              ),
+            ),
+          ),
+        ),
+      );
+      name = told.name;
+      revision = told.revision;
+      id = told.id;
+    }
+told_with st (Download x) fits told =
+    record {
+      settings = (
+        told.settings.0,
+        (
+          told.settings.1.0,
+          (
+            told.settings.1.1.0,
+            (
+              told.settings.1.1.1.0,
+              (
+                told.settings.1.1.1.1.0,
+                (told.settings.1.1.1.1.1.0, (fits, told.settings.1.1.1.1.1.1.1)),
+              ),
+            ),
+          ),
+        ),
+      );
+      name = told.name;
+      revision = told.revision;
+      id = told.id;
+    }
+told_with st (JoinLimit x) fits told =
+    record {
+      settings = (
+        told.settings.0,
+        (
+          told.settings.1.0,
+          (
+            told.settings.1.1.0,
+            (
+              told.settings.1.1.1.0,
+              (
+                told.settings.1.1.1.1.0,
+                (told.settings.1.1.1.1.1.0, (told.settings.1.1.1.1.1.1.0, (fits, told.settings.1.1.1.1.1.1.1.1))),
+              ),
+            ),
+          ),
+        ),
+      );
+      name = told.name;
+      revision =
+          told.revision;
+      id = told.id;
+    }
+told_with st (Lag x) fits told =
+    record {
+      settings = (
+        told.settings.0,
+        (
+          told.settings.1.0,
+          (
+            told.settings.1.1.0,
+            (
+              told.settings.1.1.1.0,
+              (
+                told.settings.1.1.1.1.0,
+                (
+                  told.settings.1.1.1.1.1.0,
+                  (
+                    told.settings.1.1.1.1.1.1.0,
+                    (
+                      told.settings.1.1.1.1.1.1.1.0,
+                      (fits, told.settings.1.1.1.1.1.1.1.1.1),
+                    ),
+                  ),
+                ),
+              ),
+            ),
+          ),
+        ),
+      );
+      name = told.name;
+      revision = told.revision;
+      id = told.id;
+    }
+told_with st (Cost x) fits told =
+    record {
+      settings = (
+        told.settings.0,
+        (
+          told.settings.1.0,
+          (
+            told.settings.1.1.0,
+            (
+              told.settings.1.1.1.0,
+              (
+                told.settings.1.1.1.1.0,
+                (
+                  told.settings.1.1.1.1.1.0,
+                  (
+                    told.settings.1.1.1.1.1.1.0,
+                    (
+                      told.settings.1.1.1.1.1.1.1.0,
+                      (
+                        told.settings.1.1.1.1.1.1.1.1.0,
+                        (fits, told.settings.1.1.1.1.1.1.1.1.1.1),
+                      ),
+                    ),
+                  ),
+                ),
+              ),
+            ),
+          ),
+        ),
+      );
+      name = told.name;
+      revision = told.revision;
+      id = told.id;
+    }
+told_with st (Pw x) fits told =
+    record {
+      settings = (
+        told.settings.0,
+        (
+          told.settings.1.0,
+          (
+            told.settings.1.1.0,
+            (
+              told.settings.1.1.1.0,
+              (
+                told.settings.1.1.1.1.0,
+                (
+                  told.settings.1.1.1.1.1.0,
+                  (
+                    told.settings.1.1.1.1.1.1.0,
+                    (
+                      told.settings.1.1.1.1.1.1.1.0,
+                      (
+                        told.settings.1.1.1.1.1.1.1.1.0,
+                        (told.settings.1.1.1.1.1.1.1.1.1.0, (fits, told.settings.1.1.1.1.1.1.1.1.1.1.1)),
+                      ),
+                    ),
+                  ),
+                ),
+              ),
+            ),
+          ),
+        ),
+      );
+      name = told.name;
+      revision =
+          told.revision;
+      id = told.id;
+    }
+told_with st (Admin x) fits told =
+    record {
+      settings = (
+        told.settings.0,
+        (
+          told.settings.1.0,
+          (
+            told.settings.1.1.0,
+            (
+              told.settings.1.1.1.0,
+              (
+                told.settings.1.1.1.1.0,
+                (
+                  told.settings.1.1.1.1.1.0,
+                  (
+                    told.settings.1.1.1.1.1.1.0,
+                    (
+                      told.settings.1.1.1.1.1.1.1.0,
+                      (
+                        told.settings.1.1.1.1.1.1.1.1.0,
+                        (told.settings.1.1.1.1.1.1.1.1.1.0, (told.settings.1.1.1.1.1.1.1.1.1.1.0, (fits, told.settings.1.1.1.1.1.1.1.1.1.1.1.1))),
+                      ),
+                    ),
+                  ),
+                ),
+              ),
+            ),
+          ),
+        ),
+      );
+      name = told.name;
+      revision = told.revision;
+      id = told.id;
+    }
 
 told_fold : (st : Setup) (steps : List Step) → AllByRecursion IsStep steps → IsTold st → IsTold (fold setup_with st steps)
 told_fold st [] each told = told
@@ -498,7 +844,8 @@ lines_open : (steps : List Step) → sum_by openings_of (lines_in steps) ≡ sum
 lines_open [] = refl
 lines_open (Set x ∷ steps) = omega (arith, lines_open steps, sum_by-cons opens (Set x) steps)
 lines_open (Saved m ∷ steps) = omega (arith, lines_open steps, sum_by-cons opens (Saved m) steps)
-lines_open (Line line ∷ steps) = omega (arith, lines_open steps, sum_by-cons opens (Line line) steps, sum_by-cons openings_of line (lines_in steps))
+lines_open (Line line ∷ steps) =
+    omega (arith, lines_open steps, sum_by-cons opens (Line line) steps, sum_by-cons openings_of line (lines_in steps))
 
 -- behind a map or a line there is no map
 none_saved : (before : Step) (steps : List Step) → 12 ≤ step_place before → AllByRecursion (Precedes before) steps → saved_in steps ≡ []
@@ -526,6 +873,7 @@ spelled_script script texts spells =
     } in
     subst IsScript (sym spells.makes) is
 
-pub parsed_script : (r : Result Contents ScriptBad) (texts : List (List ℕ)) → IfOk r (λ script. Spells script texts) → IfOk r (λ script. IsScript script)
+pub parsed_script : (r : Result Contents ScriptBad) (texts : List (List ℕ)) → IfOk r (λ script. Spells script texts)
+    → IfOk r (λ script. IsScript script)
 parsed_script (Ok script) texts found = spelled_script script texts found
 parsed_script (Err bad) texts found = tt

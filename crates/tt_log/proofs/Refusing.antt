@@ -35,4 +35,4 @@ pub heard-stays : (o : Origin) (es : List Event) (e : Event) (conn : ℕ) → ta
 heard-stays o es e conn is =
     let t : Table = table_of o es in
     heard-snoc o es e conn ∙ ap (λ (d : Deed). heard o es conn ++ told_to conn (tellings o t d)) (not-taken o t e is)
-        ∙ append-nil (heard o es conn)
+    ∙ append-nil (heard o es conn)

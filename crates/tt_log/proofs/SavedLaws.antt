@@ -35,14 +35,17 @@ pub starts_not : (bytes : List ℕ) → IsBytes bytes → ((w : WorldState) → 
 starts_not bytes fits never = starts_not_by (map_in bytes) (λ w e. never w ((exactly bytes (map_in bytes) (Ok w) fits refl).0 e))
 
 -- a decoder that answers something else than want of memory was handed no map
-pub bad_starts_not : (bytes : List ℕ) (result : Result WorldState MapBad) (told : MapBad) → IsBytes bytes → result ≡ Err told → told ≢ bad.Memory
+pub bad_starts_not : (bytes : List ℕ) (result : Result WorldState MapBad) (told : MapBad) → IsBytes bytes → result ≡ Err told
+    → told ≢ bad.Memory
     → (result ≢ Err bad.Memory → (w : WorldState) → (result ≡ Ok w) ↔ IsMap bytes w) → false ≡ may_start (map_in bytes)
 bad_starts_not bytes result told fits is other map =
     let answered : result ≢ Err bad.Memory = λ e. other (same_bad told bad.Memory (sym is ∙ e)) in
     starts_not bytes fits (λ w found. no_world w told (sym ((map answered w).1 found) ∙ is))
 
-started_by : (bytes : List ℕ) (r : Result WorldState MapBad) → IsBytes bytes → length bytes ≤ most_saved → map_in bytes ≡ r → may_start r ≡ true → IsSaved bytes
-started_by bytes (Ok w) fits few read e = record { few = few; world = w; is = (exactly bytes (map_in bytes) (Ok w) fits refl).0 read; day = le_of_test w.day last_start_day e }
+started_by : (bytes : List ℕ) (r : Result WorldState MapBad) → IsBytes bytes → length bytes ≤ most_saved → map_in bytes ≡ r
+    → may_start r ≡ true → IsSaved bytes
+started_by bytes (Ok w) fits few read e =
+    record { few = few; world = w; is = (exactly bytes (map_in bytes) (Ok w) fits refl).0 read; day = le_of_test w.day last_start_day e }
 started_by bytes (Err told) fits few read e = absurd (false≢true e)
 
 pub saved_found : (bytes : List ℕ) → IsSaved bytes → saved_within bytes ≡ Some bytes

@@ -1,5 +1,35 @@
 -- What was stamped of each client, and what waits, is what was accepted of it.
-use Rattle.std.proofs.Common.{◌≡◌, ◌⊎◌, inl, inr, ℕ, ◌+◌, ◌≤◌, ◌<◌, List, [], ◌∷◌, ◌++◌, refl, ap, ap₂, sym, ◌∙◌, subst, true, false, Bool, Option, Some, None, arith, zero, suc, append-nil, append_assoc}
+use Rattle.std.proofs.Common.{
+  ◌≡◌,
+  ◌⊎◌,
+  inl,
+  inr,
+  ℕ,
+  ◌+◌,
+  ◌≤◌,
+  ◌<◌,
+  List,
+  [],
+  ◌∷◌,
+  ◌++◌,
+  refl,
+  ap,
+  ap₂,
+  sym,
+  ◌∙◌,
+  subst,
+  true,
+  false,
+  Bool,
+  Option,
+  Some,
+  None,
+  arith,
+  zero,
+  suc,
+  append-nil,
+  append_assoc,
+}
 use Rattle.std.specs.Prelude.{◌==◌, ◌||◌, ◌&&◌, fold, length, take, drop, nat_le, map, flat_map, filter, find, cond, not, is_some}
 use Rattle.std.specs.List.{AllByRecursion}
 use Rattle.std.proofs.lemmas.Bool.{eq-eqb, eqb-true, eqb-false, ne_eqb}
@@ -26,14 +56,96 @@ use Rattle.tt_log.specs.Desk.{admin_arrives, counted_aside, most_admins}
 use Rattle.tt_log.specs.Tick.{drawn, stamps, own_entry, entry_of}
 use Rattle.tt_log.specs.Admin.{Admin}
 use Rattle.tt_log.specs.Desk.{admin_hears}
-use Rattle.tt_log.specs.Events.{read_admin, arrives, counted_in, by_verdict, by_event, charged, closed, shut_down, stops, taken, takes, names_live, stepped, read_msg, heard, on_conn, to_named}
+use Rattle.tt_log.specs.Events.{
+  read_admin,
+  arrives,
+  counted_in,
+  by_verdict,
+  by_event,
+  charged,
+  closed,
+  shut_down,
+  stops,
+  taken,
+  takes,
+  names_live,
+  stepped,
+  read_msg,
+  heard,
+  on_conn,
+  to_named,
+}
 use Rattle.tt_log.specs.History.{table_of, journal_of, AreRising}
-use Rattle.tt_log.specs.Stamps.{accepted, accepted_by, accepted_from, accepted_of, commands_in, command_in, for_company, if_allowed, if_so, stamped_of}
+use Rattle.tt_log.specs.Stamps.{
+  accepted,
+  accepted_by,
+  accepted_from,
+  accepted_of,
+  commands_in,
+  command_in,
+  for_company,
+  if_allowed,
+  if_so,
+  stamped_of,
+}
 use Rattle.tt_log.proofs.Lists.{Among, NotIn, IsOther, all-append, all-so, among-all}
 use Rattle.tt_log.proofs.Crew.{On, put, on-found, found-on, conns}
-use Rattle.tt_log.proofs.Changes.{Says, By, Change, wants_password, is_let_in, gets_token, gets_frame, answers, plays, commands, has_name, goes_to, founds, gets_pieces, has_all, turned, turned-conn, turned-client, moved, moved-conn, moved-client, Move, queues, begins_map, loads}
-use Rattle.tt_log.proofs.Walk.{Base, Walk, Doors, Closing, Moves, Ticks, running, stamping, of-asks, of-enters, of-leaves, of-deed, of-still, of-ends, of-taken}
-use Rattle.tt_log.proofs.Ordered.{Ordered, is-ordered, step-ordered, order-base, order-moves, order-walk, order-doors, order-ticks, order-closing, rising-not}
+use Rattle.tt_log.proofs.Changes.{
+  Says,
+  By,
+  Change,
+  wants_password,
+  is_let_in,
+  gets_token,
+  gets_frame,
+  answers,
+  plays,
+  commands,
+  has_name,
+  goes_to,
+  founds,
+  gets_pieces,
+  has_all,
+  turned,
+  turned-conn,
+  turned-client,
+  moved,
+  moved-conn,
+  moved-client,
+  Move,
+  queues,
+  begins_map,
+  loads,
+}
+use Rattle.tt_log.proofs.Walk.{
+  Base,
+  Walk,
+  Doors,
+  Closing,
+  Moves,
+  Ticks,
+  running,
+  stamping,
+  of-asks,
+  of-enters,
+  of-leaves,
+  of-deed,
+  of-still,
+  of-ends,
+  of-taken,
+}
+use Rattle.tt_log.proofs.Ordered.{
+  Ordered,
+  is-ordered,
+  step-ordered,
+  order-base,
+  order-moves,
+  order-walk,
+  order-doors,
+  order-ticks,
+  order-closing,
+  rising-not,
+}
 use Rattle.tt_log.proofs.Refusing.{table-snoc}
 
 -- ---- entries of a sender
@@ -75,7 +187,7 @@ drawing-none k f [] a = refl
 drawing-none k f (m ∷ ms) a =
     stamped-append k (map (entry_of f m) (take 2 m.waiting)) (drawing f ms)
     ∙ ap₂ (λ (xs ys : List (ℕ × Command)). xs ++ ys) (stamped-none k (map (entry_of f m) (take 2 m.waiting))
-        (entries-other k f m (take 2 m.waiting) a.0)) (drawing-none k f ms a.1)
+    (entries-other k f m (take 2 m.waiting) a.0)) (drawing-none k f ms a.1)
 
 pub numbers-other : (k : ℕ) (ms : List Member) → NotIn k (map (λ (m : Member). m.client) ms)
     → AllByRecursion (λ (m : Member). (m.client == k)
@@ -95,8 +207,8 @@ drawing-own j f m [] r there = absurd there
 drawing-own j f m (x ∷ xs) r (inl here) =
     let own : (x.client == m.client) ≡ true = eq-eqb x.client m.client (ap (λ (y : Member). y.client) here) in
     let rest : AllByRecursion (λ (n : Member). (n.client == m.client) ≡ false) xs =
-        numbers-other m.client xs (rising-not x.client m.client (map (λ (n : Member). n.client) xs)
-        (omega (arith, ap (λ (y : Member). y.client) here)) r.1) in
+    numbers-other m.client xs (rising-not x.client m.client (map (λ (n : Member). n.client) xs)
+    (omega (arith, ap (λ (y : Member). y.client) here)) r.1) in
     stamped-append m.client (map (entry_of f x) (take 2 x.waiting)) (drawing f xs)
     ∙ ap₂ (λ (ys zs : List (ℕ × Command)). ys ++ zs) (entries-own m.client f x (take 2 x.waiting) own) (drawing-none m.client f xs rest)
     ∙ append-nil (take 2 x.waiting) ∙ ap (λ (y : Member). take 2 y.waiting) here
@@ -105,7 +217,7 @@ drawing-own j f m (x ∷ xs) r (inr later) =
     let other : (x.client == m.client) ≡ false = ne_eqb x.client m.client (λ e. omega (arith, e, above)) in
     stamped-append m.client (map (entry_of f x) (take 2 x.waiting)) (drawing f xs)
     ∙ ap₂ (λ (ys zs : List (ℕ × Command)). ys ++ zs) (stamped-none m.client (map (entry_of f x) (take 2 x.waiting))
-        (entries-other m.client f x (take 2 x.waiting) other)) (drawing-own x.client f m xs r.1 later)
+    (entries-other m.client f x (take 2 x.waiting) other)) (drawing-own x.client f m xs r.1 later)
 
 -- ---- who is among changed members
 
@@ -187,11 +299,11 @@ put-live : (c : ℕ) (said : List (ℕ × Command)) (t : Table) (n m : Member) �
     → (m.conn ≡ c → n.waiting ≡ m.waiting) → Kept c said t
     → (x : Member) → Among x (put n t.members) → x.conn ≡ c → said ≡ stamped_of x.client t.journal ++ x.waiting
 put-live c said t n m on conn client waiting h x there at = elim (among-put n x t.members there) [
-  inl same ↦ (
-    let own : m.conn ≡ c = sym conn ∙ ap (λ (y : Member). y.conn) (sym same) ∙ at in
-    h.live m on own ∙ ap₂ (λ (k : ℕ) (ws : List (ℕ × Command)). stamped_of k t.journal ++ ws) (sym client) (sym (waiting own))
-        ∙ ap (λ (y : Member). stamped_of y.client t.journal ++ y.waiting) (sym same)
-  )
+  | inl same ↦ (
+      let own : m.conn ≡ c = sym conn ∙ ap (λ (y : Member). y.conn) (sym same) ∙ at in
+      h.live m on own ∙ ap₂ (λ (k : ℕ) (ws : List (ℕ × Command)). stamped_of k t.journal ++ ws) (sym client) (sym (waiting own))
+      ∙ ap (λ (y : Member). stamped_of y.client t.journal ++ y.waiting) (sym same)
+      )
   | inr other ↦ h.live x other.0 at
 ]
 
@@ -199,12 +311,15 @@ stamp-base : (c : ℕ) (said : List (ℕ × Command)) (o : Origin) (e : Event) �
 stamp-base c said o e quiet = record {
   still = λ t r h. (r, h);
   joins = λ t u v xs ys a b r h. let first = a r h in b first.0 first.1;
-  turns = λ k t m on may by r h. ((order-base o e).turns k t m on may by r, record {
-    live = λ x there at. put-live c said t (turned k t m) m on (turned-conn k t m) (turned-client k t m)
-        (λ own. turned-waiting k c e t m quiet own by) h x there at;
-    early = h.early;
-    senders = h.senders;
-  });
+  turns = λ k t m on may by r h. (
+    (order-base o e).turns k t m on may by r,
+    record {
+      live = λ x there at. put-live c said t (turned k t m) m on (turned-conn k t m) (turned-client k t m)
+          (λ own. turned-waiting k c e t m quiet own by) h x there at;
+      early = h.early;
+      senders = h.senders;
+    },
+  );
   tells_one = λ t m msg on talk r h. (r, h);
   tells_some = λ t to w there news r h. (r, h);
   tells_admins = λ t to msg there r h. (r, h);
@@ -212,21 +327,38 @@ stamp-base c said o e quiet = record {
 
 stamp-moves : (c : ℕ) (said : List (ℕ × Command)) (o : Origin) (e : Event) → Moves o e (KeepsStamps c said)
 stamp-moves c said o e = record {
-  moving = λ v t m on may r h. ((order-moves o e).moving v t m on may r, record {
-    live = λ x there at. put-live c said t (moved v t m) m on (moved-conn v t m) (moved-client v t m) (λ own. moved-waiting v t m) h x there
-        at;
-    early = h.early;
-    senders = h.senders;
-  });
+  moving = λ v t m on may r h. (
+    (order-moves o e).moving v t m on may r,
+    record {
+      live = λ x there at. put-live c said t (moved v t m) m on (moved-conn v t m) (moved-client v t m) (λ own. moved-waiting v t m) h x
+          there
+          at;
+      early = h.early;
+      senders = h.senders;
+    },
+  );
   recalls = λ t m on at r h. (r, h);
   waits_on = λ t conn n there r h. (r, h);
   stands = λ t m on r h. (r, record { live = h.live; early = h.early; senders = h.senders });
   cuts = λ t place r h. (r, record { live = h.live; early = h.early; senders = h.senders });
-  parts = λ t m on r h. ((order-moves o e).parts t m on r,
-      record { live = λ x there at. h.live x (among-filter (λ n. not (is_on m.conn n)) x t.members there) at; early = h.early; senders =
-      h.senders });
-  greets = λ t m on at r h. ((order-moves o e).greets t m on at r, record { live = λ x there own. put-live c said t _ m on refl refl
-      (λ own. refl) h x there own; early = h.early; senders = h.senders });
+  parts = λ t m on r h. (
+    (order-moves o e).parts t m on r,
+    record {
+      live = λ x there at. h.live x (among-filter (λ n. not (is_on m.conn n)) x t.members there) at;
+      early = h.early;
+      senders =
+          h.senders;
+    },
+  );
+  greets = λ t m on at r h. (
+    (order-moves o e).greets t m on at r,
+    record {
+      live = λ x there own. put-live c said t _ m on refl refl
+          (λ own. refl) h x there own;
+      early = h.early;
+      senders = h.senders;
+    },
+  );
 }
 
 stamp-walk : (c : ℕ) (said : List (ℕ × Command)) (o : Origin) (e : Event) → IsQuiet e c → Walk o e (KeepsStamps c said)
@@ -253,19 +385,23 @@ senders-below k es a = all-so (λ (e : Entry). e.sender ≤ k) (λ (e : Entry). 
 
 arrives-kept : (full : Bool) (c : ℕ) (said : List (ℕ × Command)) (t : Table) → Kept c said t
     → Kept c said (arrives full (counted_in t)).table
-arrives-kept true c said t h = record { live = h.live; early = λ above. h.early (omega (arith, above)); senders =
-    senders-later t.clients (t.clients + 1) t.journal (omega arith) h.senders }
+arrives-kept true c said t h = record {
+  live = h.live;
+  early = λ above. h.early (omega (arith, above));
+  senders =
+      senders-later t.clients (t.clients + 1) t.journal (omega arith) h.senders;
+}
 arrives-kept false c said t h =
     let n : Member = new_member (t.openings + 1) (t.clients + 1) t.frame in
     record {
       live = λ x there at. elim (among-last x n t.members there) [
-        inl old ↦ h.live x old at
+        | inl old ↦ h.live x old at
         | inr new ↦ (
-          let opened : t.openings + 1 ≡ c = ap (λ (y : Member). y.conn) new ∙ at in
-          h.early (omega (arith, opened)) ∙ ap (λ (xs : List (ℕ × Command)). xs ++ [])
-              (sym (stamped-none (t.clients + 1) t.journal (senders-below t.clients t.journal h.senders)))
-          ∙ ap (λ (y : Member). stamped_of y.client t.journal ++ y.waiting) new
-        )
+            let opened : t.openings + 1 ≡ c = ap (λ (y : Member). y.conn) new ∙ at in
+            h.early (omega (arith, opened)) ∙ ap (λ (xs : List (ℕ × Command)). xs ++ [])
+            (sym (stamped-none (t.clients + 1) t.journal (senders-below t.clients t.journal h.senders)))
+            ∙ ap (λ (y : Member). stamped_of y.client t.journal ++ y.waiting) new
+            )
       ];
       early = λ above. h.early (omega (arith, above));
       senders = senders-later t.clients (t.clients + 1) t.journal (omega arith) h.senders;
@@ -304,7 +440,7 @@ stamped-own t m r on =
     let high : 1 < m.client = number-above 1 m t.members r.clients on in
     stamped-append m.client (map (own_entry (t.top + 1)) t.own) (drawing (t.top + 1) t.members)
     ∙ ap (λ (xs : List (ℕ × Command)). xs ++ stamped_of m.client (drawing (t.top + 1) t.members))
-        (stamped-none m.client (map (own_entry (t.top + 1)) t.own) (own-other m.client (t.top + 1) t.own (omega (arith, high))))
+    (stamped-none m.client (map (own_entry (t.top + 1)) t.own) (own-other m.client (t.top + 1) t.own (omega (arith, high))))
     ∙ drawing-own 1 (t.top + 1) m t.members r.clients on
 
 take-then-drop : (n : ℕ) (xs : List (ℕ × Command)) → take n xs ++ drop n xs ≡ xs
@@ -332,13 +468,16 @@ run-kept false c said o t h = record { live = h.live; early = h.early; senders =
 
 stamp-ticks : (c : ℕ) (said : List (ℕ × Command)) (o : Origin) (e : Event) → Ticks o e (KeepsStamps c said)
 stamp-ticks c said o e = record {
-  stamping = λ t r h. ((order-ticks o e).stamping t r, record {
-    live = λ x there at. stamping-live c said t r h x there at;
-    early = h.early;
-    senders = all-append (λ (e : Entry). e.sender ≤ t.clients) t.journal (stamps t) h.senders
-        (all-append (λ (e : Entry). e.sender ≤ t.clients) (map (own_entry (t.top + 1)) t.own) (drawing (t.top + 1) t.members)
-            (own-senders (t.top + 1) t.clients t.own r.some) (drawing-senders (t.top + 1) t.clients t.members r.given));
-  });
+  stamping = λ t r h. (
+    (order-ticks o e).stamping t r,
+    record {
+      live = λ x there at. stamping-live c said t r h x there at;
+      early = h.early;
+      senders = all-append (λ (e : Entry). e.sender ≤ t.clients) t.journal (stamps t) h.senders
+          (all-append (λ (e : Entry). e.sender ≤ t.clients) (map (own_entry (t.top + 1)) t.own) (drawing (t.top + 1) t.members)
+          (own-senders (t.top + 1) t.clients t.own r.some) (drawing-senders (t.top + 1) t.clients t.members r.given));
+    },
+  );
   running = λ t b is r h. ((order-ticks o e).running t b is r, run-kept b c said o t h);
 }
 
@@ -372,7 +511,7 @@ silent-is-quiet : (e : Event) (c : ℕ) → speaks e c ≡ false → IsQuiet e c
 unfolding holds_command
 silent-is-quiet e c silent m company code number to text at (kind, body, is, said) =
     let yes : speaks (Packet m.conn kind body) c ≡ true = both-true (m.conn == c) _ (eq-eqb m.conn c at)
-        (ap (λ (x : Option GameMsg). holds_command x) said) in
+    (ap (λ (x : Option GameMsg). holds_command x) said) in
     absurd (cc (ap (λ (d : Event). speaks d c) is, yes, silent))
 
 none-allowed : (v : Verdict) → if_allowed v [] ≡ []
@@ -415,7 +554,8 @@ waits-kept c said t m w r on own h =
     let n : Member = record m { waiting = m.waiting ++ w ∷ [] } in
     record {
       live = λ x there at. elim (among-put n x t.members there) [
-        inl same ↦ ap (λ (ws : List (ℕ × Command)). ws ++ w ∷ []) (h.live m on own) ∙ append_assoc (stamped_of m.client t.journal) m.waiting
+        | inl same ↦ ap (λ (ws : List (ℕ × Command)). ws ++ w ∷ []) (h.live m on own) ∙ append_assoc (stamped_of m.client t.journal)
+            m.waiting
             (w ∷ []) ∙ ap (λ (y : Member). stamped_of y.client t.journal ++ y.waiting) (sym same)
         | inr other ↦ absurd (let is : (x.conn == m.conn) ≡ true = eq-eqb x.conn m.conn (at ∙ sym own) in let not_so : (x.conn == m.conn)
             ≡ false = other.1 in cc)
@@ -445,10 +585,10 @@ closing-kept c said o e t u d is h = by _ (record d.table { cost = d.table.cost 
 command-by : (v : Verdict) (c : ℕ) (said : List (ℕ × Command)) (o : Origin) (t : Table) (m : Member) (company code number to : ℕ)
     (text : List ℕ) → Ordered t → On t m → m.conn ≡ c → Kept c said t
     → Kept c (said ++ if_allowed v (for_company company (command_of code number to text)))
-        (by_verdict v o m (Some (ClientCommand company code number to text)) t).table
+    (by_verdict v o m (Some (ClientCommand company code number to text)) t).table
 command-by (Ends code) c said o t m company k number to text r on own h =
     subst (λ (ws : List (ℕ × Command)). Kept c ws (ends m code t).table) (sym (append-nil said)) (of-ends o Stop (KeepsStamps c said)
-        (stamp-walk c said o Stop (stop-quiet c)) t m code on r h).1
+    (stamp-walk c said o Stop (stop-quiet c)) t m code on r h).1
 command-by Allowed c said o t m company code number to text r on own h = by (command_of code number to text)
   where
     by : (x : Option Command) → Kept c (said ++ for_company company x) (where_some x (command_waits m company) t).table
@@ -459,7 +599,7 @@ named-by : (x : Option Member) (c : ℕ) (said : List (ℕ × Command)) (o : Ori
     (company code number to : ℕ) (text : List ℕ) → read_msg kind body ≡ Some (ClientCommand company code number to text) → member_of t c ≡ x
     → Ordered t → Kept c said t
     → Kept c (said ++ accepted_of o t x (read_msg kind body)) (to_named x (admin_of t c) (heard o (read_msg kind body))
-        (admin_hears o (read_admin kind body)) t).table
+    (admin_hears o (read_admin kind body)) t).table
 named-by None c said o t kind body company code number to text msg is r h =
     subst (λ (ws : List (ℕ × Command)). Kept c ws (where_some (admin_of t c) (admin_hears o (read_admin kind body)) t).table)
     (sym (append-nil said)) (by (admin_of t c))
@@ -470,7 +610,7 @@ named-by None c said o t kind body company code number to text msg is r h =
 named-by (Some m) c said o t kind body company code number to text msg is r h =
     let P : Option GameMsg → Type 0 = λ x. Kept c (said ++ accepted_of o t (Some m) x) (heard o x m t).table in
     subst P (sym msg) (command-by (judged o t m (Some (ClientCommand company code number to text))) c said o t m company code number to text
-        r (on-found t c m is) (found-on c t.members m is) h)
+    r (on-found t c m is) (found-on c t.members m is) h)
 
 -- what a packet of the connection brings where it is not taken
 untaken : (o : Origin) (t : Table) (c kind : ℕ) (body : List ℕ) → takes t (Packet c kind body) ≡ false
@@ -494,17 +634,17 @@ command-step : (b : Bool) (c : ℕ) (said : List (ℕ × Command)) (o : Origin) 
     (company code number to : ℕ) (text : List ℕ) → takes t (Packet c kind body) ≡ b → read_msg kind body
     ≡ Some (ClientCommand company code number to text) → Ordered t → Kept c said t
     → Kept c (said ++ if_so (true && not t.over) (accepted_of o t (member_of t c) (read_msg kind body)))
-        (where_ b (taken o (Packet c kind body)) t).table
+    (where_ b (taken o (Packet c kind body)) t).table
 command-step false c said o t kind body company code number to text is msg r h = subst (λ (ws : List (ℕ × Command)). Kept c ws t)
     (sym (append-nil said) ∙ ap (λ (ws : List (ℕ × Command)). said ++ ws) (sym (untaken o t c kind body is))) h
 command-step true c said o t kind body company code number to text is msg r h =
     let e : Event = Packet c kind body in
     let d : Deed = by_event o e t in
     let k : Kept c (said ++ accepted_of o t (member_of t c) (read_msg kind body)) d.table =
-        named-by (member_of t c) c said o t kind body company code number to text msg refl r h in
+    named-by (member_of t c) c said o t kind body company code number to text msg refl r h in
     let more : if_so (true && not t.over) (accepted_of o t (member_of t c) (read_msg kind body))
-        ≡ accepted_of o t (member_of t c) (read_msg kind body) =
-        ap (λ (b : Bool). if_so b (accepted_of o t (member_of t c) (read_msg kind body))) (going-of o t c kind body is) in
+    ≡ accepted_of o t (member_of t c) (read_msg kind body) =
+    ap (λ (b : Bool). if_so b (accepted_of o t (member_of t c) (read_msg kind body))) (going-of o t c kind body is) in
     subst (λ (ws : List (ℕ × Command)). Kept c (said ++ ws) (taken o e t).table) (sym more) (closing-kept c _ o e t d.table d refl k)
 
 read-command : (said : Option GameMsg) → holds_command said ≡ true → (company : ℕ) × (code : ℕ) × (number : ℕ) × (to : ℕ) × (text : List ℕ)
@@ -524,9 +664,9 @@ spoken-step c said o (Packet conn kind body) t is r h =
     let msg = read-command (read_msg kind body) both.1 in
     let own : conn ≡ c = eqb-true conn c both.0 in
     let P : ℕ → Type 0 = λ k. Kept c (said ++ if_so ((k == c) && not t.over) (accepted_of o t (member_of t k) (read_msg kind body)))
-        (stepped o t (Packet k kind body)) in
+    (stepped o t (Packet k kind body)) in
     subst P (sym own) (subst (λ (b : Bool). Kept c (said ++ if_so (b && not t.over) (accepted_of o t (member_of t c) (read_msg kind body)))
-        (stepped o t (Packet c kind body))) (sym (eq-eqb c c refl))
+    (stepped o t (Packet c kind body))) (sym (eq-eqb c c refl))
     (command-step (takes t (Packet c kind body)) c said o t kind body msg.0 msg.1 msg.2 msg.3 msg.4 refl msg.5 r h))
 spoken-step c said o (Open door peer) t is r h = absurd cc
 spoken-step c said o (Broken conn) t is r h = absurd cc
@@ -539,7 +679,7 @@ step-kept-by : (b : Bool) (c : ℕ) (said : List (ℕ × Command)) (o : Origin) 
 step-kept-by true c said o e t is r h = spoken-step c said o e t is r h
 step-kept-by false c said o e t is r h =
     subst (λ (ws : List (ℕ × Command)). Kept c ws (stepped o t e)) (sym (append-nil said) ∙ ap (λ (ws : List (ℕ × Command)). said ++ ws)
-        (sym (silent-accepted o t e c is))) (step-quiet c said o e t (silent-is-quiet e c is) r h)
+    (sym (silent-accepted o t e c is))) (step-quiet c said o e t (silent-is-quiet e c is) r h)
 
 from-kept : (c : ℕ) (o : Origin) (es : List Event) (t : Table) (said : List (ℕ × Command)) → Ordered t → Kept c said t
     → Kept c (said ++ accepted_from o t es c) (fold (stepped o) t es)
@@ -547,12 +687,16 @@ from-kept c o [] t said r h = subst (λ (ws : List (ℕ × Command)). Kept c ws 
 from-kept c o (e ∷ es) t said r h =
     let s : Table = stepped o t e in
     subst (λ (ws : List (ℕ × Command)). Kept c ws (fold (stepped o) s es)) (append_assoc said (accepted_by o t e c)
-        (accepted_from o s es c))
+    (accepted_from o s es c))
     (from-kept c o es s (said ++ accepted_by o t e c) (step-ordered o e t r) (step-kept-by (speaks e c) c said o e t refl r h))
 
 pub are-kept : (c : ℕ) (o : Origin) (es : List Event) → Kept c (accepted o es c) (table_of o es)
-are-kept c o es = from-kept c o es (first o) [] (is-ordered o []) (record { live = λ m there at. absurd there; early =
-    λ above. refl; senders = tt })
+are-kept c o es = from-kept c o es (first o) [] (is-ordered o []) (record {
+  live = λ m there at. absurd there;
+  early =
+      λ above. refl;
+  senders = tt;
+})
 
 pub live-stamped : (o : Origin) (es : List Event) (c : ℕ) (m : Member) → member_of (table_of o es) c ≡ Some m → accepted o es c
     ≡ stamped_of m.client (journal_of o es) ++ m.waiting

@@ -16,13 +16,51 @@ use Rattle.tt_log.specs.Reading.{settings, orders, order, lines, step_at, sets}
 use Rattle.tt_lines.proofs.Breaks.{has_no-cons, has_no-test}
 use Rattle.tt_log.proofs.FormLaws.{IsLeft, Each, sound, pick_sound, go, rest_found}
 use Rattle.tt_log.specs.declared.script.line.Line1.{Line1}
-use Rattle.tt_log.specs.declared.script.line.Line1.TheVariants.{Open, Side, Bytes, Shut, Tick, Stop, Join, Up, Down, Run, Pump, Do, Forge, Expect}
+use Rattle.tt_log.specs.declared.script.line.Line1.TheVariants.{
+  Open,
+  Side,
+  Bytes,
+  Shut,
+  Tick,
+  Stop,
+  Join,
+  Up,
+  Down,
+  Run,
+  Pump,
+  Do,
+  Forge,
+  Expect,
+}
 use Rattle.tt_log.specs.declared.script.setting.Setting.{Setting}
-use Rattle.tt_log.specs.declared.script.setting.Setting.TheVariants.{Seed, FrameFreq, SyncFreq, Clients, Init, PassLimit, Download, Join as JoinLimit, Lag, Cost, Pw, Admin}
+use Rattle.tt_log.specs.declared.script.setting.Setting.TheVariants.{
+  Seed,
+  FrameFreq,
+  SyncFreq,
+  Clients,
+  Init,
+  PassLimit,
+  Download,
+  Join as JoinLimit,
+  Lag,
+  Cost,
+  Pw,
+  Admin,
+}
 use Rattle.tt_log.specs.declared.script.step.Step.{Step}
 use Rattle.tt_log.specs.declared.script.step.Step.TheVariants.{Set, Saved, Line}
 use Rattle.tt_world.specs.declared.command.Code.{Code}
-use Rattle.tt_world.specs.declared.command.Code.TheVariants.{IncreaseLoan, DecreaseLoan, Give, PlaceSign, RenameSign, RenameCompany, RenamePresident, Pause, NewCompany}
+use Rattle.tt_world.specs.declared.command.Code.TheVariants.{
+  IncreaseLoan,
+  DecreaseLoan,
+  Give,
+  PlaceSign,
+  RenameSign,
+  RenameCompany,
+  RenamePresident,
+  Pause,
+  NewCompany,
+}
 
 -- ---- what is read is a line, and its text was read
 
@@ -116,10 +154,14 @@ lines_read = (
                       (
                         (λ x0 f0. (((tt, (f0, tt)), tt), refl)),
                         (
-                          (λ conn is w fits. pick_sound (orders conn) (λ step after. IsRead step (32 ∷ codes "do" ++ (32 ∷ decimal conn ++ after))) (orders_read conn is) w),
+                          (λ conn is w fits. pick_sound (orders conn) (λ step after. IsRead step (32 ∷ codes "do"
+                              ++ (32 ∷ decimal conn ++ after))) (orders_read conn is) w),
                           (
                             (λ x0 f0 x1 f1. (((tt, (f0, (f1, tt))), tt), refl)),
-                            ((λ content one. (((tt, (one, tt)), tt), ap (λ (t : List ℕ). 32 ∷ 61 ∷ 32 ∷ t) (sym (append-nil content)))), tt),
+                            (
+                              (λ content one. (((tt, (one, tt)), tt), ap (λ (t : List ℕ). 32 ∷ 61 ∷ 32 ∷ t) (sym (append-nil content)))),
+                              tt,
+                            ),
                           ),
                         ),
                       ),
@@ -146,33 +188,41 @@ read_back line step one e =
 -- ---- a line is read from its text
 
 -- the word that a line is known by
-known : (w left : List ℕ) → list_all (λ b. not (b == 32)) w ≡ true → IsLeft left → row_at (key ▸ λ v. pick lines v) (32 ∷ w ++ left) ≡ row_at (pick lines w) left
+known : (w left : List ℕ) → list_all (λ b. not (b == 32)) w ≡ true → IsLeft left → row_at (key ▸ λ v. pick lines v) (32 ∷ w
+    ++ left) ≡ row_at (pick lines w) left
 known w left one is = go key (λ v. pick lines v) w left (has_no-test 32 w one) is
 
-set_found : (w left : List ℕ) → list_all (λ b. not (b == 32)) w ≡ true → IsLeft left → row_at sets (32 ∷ w ++ left) ≡ row_at (pick settings w) left
+set_found : (w left : List ℕ) → list_all (λ b. not (b == 32)) w ≡ true → IsLeft left
+    → row_at sets (32 ∷ w ++ left) ≡ row_at (pick settings w) left
 set_found w left one is = go key (λ v. pick settings v) w left (has_no-test 32 w one) is
 
-setting_found : (setting : Setting) → AllByRecursion WordFits (setting_words setting) → step_at (step_text (Set setting)) ≡ Some (Set setting)
+setting_found : (setting : Setting) → AllByRecursion WordFits (setting_words setting)
+    → step_at (step_text (Set setting)) ≡ Some (Set setting)
 setting_found (Seed n) fits =
     known (codes "set") (32 ∷ codes "seed" ++ (32 ∷ decimal n ++ [])) refl refl ∙ set_found (codes "seed") (32 ∷ decimal n ++ []) refl refl
     ∙ go (number 0 4294967295) (λ n. end (Set (Seed n))) n [] fits.1.0 tt
 setting_found (FrameFreq n) fits =
-    known (codes "set") (32 ∷ codes "frame_freq" ++ (32 ∷ decimal n ++ [])) refl refl ∙ set_found (codes "frame_freq") (32 ∷ decimal n ++ []) refl refl
+    known (codes "set") (32 ∷ codes "frame_freq" ++ (32 ∷ decimal n ++ [])) refl refl ∙ set_found (codes "frame_freq") (32 ∷ decimal n
+    ++ []) refl refl
     ∙ go (number 0 64) (λ n. end (Set (FrameFreq n))) n [] fits.1.0 tt
 setting_found (SyncFreq n) fits =
-    known (codes "set") (32 ∷ codes "sync_freq" ++ (32 ∷ decimal n ++ [])) refl refl ∙ set_found (codes "sync_freq") (32 ∷ decimal n ++ []) refl refl
+    known (codes "set") (32 ∷ codes "sync_freq" ++ (32 ∷ decimal n ++ [])) refl refl ∙ set_found (codes "sync_freq") (32 ∷ decimal n
+    ++ []) refl refl
     ∙ go (number 1 1000) (λ n. end (Set (SyncFreq n))) n [] fits.1.0 tt
 setting_found (Clients n) fits =
-    known (codes "set") (32 ∷ codes "clients" ++ (32 ∷ decimal n ++ [])) refl refl ∙ set_found (codes "clients") (32 ∷ decimal n ++ []) refl refl
+    known (codes "set") (32 ∷ codes "clients" ++ (32 ∷ decimal n ++ [])) refl refl ∙ set_found (codes "clients") (32 ∷ decimal n
+    ++ []) refl refl
     ∙ go (number 1 255) (λ n. end (Set (Clients n))) n [] fits.1.0 tt
 setting_found (Init n) fits =
     known (codes "set") (32 ∷ codes "init" ++ (32 ∷ decimal n ++ [])) refl refl ∙ set_found (codes "init") (32 ∷ decimal n ++ []) refl refl
     ∙ go (number 1 65535) (λ n. end (Set (Init n))) n [] fits.1.0 tt
 setting_found (PassLimit n) fits =
-    known (codes "set") (32 ∷ codes "password" ++ (32 ∷ decimal n ++ [])) refl refl ∙ set_found (codes "password") (32 ∷ decimal n ++ []) refl refl
+    known (codes "set") (32 ∷ codes "password" ++ (32 ∷ decimal n ++ [])) refl refl ∙ set_found (codes "password") (32 ∷ decimal n
+    ++ []) refl refl
     ∙ go (number 1 65535) (λ n. end (Set (PassLimit n))) n [] fits.1.0 tt
 setting_found (Download n) fits =
-    known (codes "set") (32 ∷ codes "download" ++ (32 ∷ decimal n ++ [])) refl refl ∙ set_found (codes "download") (32 ∷ decimal n ++ []) refl refl
+    known (codes "set") (32 ∷ codes "download" ++ (32 ∷ decimal n ++ [])) refl refl ∙ set_found (codes "download") (32 ∷ decimal n
+    ++ []) refl refl
     ∙ go (number 1 65535) (λ n. end (Set (Download n))) n [] fits.1.0 tt
 setting_found (JoinLimit n) fits =
     known (codes "set") (32 ∷ codes "join" ++ (32 ∷ decimal n ++ [])) refl refl ∙ set_found (codes "join") (32 ∷ decimal n ++ []) refl refl
@@ -184,18 +234,22 @@ setting_found (Cost n) fits =
     known (codes "set") (32 ∷ codes "cost" ++ (32 ∷ decimal n ++ [])) refl refl ∙ set_found (codes "cost") (32 ∷ decimal n ++ []) refl refl
     ∙ go (number 64 1073741824) (λ n. end (Set (Cost n))) n [] fits.1.0 tt
 setting_found (Pw content) fits =
-    known (codes "set") (32 ∷ codes "pw" ++ (32 ∷ text_spelled content ++ [])) refl refl ∙ set_found (codes "pw") (32 ∷ text_spelled content ++ []) refl refl
+    known (codes "set") (32 ∷ codes "pw" ++ (32 ∷ text_spelled content ++ [])) refl refl
+    ∙ set_found (codes "pw") (32 ∷ text_spelled content ++ []) refl refl
     ∙ go (text 0 32) (λ content. end (Set (Pw content))) content [] fits.1.0 tt
 setting_found (Admin content) fits =
-    known (codes "set") (32 ∷ codes "admin" ++ (32 ∷ text_spelled content ++ [])) refl refl ∙ set_found (codes "admin") (32 ∷ text_spelled content ++ []) refl refl
+    known (codes "set") (32 ∷ codes "admin" ++ (32 ∷ text_spelled content ++ [])) refl refl
+    ∙ set_found (codes "admin") (32 ∷ text_spelled content ++ []) refl refl
     ∙ go (text 0 32) (λ content. end (Set (Admin content))) content [] fits.1.0 tt
 
 map_found : (map : List ℕ) → IsStep (Saved map) → step_at (step_text (Saved map)) ≡ Some (Saved map)
 map_found map fits =
-    known (codes "set") (32 ∷ codes "map" ++ (32 ∷ encode_lower map ++ [])) refl refl ∙ set_found (codes "map") (32 ∷ encode_lower map ++ []) refl refl
+    known (codes "set") (32 ∷ codes "map" ++ (32 ∷ encode_lower map ++ [])) refl refl ∙ set_found (codes "map") (32 ∷ encode_lower map
+    ++ []) refl refl
     ∙ go saved (λ map. end (Saved map)) map [] fits.1.1.0 tt
 
-order_found : (w left : List ℕ) (conn : ℕ) → list_all (λ b. not (b == 32)) w ≡ true → IsLeft left → row_at (key ▸ λ v. pick (orders conn) v) (32 ∷ w ++ left) ≡ row_at (pick (orders conn) w) left
+order_found : (w left : List ℕ) (conn : ℕ) → list_all (λ b. not (b == 32)) w ≡ true → IsLeft left
+    → row_at (key ▸ λ v. pick (orders conn) v) (32 ∷ w ++ left) ≡ row_at (pick (orders conn) w) left
 order_found w left conn one is = go key (λ v. pick (orders conn) v) w left (has_no-test 32 w one) is
 
 act_found : (conn : ℕ) (w left : List ℕ) → Fits any conn → list_all (λ b. not (b == 32)) w ≡ true → IsLeft left
@@ -209,7 +263,8 @@ act_found conn w left fits one is =
 abbrev told : ℕ → Code → ℕ → ℕ → List ℕ → Step
 told conn code n to content = Line (Do conn (record { code = code; number = n; to = to; text = content }))
 
-command_found : (conn : ℕ) (code : Code) (n to : ℕ) (content : List ℕ) → Fits any conn → AllByRecursion WordFits (words_by code n to content) → UsesAll code n to content
+command_found : (conn : ℕ) (code : Code) (n to : ℕ) (content : List ℕ) → Fits any conn
+    → AllByRecursion WordFits (words_by code n to content) → UsesAll code n to content
     → step_at (step_text (told conn code n to content)) ≡ Some (told conn code n to content)
 command_found conn IncreaseLoan n to content is fits uses =
     act_found conn (codes "loan") (32 ∷ decimal n ++ []) is refl refl
@@ -260,10 +315,15 @@ line_found (Tick n) fits =
     ∙ go (number 1 1000000) (λ n. end (Line (Tick n))) n [] fits.0.1.0 tt
 line_found Stop fits = known (codes "stop") [] refl tt
 line_found (Join name company password other) fits =
-    known (codes "join") (32 ∷ text_spelled name ++ (32 ∷ decimal company ++ (32 ∷ text_spelled password ++ (32 ∷ text_spelled other ++ [])))) refl refl
-    ∙ go (text 1 24) (λ name. (number 0 255) ▸ λ company. (text 0 32) ▸ λ password. (text 0 32) ▸ λ other. end (Line (Join name company password other))) name (32 ∷ decimal company ++ (32 ∷ text_spelled password ++ (32 ∷ text_spelled other ++ []))) fits.0.1.0 refl
-    ∙ go (number 0 255) (λ company. (text 0 32) ▸ λ password. (text 0 32) ▸ λ other. end (Line (Join name company password other))) company (32 ∷ text_spelled password ++ (32 ∷ text_spelled other ++ [])) fits.0.1.1.0 refl
-    ∙ go (text 0 32) (λ password. (text 0 32) ▸ λ other. end (Line (Join name company password other))) password (32 ∷ text_spelled other ++ []) fits.0.1.1.1.0 refl
+    known (codes "join") (32 ∷ text_spelled name ++ (32 ∷ decimal company ++ (32 ∷ text_spelled password ++ (32 ∷ text_spelled other
+    ++ [])))) refl refl
+    ∙ go (text 1 24) (λ name. (number 0 255) ▸ λ company. (text 0 32) ▸ λ password. (text 0 32) ▸ λ other. end
+    (Line (Join name company password other))) name (32 ∷ decimal company ++ (32 ∷ text_spelled password ++ (32 ∷ text_spelled other
+    ++ []))) fits.0.1.0 refl
+    ∙ go (number 0 255) (λ company. (text 0 32) ▸ λ password. (text 0 32) ▸ λ other. end (Line (Join name company password other))) company
+    (32 ∷ text_spelled password ++ (32 ∷ text_spelled other ++ [])) fits.0.1.1.0 refl
+    ∙ go (text 0 32) (λ password. (text 0 32) ▸ λ other. end (Line (Join name company password other))) password (32 ∷ text_spelled other
+    ++ []) fits.0.1.1.1.0 refl
     ∙ go (text 0 32) (λ other. end (Line (Join name company password other))) other [] fits.0.1.1.1.1.0 tt
 line_found (Up conn n) fits =
     known (codes "up") (32 ∷ decimal conn ++ (32 ∷ decimal n ++ [])) refl refl
@@ -286,7 +346,8 @@ line_found (Forge conn piece) fits =
     ∙ go (any) (λ conn. (hex) ▸ λ piece. end (Line (Forge conn piece))) conn (32 ∷ encode_lower piece ++ []) fits.0.1.0 refl
     ∙ go (hex) (λ piece. end (Line (Forge conn piece))) piece [] fits.0.1.1.0 tt
 line_found (Expect content) fits =
-    known (codes "=") (32 ∷ (content ++ [])) refl refl ∙ ap (λ (o : Option (List ℕ)). o >>= λ t. Some (Line (Expect t))) (rest_found (content ++ []))
+    known (codes "=") (32 ∷ (content ++ [])) refl refl ∙ ap (λ (o : Option (List ℕ)). o >>= λ t. Some (Line (Expect t)))
+    (rest_found (content ++ []))
     ∙ ap (λ (t : List ℕ). Some (Line (Expect t))) (append-nil content)
 
 -- a line is read from its text

@@ -1,5 +1,32 @@
 -- The value that a word spells: each form is read from its spelling, and from nothing else.
-use Rattle.std.proofs.Common.{◌≡◌, ◌≢◌, ℕ, ◌^◌, ◌<◌, ◌≤◌, List, [], ◌∷◌, length, Bool, true, false, ◌&&◌, cond, Result, Ok, Err, Option, Some, None, refl, sym, ap, ◌∙◌, arith}
+use Rattle.std.proofs.Common.{
+  ◌≡◌,
+  ◌≢◌,
+  ℕ,
+  ◌^◌,
+  ◌<◌,
+  ◌≤◌,
+  List,
+  [],
+  ◌∷◌,
+  length,
+  Bool,
+  true,
+  false,
+  ◌&&◌,
+  cond,
+  Result,
+  Ok,
+  Err,
+  Option,
+  Some,
+  None,
+  refl,
+  sym,
+  ap,
+  ◌∙◌,
+  arith,
+}
 use Rattle.std.specs.Prelude.{nat_le, nat_lt, IfSome, IfNone, codes}
 use Rattle.std.specs.Str.{bytes_eq}
 use Rattle.std.specs.Str.Parse.{digits_value}
@@ -36,7 +63,8 @@ pub number_found : (w : List ℕ) (n : ℕ) → w ≡ decimal n → n < 2 ^ 32 �
 unfolding number_in
 number_found w n is lt =
     let value : digits_value 10 (decimal n) ≡ n = digits_value-decimal own n (omega (arith, lt)) in
-    let test : (bytes_eq (decimal n) (decimal n) && nat_lt n (2 ^ 32)) ≡ true = both_and _ _ (same_bytes (decimal n)) (test_of_lt n (2 ^ 32) lt) in
+    let test : (bytes_eq (decimal n) (decimal n) && nat_lt n (2 ^ 32)) ≡ true =
+    both_and _ _ (same_bytes (decimal n)) (test_of_lt n (2 ^ 32) lt) in
     rw (is, value, test) refl
 
 pub number_back : (w : List ℕ) (n : ℕ) → number_in w ≡ Some n → (w ≡ decimal n) × (n < 2 ^ 32)
@@ -53,7 +81,8 @@ some_or_none : (o : Option ℕ) → ((n : ℕ) → o ≡ Some n → ⊥) → o �
 some_or_none None never = refl
 some_or_none (Some n) never = absurd (never n refl)
 
-pub number_is : (w : List ℕ) (r : Option ℕ) → IfSome r (λ n. w ≡ decimal n) → IfSome r (λ n. n < 2 ^ 32) → IfNone r ((n : ℕ) → n < 2 ^ 32 → w ≢ decimal n) → r ≡ number_in w
+pub number_is : (w : List ℕ) (r : Option ℕ) → IfSome r (λ n. w ≡ decimal n) → IfSome r (λ n. n < 2 ^ 32) → IfNone r ((n : ℕ) → n < 2 ^ 32
+    → w ≢ decimal n) → r ≡ number_in w
 number_is w (Some n) found small none = sym (number_found w n found small)
 number_is w None found small none = sym (some_or_none (number_in w) (λ n e. let back = number_back w n e in none n back.1 back.0))
 
@@ -67,10 +96,12 @@ within_back least most n m e =
     (got.1, le_of_test least n parts.0, le_of_test n most parts.1)
 
 pub too_low : (least most n : ℕ) → n < least → within least most n ≡ None
-too_low least most n low = if_none (nat_le least n && nat_le n most) n (λ e. let parts = and_parts (nat_le least n) (nat_le n most) e in let no = le_of_test least n parts.0 in omega (arith, no, low))
+too_low least most n low = if_none (nat_le least n && nat_le n most) n (λ e. let parts = and_parts (nat_le least n) (nat_le n most) e
+    in let no = le_of_test least n parts.0 in omega (arith, no, low))
 
 pub too_high : (least most n : ℕ) → most < n → within least most n ≡ None
-too_high least most n high = if_none (nat_le least n && nat_le n most) n (λ e. let parts = and_parts (nat_le least n) (nat_le n most) e in let no = le_of_test n most parts.1 in omega (arith, no, high))
+too_high least most n high = if_none (nat_le least n && nat_le n most) n (λ e. let parts = and_parts (nat_le least n) (nat_le n most) e
+    in let no = le_of_test n most parts.1 in omega (arith, no, high))
 
 -- ---- digits
 
@@ -80,10 +111,12 @@ ok_list a b e = cc
 pub hex_found : (w piece : List ℕ) → IsPiece piece → w ≡ encode_lower piece → hex_in w ≡ Some piece
 unfolding hex_in
 hex_found w piece fits is =
-    let test : (nat_lt 0 (length piece) && bytes_eq (encode_lower piece) (encode_lower piece)) ≡ true = both_and _ _ (test_of_lt 0 (length piece) fits.some) (same_bytes (encode_lower piece)) in
+    let test : (nat_lt 0 (length piece) && bytes_eq (encode_lower piece) (encode_lower piece)) ≡ true =
+    both_and _ _ (test_of_lt 0 (length piece) fits.some) (same_bytes (encode_lower piece)) in
     rw (is, decode_of-encode_lower piece fits.bytes, test) refl
 
-so_back : (w piece : List ℕ) (r : Result (List ℕ) FromHexError) → decode_of w ≡ r → spelled_so w r ≡ Some piece → IsPiece piece × (w ≡ encode_lower piece)
+so_back : (w piece : List ℕ) (r : Result (List ℕ) FromHexError) → decode_of w ≡ r → spelled_so w r ≡ Some piece → IsPiece piece
+    × (w ≡ encode_lower piece)
 so_back w piece (Err error) decoded e = absurd cc
 so_back w piece (Ok content) decoded e =
     let got = if_some (nat_lt 0 (length content) && bytes_eq (encode_lower content) w) content piece e in
@@ -109,7 +142,8 @@ hex_lost w none = no_bytes (hex_in w) (λ piece e. let back = hex_back w piece e
 not_dash : (b : ℕ) (content : List ℕ) → bytes_eq (encode_lower (b ∷ content)) (codes "-") ≡ false
 not_dash b content =
     elim (bytes_eq (encode_lower (b ∷ content)) (codes "-")) as (λ t. bytes_eq (encode_lower (b ∷ content)) (codes "-") ≡ t → t ≡ false) [
-      | true ↦ λ e. let is = (bytes_eq-Decides (encode_lower (b ∷ content)) (codes "-")).0 e in let long = ap length is in absurd (omega (arith, long, length-encode_with lower_digits (b ∷ content)))
+      | true ↦ λ e. let is = (bytes_eq-Decides (encode_lower (b ∷ content)) (codes "-")).0 e in let long =
+          ap length is in absurd (omega (arith, long, length-encode_with lower_digits (b ∷ content)))
       | false ↦ λ e. refl
     ] refl
 
@@ -124,7 +158,8 @@ spelled_piece : (w content : List ℕ) → IsPiece content → w ≡ encode_lowe
 spelled_piece w [] piece is = absurd (omega (arith, piece.some))
 spelled_piece w (b ∷ content) piece is = is
 
-text_by : (w content : List ℕ) (t : Bool) → bytes_eq w (codes "-") ≡ t → cond t (Some []) (hex_in w) ≡ Some content → IsBytes content × (w ≡ text_spelled content)
+text_by : (w content : List ℕ) (t : Bool) → bytes_eq w (codes "-") ≡ t → cond t (Some []) (hex_in w) ≡ Some content → IsBytes content
+    × (w ≡ text_spelled content)
 text_by w content true dash e =
     let empty : [] ≡ content = (if_some true [] content e).1 in
     let is = (bytes_eq-Decides w (codes "-")).0 dash in
@@ -140,7 +175,8 @@ text_back w content e = text_by w content (bytes_eq w (codes "-")) refl e
 pub text_within_found : (least most : ℕ) (content : List ℕ) → IsTextFrom least most content → text_within least most content ≡ Some content
 text_within_found least most content fits = rw (test_of_le least (length content) fits.some, fits.text) refl
 
-pub text_within_back : (least most : ℕ) (content kept : List ℕ) → text_within least most content ≡ Some kept → (content ≡ kept) × (least ≤ length content) × (is_text most content ≡ true)
+pub text_within_back : (least most : ℕ) (content kept : List ℕ) → text_within least most content ≡ Some kept → (content ≡ kept)
+    × (least ≤ length content) × (is_text most content ≡ true)
 text_within_back least most content kept e =
     let got = if_some (nat_le least (length content) && is_text most content) content kept e in
     let parts = and_parts (nat_le least (length content)) (is_text most content) got.0 in

@@ -1,6 +1,33 @@
 -- The one walk over the rules: a property of what a rule does (of the table before it, what it tells, and the table behind it)
 -- that holds of each part that rules are made of, and joins, holds of every event.
-use Rattle.std.proofs.Common.{◌≡◌, ◌⊎◌, inl, inr, ℕ, ◌+◌, ◌≤◌, ◌<◌, List, [], ◌∷◌, ◌++◌, refl, ap, sym, ◌∙◌, subst, true, false, Bool, Option, Some, None, arith, zero, suc}
+use Rattle.std.proofs.Common.{
+  ◌≡◌,
+  ◌⊎◌,
+  inl,
+  inr,
+  ℕ,
+  ◌+◌,
+  ◌≤◌,
+  ◌<◌,
+  List,
+  [],
+  ◌∷◌,
+  ◌++◌,
+  refl,
+  ap,
+  sym,
+  ◌∙◌,
+  subst,
+  true,
+  false,
+  Bool,
+  Option,
+  Some,
+  None,
+  arith,
+  zero,
+  suc,
+}
 use Rattle.std.specs.Prelude.{fold, position, ◌*◌, ◌==◌, drop, take, length, nat_lt, nat_le, map, find, filter, cond, ◌%◌, not, ◌&&◌, ◌||◌}
 use Rattle.std.specs.List.{AllByRecursion}
 use Rattle.std.proofs.lemmas.Bool.{eqb-true, leb-true}
@@ -9,7 +36,26 @@ use Rattle.tt_edge.specs.declared.event.Event.{Event}
 use Rattle.tt_edge.specs.declared.event.Event.TheVariants.{Open, Packet, Broken, Shut, Tick, Stop}
 use Rattle.tt_edge.specs.Event.{is_tick, is_open, event_cost}
 use Rattle.tt_game.specs.declared.message.GameMsg.{GameMsg}
-use Rattle.tt_game.specs.declared.message.GameMsg.TheVariants.{ClientJoin, ClientGameInfo, ClientGamePassword, ClientCompanyPassword, ClientGetmap, ClientMapOk, ClientAck, ClientCommand, ClientChat, ClientSetName, ClientSetPassword, ClientMove, ClientError, ClientQuit, ServerError, ServerJoin, ServerWait, ServerChat}
+use Rattle.tt_game.specs.declared.message.GameMsg.TheVariants.{
+  ClientJoin,
+  ClientGameInfo,
+  ClientGamePassword,
+  ClientCompanyPassword,
+  ClientGetmap,
+  ClientMapOk,
+  ClientAck,
+  ClientCommand,
+  ClientChat,
+  ClientSetName,
+  ClientSetPassword,
+  ClientMove,
+  ClientError,
+  ClientQuit,
+  ServerError,
+  ServerJoin,
+  ServerWait,
+  ServerChat,
+}
 use Rattle.tt_admin.specs.declared.message.AdminMsg.{AdminMsg}
 use Rattle.tt_admin.specs.declared.message.AdminMsg.TheVariants as admins
 use Rattle.tt_world.specs.declared.command.Command.{Command}
@@ -25,7 +71,24 @@ use Rattle.tt_log.specs.declared.deed.What.TheVariants.{Msg, ToAdmin, MapBegin, 
 use Rattle.tt_log.specs.Origin.{Origin, at_frame}
 use Rattle.tt_log.specs.Admin.{Admin, is_automatic, client_updates, chat_updates, command_updates}
 use Rattle.tt_log.specs.Member.{Member, is_in, is_playing, is_welcomed}
-use Rattle.tt_log.specs.Table.{Table, member_of, admin_of, is_on, is_admin_on, with_member, without_member, digest_of, with_digest, now_in, playing, welcomed, living_in, downloader, first_loading, if_loading}
+use Rattle.tt_log.specs.Table.{
+  Table,
+  member_of,
+  admin_of,
+  is_on,
+  is_admin_on,
+  with_member,
+  without_member,
+  digest_of,
+  with_digest,
+  now_in,
+  playing,
+  welcomed,
+  living_in,
+  downloader,
+  first_loading,
+  if_loading,
+}
 use Rattle.tt_log.specs.Deed.{Deed, ◌▹◌, where_, where_some, becomes, tells, tells_what, tells_each, tells_playing}
 use Rattle.tt_log.specs.Watching.{watching, sees_welcome, sees_active, sees_change, sees_chat, sees_stamp, sees_frame}
 use Rattle.tt_log.specs.Names.{given_name}
@@ -33,13 +96,118 @@ use Rattle.tt_log.specs.Frames.{tells_fresh, tells_again, tells_frame_by, tells_
 use Rattle.tt_log.specs.Queue.{asks, begins, begins_for, begins_where, waits, moved_up, left_place, leaves_queue}
 use Rattle.tt_log.specs.Judged.{judged, founder}
 use Rattle.tt_log.specs.Ending.{Farewell, Quitting, Failing, tells_farewell, sees_farewell, leaves, ends}
-use Rattle.tt_log.specs.PacketRules.{client_info, first_company, welcomes, company_step_by, company_step, password_step_by, joins, enters, becomes_active, asks_company, new_company, acknowledged, acknowledges, has_caught_up, closed_token, chats, is_in_scope, renames, moves, does}
-use Rattle.tt_log.specs.Desk.{admin_opens, admin_leaves, admin_ends, admin_limited, each_admin_limited, admins_limited, admins_told, is_slow, is_quit}
-use Rattle.tt_log.specs.Tick.{stamps, drawn, tells_entries, stamped, frame_runs_by, frame_runs, foundings, all_moved, founders_moved, synced, next_pieces, finishes_map, mapped, left_of, late, limited, each_limited, timed, frame_follows, ticked}
-use Rattle.tt_log.specs.Events.{read_msg, read_admin, opened, by_verdict, heard, to_named, on_conn, by_event, charged, stops, closed, shut_down, taken, takes, deed, stepped, last_frame, is_stop}
+use Rattle.tt_log.specs.PacketRules.{
+  client_info,
+  first_company,
+  welcomes,
+  company_step_by,
+  company_step,
+  password_step_by,
+  joins,
+  enters,
+  becomes_active,
+  asks_company,
+  new_company,
+  acknowledged,
+  acknowledges,
+  has_caught_up,
+  closed_token,
+  chats,
+  is_in_scope,
+  renames,
+  moves,
+  does,
+}
+use Rattle.tt_log.specs.Desk.{
+  admin_opens,
+  admin_leaves,
+  admin_ends,
+  admin_limited,
+  each_admin_limited,
+  admins_limited,
+  admins_told,
+  is_slow,
+  is_quit,
+}
+use Rattle.tt_log.specs.Tick.{
+  stamps,
+  drawn,
+  tells_entries,
+  stamped,
+  frame_runs_by,
+  frame_runs,
+  foundings,
+  all_moved,
+  founders_moved,
+  synced,
+  next_pieces,
+  finishes_map,
+  mapped,
+  left_of,
+  late,
+  limited,
+  each_limited,
+  timed,
+  frame_follows,
+  ticked,
+}
+use Rattle.tt_log.specs.Events.{
+  read_msg,
+  read_admin,
+  opened,
+  by_verdict,
+  heard,
+  to_named,
+  on_conn,
+  by_event,
+  charged,
+  stops,
+  closed,
+  shut_down,
+  taken,
+  takes,
+  deed,
+  stepped,
+  last_frame,
+  is_stop,
+}
 use Rattle.tt_log.proofs.Lists.{Among, Within, NotIn, IsOther, found-among, map-filter-not, all-of-filter, all-drop, all-filter}
 use Rattle.tt_log.proofs.Crew.{On, OnAdmin, on-found, found-on, put-among, admin_conns}
-use Rattle.tt_log.proofs.Changes.{step, Allows, allows, Says, By, Change, wants_password, is_let_in, gets_token, gets_frame, answers, plays, commands, has_name, goes_to, founds, gets_pieces, has_all, Move, queues, begins_map, loads, Asks, May, turned, moved, words_behind, turned_in, steps_with, IsTalk, IsNews, turned-conn, moved-conn}
+use Rattle.tt_log.proofs.Changes.{
+  step,
+  Allows,
+  allows,
+  Says,
+  By,
+  Change,
+  wants_password,
+  is_let_in,
+  gets_token,
+  gets_frame,
+  answers,
+  plays,
+  commands,
+  has_name,
+  goes_to,
+  founds,
+  gets_pieces,
+  has_all,
+  Move,
+  queues,
+  begins_map,
+  loads,
+  Asks,
+  May,
+  turned,
+  moved,
+  words_behind,
+  turned_in,
+  steps_with,
+  IsTalk,
+  IsNews,
+  turned-conn,
+  moved-conn,
+}
 
 -- ---- the tables of a tick
 
@@ -196,7 +364,7 @@ module _ (o : Origin) (e : Event) (P : Table → List Step → Table → Type 0)
     of-frames (m ∷ ms) t =
         let d : Deed = where_some (member_of t m.conn) tells_frame t in
         of-then t d (frames_told ms) (of-some (member_of t m.conn) tells_frame t (λ n is. of-frame t n (on-found t m.conn n is)))
-            (of-frames ms d.table)
+        (of-frames ms d.table)
 
     -- ---- the moves of the queue, where it holds of their parts
 
@@ -206,7 +374,7 @@ module _ (o : Origin) (e : Event) (P : Table → List Step → Table → Type 0)
       of-moved-up zero (conn ∷ conns) t in_queue =
           let d : Deed = begins conn t in
           of-then t d (moved_up 1 conns) (of-some (member_of t conn) begins_where t (λ m is. of-where (is_in MapWait m) (begins_for m) t
-              (λ waiting. moves.moving begins_map t m (on-found t conn m is) (eqb-true (rank m.status) 5 waiting))))
+          (λ waiting. moves.moving begins_map t m (on-found t conn m is) (eqb-true (rank m.status) 5 waiting))))
           (of-moved-up 1 conns d.table (begun-within (member_of t conn) conns t (λ c h. (in_queue c h).1)))
       of-moved-up (suc place) (conn ∷ conns) t in_queue =
           of-then t (waits conn (suc place) t) (moved_up (suc (suc place)) conns) (moves.waits_on t conn _ (λ c h. ((in_queue c h).0, tt)))
@@ -227,7 +395,7 @@ module _ (o : Origin) (e : Event) (P : Table → List Step → Table → Type 0)
           let e : Deed = d ▹ where_ (is_welcomed m) (tells_farewell farewell m) in
           of-then t e (leaves_queue m.conn)
           (of-then t d (where_ (is_welcomed m) (tells_farewell farewell m)) (moves.parts t m on)
-              (of-where (is_welcomed m) (tells_farewell farewell m) d.table (λ is. of-farewell farewell m d.table)))
+          (of-where (is_welcomed m) (tells_farewell farewell m) d.table (λ is. of-farewell farewell m d.table)))
           (of-leaves-queue m.conn e.table)
 
       pub of-asks : (t : Table) (m : Member) → On t m → rank m.status ≡ 4 → Of t (asks m t)
@@ -268,7 +436,7 @@ module _ (o : Origin) (e : Event) (P : Table → List Step → Table → Type 0)
         let c : Change = is_let_in name asked in
         let u : Table = turned_in c t m in
         w.base.joins t u u _ _ (w.base.joins t u u _ _ (w.base.turns c t m on may tt) (of-playing w.base u (client_info (turned c t m)) tt))
-            (of-watched w.base client_updates _ u)
+        (of-watched w.base client_updates _ u)
 
     of-company : (digest : Option (List ℕ)) (t : Table) (m : Member) (name : List ℕ) (asked : ℕ) → On t m → Asks o t m name asked
         → Of t (company_step_by digest o (record m { name = name; asked = asked }) t)
@@ -286,11 +454,11 @@ module _ (o : Origin) (e : Event) (P : Table → List Step → Table → Type 0)
         let to : List ℕ = filter (λ c. not (c == m.conn)) (playing t) in
         let others : Within to (playing t) = λ c h. all-filter (IsOther c) (λ x. not (x == m.conn)) (playing t) h in
         let told : P t (step to (Msg (ServerJoin m.client)) ∷ []) u =
-            w.base.joins t t u _ _ (w.base.tells_some t to (Msg (ServerJoin m.client)) others tt) (w.base.turns plays t m on at tt) in
+        w.base.joins t t u _ _ (w.base.tells_some t to (Msg (ServerJoin m.client)) others tt) (w.base.turns plays t m on at tt) in
         let seen : P t (step to (Msg (ServerJoin m.client)) ∷ step (watching client_updates u) (ToAdmin (admins.ServerClientJoin m.client))
-            ∷ []) u = w.base.joins t u u _ _ told (of-watched w.base client_updates _ u) in
+        ∷ []) u = w.base.joins t u u _ _ told (of-watched w.base client_updates _ u) in
         w.base.joins t u _ _ _ seen (of-where w.base (m.asked == founder) (asks_company (turned plays t m)) u
-            (λ is. w.orders u (new_company (turned plays t m)) (turned plays t m, on-turned w.base plays t m on, refl) still))
+        (λ is. w.orders u (new_company (turned plays t m)) (turned plays t m, on-turned w.base plays t m on, refl) still))
 
     acked-status : (frame token : ℕ) (m : Member) → (acknowledged frame token m).status ≡ m.status
     acked-status frame token m = by (token == 0)
@@ -311,21 +479,21 @@ module _ (o : Origin) (e : Event) (P : Table → List Step → Table → Type 0)
         let u : Table = turned_in c t m in
         w.base.joins t u _ _ _ (w.base.turns c t m on allowed said) (of-where w.base (has_caught_up frame t m) (becomes_active n) u
         (λ yes. of-active u n (on-turned w.base c t m on) (ap rank (acked-status frame token m)
-            ∙ eqb-true (rank m.status) 8 (first-true (is_in PreActive m) (nat_le t.frame (frame + 74)) yes))
-            (ap (λ (d : Event). is_tick d) said.2)))
+        ∙ eqb-true (rank m.status) 8 (first-true (is_in PreActive m) (nat_le t.frame (frame + 74)) yes))
+        (ap (λ (d : Event). is_tick d) said.2)))
 
     of-chats : (t : Table) (client scope to : ℕ) (text : List ℕ) → Of t (chats client scope to text t)
     of-chats t client scope to text =
         w.base.joins t t t _ _ (w.base.tells_some t _ (Msg (ServerChat client scope text))
-            (λ c h. map-filter-not (λ (m : Member). m.conn) is_playing (is_in_scope scope to) c t.members h) tt)
-            (of-watched w.base chat_updates _ t)
+        (λ c h. map-filter-not (λ (m : Member). m.conn) is_playing (is_in_scope scope to) c t.members h) tt)
+        (of-watched w.base chat_updates _ t)
 
     of-renames : (t : Table) (m : Member) (name : List ℕ) → On t m → Allows o t m (ClientSetName name) → Of t (renames m name t)
     of-renames t m name on allowed =
         let c : Change = has_name name in
         let u : Table = turned_in c t m in
         w.base.joins t u u _ _ (w.base.joins t u u _ _ (w.base.turns c t m on allowed tt) (of-playing w.base u _ tt))
-            (of-watched w.base client_updates _ u)
+        (of-watched w.base client_updates _ u)
 
     of-moves : (c : Change) (t : Table) (m : Member) (company : ℕ) → On t m → May o t m c → By e m c → turned_in c t m
         ≡ with_member (record m { company = company }) t → steps_with c o t m ≡ [] → Of t (moves m company t)
@@ -342,7 +510,7 @@ module _ (o : Origin) (e : Event) (P : Table → List Step → Table → Type 0)
     pub of-does : (t : Table) (m : Member) (msg : GameMsg) → On t m → Allows o t m msg → Says e m msg → Of t (does o m msg t)
     of-does t m (ClientJoin revision grf name company) on a says =
         of-password o.setup.password t m (given_name t m.conn name) company on
-            (inr (eqb-true (rank m.status) 0 a.permits, (revision, grf, name, refl, a)))
+        (inr (eqb-true (rank m.status) 0 a.permits, (revision, grf, name, refl, a)))
     of-does t m ClientGameInfo on a says = w.base.tells_one t m _ on tt
     of-does t m (ClientGamePassword digest) on a says = of-company (digest_of t m.asked) t m m.name m.asked on
         (asked-before t m 2 (eqb-true (rank m.status) 2 a.permits) (omega arith) (omega arith))
@@ -353,7 +521,7 @@ module _ (o : Origin) (e : Event) (P : Table → List Step → Table → Type 0)
     of-does t m (ClientAck frame token) on a says = of-acknowledges t m frame token on a says
     of-does t m (ClientCommand company code number to text) on a says =
         of-some w.base (command_of code number to text) _ t (λ command is. w.base.turns (commands company code number to text command) t m
-            on (is, a) says)
+        on (is, a) says)
     of-does t m (ClientChat scope to text) on a says = of-chats t m.client scope to text
     of-does t m (ClientSetName name) on a says = of-renames t m name on a
     of-does t m (ClientSetPassword digest) on a says = w.locks t m digest on a
@@ -402,7 +570,7 @@ module _ (o : Origin) (e : Event) (P : Table → List Step → Table → Type 0)
         let d : Deed = where_some (admin_of t a.conn) (admin_limited o) t in
         of-then w.base t d (each_admin_limited o admins)
         (of-some w.base (admin_of t a.conn) (admin_limited o) t (λ b is. of-where w.base (is_slow o t.frame b) (admin_ends b 17) t
-            (λ slow. of-admin-ends t b 17 (found-among (is_admin_on a.conn) b t.admins is))))
+        (λ slow. of-admin-ends t b 17 (found-among (is_admin_on a.conn) b t.admins is))))
         (of-admins-limited admins d.table)
 
     -- ---- the steps of a tick behind the frame
@@ -414,7 +582,7 @@ module _ (o : Origin) (e : Event) (P : Table → List Step → Table → Type 0)
         let d : Deed = where_some (find (λ m. m.client == f.0) t.members) rule t in
         of-then w.base t d (all_moved fs)
         (of-some w.base (find (λ m. m.client == f.0) t.members) rule t (λ m is. of-moves (founds f.1) t m f.1
-            (found-among (λ m. m.client == f.0) m t.members is) tt tt refl refl))
+        (found-among (λ m. m.client == f.0) m t.members is) tt tt refl refl))
         (of-all-moved fs d.table)
 
     loading-is : (x : Option Member) (m : Member) → if_loading x ≡ Some m → (x ≡ Some m) × (rank m.status ≡ 6)
@@ -438,7 +606,7 @@ module _ (o : Origin) (e : Event) (P : Table → List Step → Table → Type 0)
         let n : Member = turned c t m in
         let u : Table = turned_in c t m in
         w.base.joins t u _ _ _ (w.base.turns c t m on at tt) (of-where w.base (not (nat_lt (4 * 1400) (length left))) (finishes_map n) u
-            (λ all. w.base.turns has_all u n (on-turned w.base c t m on) at tt))
+        (λ all. w.base.turns has_all u n (on-turned w.base c t m on) at tt))
 
     of-each-limited : (ms : List Member) (t : Table) → Of t (each_limited o ms t)
     of-each-limited [] t = w.base.still t
@@ -446,7 +614,7 @@ module _ (o : Origin) (e : Event) (P : Table → List Step → Table → Type 0)
         let d : Deed = where_some (member_of t m.conn) (limited o) t in
         of-then w.base t d (each_limited o ms)
         (of-some w.base (member_of t m.conn) (limited o) t (λ n is. of-some w.base (late o.setup t.frame n) (ends n) t
-            (λ code late. of-ends t n code (on-found t m.conn n is))))
+        (λ code late. of-ends t n code (on-found t m.conn n is))))
         (of-each-limited ms d.table)
 
     of-synced : (t : Table) → Of t (synced o t)
@@ -485,7 +653,7 @@ module _ (o : Origin) (e : Event) (P : Table → List Step → Table → Type 0)
     of-packet : (conn kind : ℕ) (body : List ℕ) (t : Table) → e ≡ Packet conn kind body → Of t (by_event o (Packet conn kind body) t)
     of-packet conn kind body t is =
         of-conn conn _ _ t (λ m on at. of-heard (read_msg kind body) t m on (is-packet (read_msg kind body) kind body m refl (is
-            ∙ ap (λ (c : ℕ). Packet c kind body) (sym at)))) (λ a on. w.base.still t)
+        ∙ ap (λ (c : ℕ). Packet c kind body) (sym at)))) (λ a on. w.base.still t)
 
     -- an event of a connection, or a stop
     of-event-by : (d : Event) (t : Table) → e ≡ d → is_tick d ≡ false → is_open d ≡ false → Of t (by_event o d t)
@@ -544,7 +712,7 @@ module _ (o : Origin) (e : Event) (P : Table → List Step → Table → Type 0)
           let c : Deed = b ▹ sees_frame in
           let pb : Of t b = of-then w.base t a (frame_runs o) (of-stamped t) (of-runs a.table) in
           of-then w.base t c (frame_follows (living_in o t) (left_of o t) o) (of-then w.base t b sees_frame pb (w.base.still b.table))
-              (of-follows (living_in o t) (left_of o t) c.table)
+          (of-follows (living_in o t) (left_of o t) c.table)
 
       of-any-by : Doors → (d : Event) (t : Table) → e ≡ d → Of t (by_event o d t)
       of-any-by doors Tick t is = of-ticked t

@@ -18,7 +18,7 @@ opened_token token t m = record m { told = t.top; token = token; token_frame = t
 abbrev pub tells_fresh : Member → Table → Deed
 tells_fresh m t = let token = fresh_token t.tokens in
     tells (m.conn ∷ []) (ServerFrame t.frame t.top token) (with_member (opened_token token t m)
-        (record t { tokens = next_random t.tokens }))
+    (record t { tokens = next_random t.tokens }))
 
 -- FRAME with the token 0, which is none
 abbrev pub tells_again : Member → Table → Deed

@@ -50,8 +50,15 @@ is_loading m = is_in MapWait m || is_in Map m || is_in DoneMap m
 
 -- what a verdict looks at of it
 abbrev pub standing_of : Member → Standing
-standing_of m = record { status = m.status; company = m.company; waiting = length m.waiting; acked = m.acked; told = m.told; token =
-    m.token }
+standing_of m = record {
+  status = m.status;
+  company = m.company;
+  waiting = length m.waiting;
+  acked = m.acked;
+  told = m.told;
+  token =
+      m.token;
+}
 
 -- a connection that was just opened; an unnamed member has the name `?`, and is in no company
 abbrev pub new_member : ℕ → ℕ → ℕ → Member

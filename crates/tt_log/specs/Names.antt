@@ -14,8 +14,11 @@ numbered name i = name ++ codes " #" ++ decimal i
 -- the first free one of `name #i`, `name #i+1` and so on; among one more than there are members one is free
 abbrev pub first_free_name : Table → ℕ → List ℕ → ℕ → ℕ → List ℕ
 first_free_name t conn name i zero = numbered name i
-first_free_name t conn name i (suc n) = elim (is_taken t conn (numbered name i)) [ true ↦ first_free_name t conn name
-    (i + 1) n | false ↦ numbered name i ]
+first_free_name t conn name i (suc n) = elim (is_taken t conn (numbered name i)) [
+  | true ↦ first_free_name t conn name
+      (i + 1) n
+  | false ↦ numbered name i
+]
 
 -- the name that a member on this connection gets where it wants one
 abbrev pub given_name : Table → ℕ → List ℕ → List ℕ

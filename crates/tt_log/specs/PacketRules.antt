@@ -1,7 +1,52 @@
 -- What each packet does that is allowed.
-use Rattle.std.specs.Prelude.{ℕ, ◌+◌, min, Bool, not, ◌&&◌, ◌||◌, ◌==◌, nat_le, cond, List, [], ◌∷◌, ◌++◌, map, filter, length, Option, Some, None}
+use Rattle.std.specs.Prelude.{
+  ℕ,
+  ◌+◌,
+  min,
+  Bool,
+  not,
+  ◌&&◌,
+  ◌||◌,
+  ◌==◌,
+  nat_le,
+  cond,
+  List,
+  [],
+  ◌∷◌,
+  ◌++◌,
+  map,
+  filter,
+  length,
+  Option,
+  Some,
+  None,
+}
 use Rattle.tt_game.specs.declared.message.GameMsg.{GameMsg}
-use Rattle.tt_game.specs.declared.message.GameMsg.TheVariants.{ClientJoin, ClientGameInfo, ClientGamePassword, ClientCompanyPassword, ClientGetmap, ClientMapOk, ClientAck, ClientCommand, ClientChat, ClientSetName, ClientSetPassword, ClientMove, ClientError, ClientQuit, ServerGameInfo, ServerNeedGamePassword, ServerNeedCompanyPassword, ServerWelcome, ServerJoin, ServerCommand, ServerChat, ServerClientInfo, ServerMove}
+use Rattle.tt_game.specs.declared.message.GameMsg.TheVariants.{
+  ClientJoin,
+  ClientGameInfo,
+  ClientGamePassword,
+  ClientCompanyPassword,
+  ClientGetmap,
+  ClientMapOk,
+  ClientAck,
+  ClientCommand,
+  ClientChat,
+  ClientSetName,
+  ClientSetPassword,
+  ClientMove,
+  ClientError,
+  ClientQuit,
+  ServerGameInfo,
+  ServerNeedGamePassword,
+  ServerNeedCompanyPassword,
+  ServerWelcome,
+  ServerJoin,
+  ServerCommand,
+  ServerChat,
+  ServerClientInfo,
+  ServerMove,
+}
 use Rattle.tt_world.specs.declared.command.Code.TheVariants.{NewCompany}
 use Rattle.tt_world.specs.declared.command.Command.{Command}
 use Rattle.tt_world.specs.declared.command.Entry.{Entry}
@@ -43,7 +88,7 @@ first_company asked = cond (asked == founder) spectator asked
 abbrev pub welcomes : Origin → Member → Table → Deed
 welcomes o m t = let in_ = record (now_in Authorized t m) { company = first_company m.asked } in
     tells (m.conn ∷ []) (ServerWelcome m.client o.setup.seed o.setup.id) (with_member in_ t) ▹ tells_playing (client_info in_)
-        ▹ sees_welcome in_
+    ▹ sees_welcome in_
 
 -- the company step: a company with a password asks for it
 abbrev pub company_step_by : Option (List ℕ) → Origin → Member → Table → Deed
@@ -73,7 +118,7 @@ joins o m name company t = password_step o (record m { name = given_name t m.con
 abbrev pub enters : Member → Table → Deed
 enters m t = let in_ = record (now_in PreActive t m) { acked = m.map_frame; told = t.top } in
     tells_each m.conn (map client_info (welcomed t)) (with_member in_ t) ▹ tells_what (m.conn ∷ []) (Entries m.map_frame) ▹ tells_fresh in_
-        ▹ leaves_queue m.conn
+    ▹ leaves_queue m.conn
 
 -- a company for a member that asked for a new one, on the server's own list
 abbrev pub new_company : Member → Command
@@ -86,7 +131,7 @@ asks_company m t = becomes (record t { own = t.own ++ new_company m ∷ [] })
 abbrev pub becomes_active : Member → Table → Deed
 becomes_active m t = let in_ = now_in Active t m in
     tells (filter (λ c. not (c == m.conn)) (playing t)) (ServerJoin m.client) (with_member in_ t) ▹ sees_active in_
-        ▹ where_ (m.asked == founder) (asks_company in_)
+    ▹ where_ (m.asked == founder) (asks_company in_)
 
 -- whether an acknowledged frame makes a member ACTIVE
 abbrev pub has_caught_up : ℕ → Table → Member → Bool

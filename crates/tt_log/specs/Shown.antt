@@ -1,5 +1,25 @@
 -- What a stream shows a client: which message it permits where, and what is made of it. Both ends stand on this one table.
-use Rattle.std.specs.Prelude.{ℕ, ◌+◌, Bool, true, false, not, ◌==◌, nat_le, cond, if◌then◌else◌, List, [], ◌∷◌, ◌++◌, fold, length, Option, Some, None}
+use Rattle.std.specs.Prelude.{
+  ℕ,
+  ◌+◌,
+  Bool,
+  true,
+  false,
+  not,
+  ◌==◌,
+  nat_le,
+  cond,
+  if◌then◌else◌,
+  List,
+  [],
+  ◌∷◌,
+  ◌++◌,
+  fold,
+  length,
+  Option,
+  Some,
+  None,
+}
 use Rattle.std.specs.Result.{result_ok}
 use Rattle.tt_frame.specs.Packet.{Packet, size_of}
 use Rattle.tt_frame.specs.Stream.{End, rest_of, bad_size}
@@ -9,7 +29,31 @@ use Rattle.tt_lockstep.specs.Told.{Told}
 use Rattle.tt_lockstep.specs.Dialog.{Dialog}
 use Rattle.tt_lockstep.specs.Shown as lockstep
 use Rattle.tt_game.specs.declared.message.GameMsg.{GameMsg}
-use Rattle.tt_game.specs.declared.message.GameMsg.TheVariants.{ServerFull, ServerBanned, ServerError, ServerGameInfo, ServerCheckNewgrfs, ServerNeedGamePassword, ServerNeedCompanyPassword, ServerWelcome, ServerWait, ServerMapBegin, ServerMapSize, ServerMapData, ServerMapDone, ServerJoin, ServerFrame, ServerSync, ServerCommand, ServerChat, ServerClientInfo, ServerMove, ServerErrorQuit, ServerQuit, ServerShutdown}
+use Rattle.tt_game.specs.declared.message.GameMsg.TheVariants.{
+  ServerFull,
+  ServerBanned,
+  ServerError,
+  ServerGameInfo,
+  ServerCheckNewgrfs,
+  ServerNeedGamePassword,
+  ServerNeedCompanyPassword,
+  ServerWelcome,
+  ServerWait,
+  ServerMapBegin,
+  ServerMapSize,
+  ServerMapData,
+  ServerMapDone,
+  ServerJoin,
+  ServerFrame,
+  ServerSync,
+  ServerCommand,
+  ServerChat,
+  ServerClientInfo,
+  ServerMove,
+  ServerErrorQuit,
+  ServerQuit,
+  ServerShutdown,
+}
 use Rattle.tt_world.specs.declared.command.Command.{Command}
 use Rattle.tt_world.specs.declared.command.Entry.{Entry}
 use Rattle.tt_world.specs.World.{WorldState}
@@ -60,8 +104,13 @@ whole_map false frame come = told.Stray
 
 -- an entry, where its code is known
 abbrev pub entry_told : Option Command → ℕ → ℕ → ℕ → Told WorldState Entry
-entry_told (Some command) company frame sender = told.Command (record { frame = frame; sender = sender; company = company; command =
-    command })
+entry_told (Some command) company frame sender = told.Command (record {
+  frame = frame;
+  sender = sender;
+  company = company;
+  command =
+      command;
+})
 entry_told None company frame sender = told.Stray
 
 -- before the welcome

@@ -1,5 +1,26 @@
 -- The server's table: all that the rules speak of, but for the world and bytes.
-use Rattle.std.specs.Prelude.{ℕ, Bool, false, not, ◌==◌, ◌||◌, cond, List, [], ◌∷◌, ◌++◌, map, filter, find, length, Option, Some, None, is_some, option_map}
+use Rattle.std.specs.Prelude.{
+  ℕ,
+  Bool,
+  false,
+  not,
+  ◌==◌,
+  ◌||◌,
+  cond,
+  List,
+  [],
+  ◌∷◌,
+  ◌++◌,
+  map,
+  filter,
+  find,
+  length,
+  Option,
+  Some,
+  None,
+  is_some,
+  option_map,
+}
 use Rattle.tt_world.specs.declared.command.Command.{Command}
 use Rattle.tt_world.specs.declared.command.Entry.{Entry}
 use Rattle.tt_world.specs.World.{WorldState}
@@ -129,5 +150,7 @@ option_list (Option.Some x) = x ∷ []
 
 -- the table in which the company has this digest, or none
 abbrev pub with_digest : ℕ → Option (List ℕ) → Table → Table
-with_digest company digest t = record t { digests = filter (λ (d : ℕ × List ℕ). not (d.0 == company)) t.digests
-    ++ option_list (option_map (λ (d : List ℕ). (company, d)) digest) }
+with_digest company digest t = record t {
+  digests = filter (λ (d : ℕ × List ℕ). not (d.0 == company)) t.digests
+      ++ option_list (option_map (λ (d : List ℕ). (company, d)) digest);
+}

@@ -4,7 +4,26 @@ use Rattle.tt_edge.specs.declared.event.Event.{Event}
 use Rattle.tt_edge.specs.declared.event.Event.TheVariants.{Tick}
 use Rattle.tt_world.specs.Setup.{plain}
 use Rattle.tt_log.specs.Origin.{Origin}
-use Rattle.tt_rows.specs.Words.{made_from, opens, ann, bob, cid, spectates, founds, asks_for_map, has_loaded, acknowledges, borrows, repays, gives, places_sign, renames_sign, renames_company, renames_president, orders}
+use Rattle.tt_rows.specs.Words.{
+  made_from,
+  opens,
+  ann,
+  bob,
+  cid,
+  spectates,
+  founds,
+  asks_for_map,
+  has_loaded,
+  acknowledges,
+  borrows,
+  repays,
+  gives,
+  places_sign,
+  renames_sign,
+  renames_company,
+  renames_president,
+  orders,
+}
 
 -- Seventeen commands for a company that is none: the first one ends it.
 abbrev pub seventeen_commands : List Event

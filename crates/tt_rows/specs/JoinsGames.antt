@@ -4,7 +4,19 @@ use Rattle.tt_edge.specs.declared.event.Event.{Event}
 use Rattle.tt_edge.specs.declared.event.Event.TheVariants.{Broken, Shut, Tick}
 use Rattle.tt_world.specs.Setup.{plain}
 use Rattle.tt_log.specs.Origin.{Origin}
-use Rattle.tt_rows.specs.Words.{made_from, opens, ann, bob, joins, spectates, asks_what_game, gives_password, asks_for_map, has_loaded, says}
+use Rattle.tt_rows.specs.Words.{
+  made_from,
+  opens,
+  ann,
+  bob,
+  joins,
+  spectates,
+  asks_what_game,
+  gives_password,
+  asks_for_map,
+  has_loaded,
+  says,
+}
 
 -- A bad size ends its own connection alone.
 abbrev pub two_joins_one_broken : List Event

@@ -19,8 +19,10 @@ loop-step-preserved c =
       (
         at,
         c.in_default.ensures.setup ∙ ap (λ (s : Setup). setup_with s step) kept.1 ∙ sym (fold-append setup_with plain steps (step ∷ [])),
-        c.in_default.ensures.saved ∙ ap (λ (t : List ℕ). t ++ map_in_step step) kept.2 ∙ ap (λ (t : List ℕ). saved_in steps ++ t) (sym (append-nil (map_in_step step))) ∙ sym (flat_map-append map_in_step steps (step ∷ [])),
-        c.in_default.ensures.lines ∙ ap (λ (t : List Line1). t ++ line_in step) kept.3 ∙ ap (λ (t : List Line1). lines_in steps ++ t) (sym (append-nil (line_in step))) ∙ sym (flat_map-append line_in steps (step ∷ [])),
+        c.in_default.ensures.saved ∙ ap (λ (t : List ℕ). t ++ map_in_step step) kept.2 ∙ ap (λ (t : List ℕ). saved_in steps
+            ++ t) (sym (append-nil (map_in_step step))) ∙ sym (flat_map-append map_in_step steps (step ∷ [])),
+        c.in_default.ensures.lines ∙ ap (λ (t : List Line1). t ++ line_in step) kept.3 ∙ ap (λ (t : List Line1). lines_in steps
+            ++ t) (sym (append-nil (line_in step))) ∙ sym (flat_map-append line_in steps (step ∷ [])),
       ),
     )
 

@@ -7,7 +7,8 @@ pub returns-then-byte-eq32-clause-front : goal.returns-then-byte-eq32-clause-fro
 returns-then-byte-eq32-clause-front c = (front_at c.args.text.now c.loop-i.i c.loop-i-test.true c.loop-i.invariant c.if-byte-eq32.true).0
 
 pub returns-then-byte-eq32-clause-behind : goal.returns-then-byte-eq32-clause-behind
-returns-then-byte-eq32-clause-behind c = rw add-one (front_at c.args.text.now c.loop-i.i c.loop-i-test.true c.loop-i.invariant c.if-byte-eq32.true).1
+returns-then-byte-eq32-clause-behind c =
+    rw add-one (front_at c.args.text.now c.loop-i.i c.loop-i-test.true c.loop-i.invariant c.if-byte-eq32.true).1
 
 pub returns-clause-front : goal.returns-clause-front
 returns-clause-front c =
