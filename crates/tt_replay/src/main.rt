@@ -2,7 +2,7 @@
 //! the one that it expects, and `show` packets in words.
 //!
 //! It does nothing but hand its words, standard input and standard output to `replay_main`, whose contract says which
-//! exit status comes when and what is written. docs/PROTOCOL.md tells scripts, lists, reports and statuses.
+//! exit status comes when and what is written. docs/SCRIPTS.md tells scripts, lists, reports and statuses.
 #![tactic(auto)]
 
 mod expecting;
