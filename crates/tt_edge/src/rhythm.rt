@@ -40,7 +40,11 @@ fn next_look(since: u64) -> u64
     }
     let place = (since - (PERIOD - EARLY)) % PERIOD;
     let looking = if since < 2 * PERIOD { PATIENT } else { BRIEF };
-    if place < looking { LOOK } else { PERIOD - place }
+    if place < looking {
+        LOOK
+    } else {
+        PERIOD - place
+    }
 }
 
 /// When a link was told something at a tick, as it takes it.
@@ -53,7 +57,9 @@ pub struct Rhythm {
 
 /// The microseconds of a time.
 fn micros(time: Duration) -> u64 {
-    time.as_secs().saturating_mul(1_000_000).saturating_add(u64::from(time.subsec_micros()))
+    time.as_secs()
+        .saturating_mul(1_000_000)
+        .saturating_add(u64::from(time.subsec_micros()))
 }
 
 impl Rhythm {
