@@ -1,5 +1,5 @@
 -- What the calls of a listener and of a ticker do.
-use Rattle.std.specs.Prelude.{◌≡◌, ℕ, ◌+◌, ◌-◌, List, [], ◌∷◌, Option, Some, None}
+use Rattle.std.specs.Prelude.{◌≡◌, ℕ, ◌+◌, List, [], ◌∷◌, Option, Some, None}
 use Rattle.tt_edge.specs.declared.event.Peer.{Peer}
 use Rattle.tt_edge.specs.declared.listener.Accepted.{Accepted}
 use Rattle.tt_edge.specs.declared.listener.Accepted.TheVariants as accepted

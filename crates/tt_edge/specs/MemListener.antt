@@ -1,5 +1,5 @@
 -- What a listener in memory has to show.
-use Rattle.std.specs.Prelude.{◌≡◌, ℕ, List, [], ◌∷◌}
+use Rattle.std.specs.Prelude.{◌≡◌, ℕ, List, ◌∷◌}
 use Rattle.tt_edge.specs.Agenda.{Calls}
 use Rattle.tt_edge.specs.declared.event.Peer.{Peer}
 use Rattle.tt_edge.specs.declared.listener.Accepted.{Accepted}

@@ -6,7 +6,7 @@ use crate::event::Peer;
 use crate::link::{Link, LinkGot, LinkWrote};
 use crate::listener::{Accepted, Listener, Served};
 use crate::rhythm::Rhythm;
-use libc::net::{POLLIN, poll};
+use libc::net::{POLLIN, listen, poll};
 use libc::types::pollfd;
 use std::io::{self, Error, ErrorKind, Read, Write};
 use std::net::{SocketAddr, TcpListener, TcpStream};
@@ -15,6 +15,10 @@ use std::time::{Clock, Duration};
 
 /// How many milliseconds a write, an accept, and a read that found bytes wait at most.
 const WAIT: u64 = 50;
+
+/// How many connections may wait to be accepted: all links of a server may come at once, and one that finds no room tries again
+/// only after a second.
+const WAITING: i32 = 1024;
 
 /// Whether an error only says that nothing came, or could go, yet.
 fn is_idle(error: &Error) -> bool {
@@ -169,6 +173,8 @@ pub struct TcpDoor<R> {
 impl<R: Clock + Copy> TcpDoor<R> {
     /// A handle on this socket, with the clock that its links are to go by.
     pub fn new(clock: R, listener: TcpListener) -> io::Result<TcpDoor<R>> {
+        // A socket that listens already takes the new number; where it doesn't, the old one stands.
+        let _ = listen(listener.as_raw_fd(), WAITING);
         // The socket's receive timeout governs `accept` too; std names it for streams alone.
         let same = TcpStream::from(OwnedFd::from(listener.try_clone()?));
         same.set_read_timeout(Some(Duration::from_millis(WAIT)))?;

@@ -1,16 +1,15 @@
 -- The parts of all workers together.
-use Rattle.std.proofs.Common.{◌≡◌, ℕ, ◌+◌, ◌<◌, List, [], ◌∷◌, ◌++◌, length, refl, sym, ap, ◌∙◌, subst, arith}
+use Rattle.std.proofs.Common.{◌≡◌, ℕ, ◌+◌, List, [], ◌∷◌, ◌++◌, length, refl, sym, ap, ◌∙◌, subst, arith}
 use Rattle.std.specs.Prelude.{map, All, slice_index_or}
 use mathlib.Core.List.{IsPrefix}
 use Rattle.std.proofs.lemmas.List.{get_or-map}
 use Rattle.tt_edge.specs.declared.event.Event.{Event}
 use Rattle.tt_room.specs.declared.pass.Pass.{Pass}
 use Rattle.tt_room.specs.declared.pass.Room.{Room}
-use Rattle.tt_room.specs.History.{Stands, below, times, total}
+use Rattle.tt_room.specs.History.{Stands, times, total}
 use Rattle.tt_room.specs.Passes.{seen, mine}
-use Rattle.tt_room.specs.Closing.{Closes}
-use Rattle.tt_workers.specs.Working.{CoreView, DoorView, TickView, Gathers, Works}
-use Rattle.tt_workers.specs.Gathered.{IsGathered, Gathering}
+use Rattle.tt_workers.specs.Working.{CoreView, DoorView, TickView, Gathers}
+use Rattle.tt_workers.specs.Gathered.{Gathering}
 use Rattle.tt_workers.specs.declared.working.Worker.{Worker}
 
 total_map : {A B : Type 0} (f : B → ℕ) (g : A → B) (xs : List A) → total f (map g xs) ≡ total (λ x. f (g x)) xs

@@ -8,7 +8,6 @@ use Rattle.tt_edge.specs.declared.event.Event.TheVariants as event
 use Rattle.tt_edge.specs.declared.ticker.Beat.{Beat}
 use Rattle.tt_edge.specs.declared.ticker.Beat.TheVariants as beat
 use Rattle.tt_edge.specs.Told.{Adds}
-use Rattle.tt_edge.specs.Link.{Rises}
 use Rattle.tt_edge.specs.Listener.{TickCounts, told_by}
 use Rattle.tt_room.specs.declared.pass.Pass.{Pass}
 use Rattle.tt_room.specs.Passes.{mine}

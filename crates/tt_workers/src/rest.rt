@@ -5,7 +5,7 @@ use std::time::{Clock, Duration};
 
 /// How many milliseconds a worker rests for each worker that there is: so about as many are awake at any time, however many
 /// there are.
-const EACH: u64 = 2;
+const EACH: u64 = 3;
 
 /// Where workers rest. A worker that met somebody wakes one that rests: more may come.
 pub struct Rest {

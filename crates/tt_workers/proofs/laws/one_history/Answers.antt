@@ -1,5 +1,3 @@
-use Rattle.std.proofs.Common.{List, ℕ}
-use Rattle.tt_edge.specs.declared.event.Event.{Event}
 use Rattle.tt_room.specs.Passes.{start_of}
 use Rattle.tt_workers.specs.Telling.{link_now}
 use Rattle.tt_workers.specs.Working.{core_view, door_view, tick_view}

@@ -1,8 +1,6 @@
-use Rattle.std.proofs.Common.{◌≡◌, ℕ, List, ◌++◌, sym, subst}
-use mathlib.Core.List.{IsPrefix}
-use Rattle.tt_edge.specs.declared.event.Event.{Event}
+use Rattle.std.proofs.Common.{sym, subst}
 use Rattle.tt_edge.specs.declared.event.Door.TheVariants.{Main, Side}
-use Rattle.tt_room.specs.Passes.{start_of, seen}
+use Rattle.tt_room.specs.Passes.{start_of}
 use Rattle.tt_workers.specs.Telling.{LinkNow, link_now}
 use Rattle.tt_workers.specs.Working.{Gathers, core_view, door_view, tick_view}
 use Rattle.tt_workers.specs.declared.working.Role.{Role}

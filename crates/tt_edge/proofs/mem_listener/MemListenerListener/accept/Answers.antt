@@ -1,4 +1,4 @@
-use Rattle.std.proofs.Common.{rules, ◌≡◌, ◌<◌, sym, subst, length, arith}
+use Rattle.std.proofs.Common.{rules, ◌<◌, sym, subst, length}
 use Rattle.tt_edge.specs.MemLink.{IsFreshLink}
 use Rattle.tt_edge.specs.declared.event.Peer.{Peer}
 use Rattle.tt_edge.specs.declared.mem_link.MemLink.{MemLink}
