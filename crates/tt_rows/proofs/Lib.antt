@@ -1,0 +1,5 @@
+pub mod TokensComputed
+pub mod SavedComputed
+pub mod EnteringComputed
+pub mod PlayingComputed
+pub mod LastingComputed
