@@ -3,3 +3,4 @@ pub mod SavedComputed
 pub mod EnteringComputed
 pub mod PlayingComputed
 pub mod LastingComputed
+pub mod StreamsComputed

@@ -11,3 +11,4 @@ pub mod SavedGames
 pub mod EnteringGames
 pub mod PlayingGames
 pub mod LastingGames
+pub mod StreamsGames

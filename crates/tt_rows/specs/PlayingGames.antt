@@ -39,7 +39,7 @@ moves_and_digests = record {
   frames = (2, 2);
 }
 
--- The word is told in each frame, whether or not a further frame is permitted, and before the founder has moved no one.
+-- The word is told in each frame, whether or not a further one is permitted, and behind the move of a founder.
 abbrev pub sync_each_frame : Game
 sync_each_frame = record {
   origin = made_from (record plain { frame_freq = 3; sync_freq = 1 });

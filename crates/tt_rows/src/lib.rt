@@ -14,6 +14,7 @@ mod playing;
 mod saved;
 mod shown;
 mod steps;
+mod streams;
 mod talks;
 mod tokens;
 
@@ -48,6 +49,7 @@ pub use steps::{
     makes_no_such_company, makes_quits_at_once, makes_shut_untold, makes_stranger_ends_unheard,
     makes_told_of_the_game, makes_welcomed_and_quiet,
 };
+pub use streams::streams_show;
 pub use talks::{
     makes_chats, makes_company_password, makes_cost_met, makes_cost_reached, makes_moves,
     makes_quits_and_errors, makes_renamed, makes_stopped,
