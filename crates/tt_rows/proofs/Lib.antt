@@ -4,3 +4,4 @@ pub mod EnteringComputed
 pub mod PlayingComputed
 pub mod LastingComputed
 pub mod StreamsComputed
+pub mod MapsComputed

@@ -12,3 +12,4 @@ pub mod EnteringGames
 pub mod PlayingGames
 pub mod LastingGames
 pub mod StreamsGames
+pub mod MapsGames

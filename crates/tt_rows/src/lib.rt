@@ -10,6 +10,7 @@ mod entering;
 mod joins;
 mod lasting;
 mod limits;
+mod maps;
 mod playing;
 mod saved;
 mod shown;
@@ -35,6 +36,7 @@ pub use limits::{
     makes_late_behind_101_ticks, makes_limits_of_map, makes_limits_of_time,
     makes_quiet_for_100_ticks,
 };
+pub use maps::maps_come_to;
 pub use playing::plays_come_to;
 pub use saved::saved_games_come_to;
 pub use shown::{
