@@ -160,11 +160,11 @@ stamped-append k (x ∷ xs) ys = by (x.sender == k) (stamped-append k xs ys)
     by true same = ap (λ (rest : List (ℕ × Command)). (x.company, x.command) ∷ rest) same
     by false same = same
 
-stamped-none : (k : ℕ) (es : List Entry) → AllByRecursion (λ (e : Entry). (e.sender == k) ≡ false) es → stamped_of k es ≡ []
+pub stamped-none : (k : ℕ) (es : List Entry) → AllByRecursion (λ (e : Entry). (e.sender == k) ≡ false) es → stamped_of k es ≡ []
 stamped-none k [] a = refl
 stamped-none k (e ∷ es) a = rw a.0 (stamped-none k es a.1)
 
-own-other : (k f : ℕ) (cs : List Command) → 2 ≤ k → AllByRecursion (λ (e : Entry). (e.sender == k) ≡ false) (map (own_entry f) cs)
+pub own-other : (k f : ℕ) (cs : List Command) → 2 ≤ k → AllByRecursion (λ (e : Entry). (e.sender == k) ≡ false) (map (own_entry f) cs)
 own-other k f [] l = tt
 own-other k f (c ∷ cs) l = (ne_eqb 1 k (λ e. omega (arith, e, l)), own-other k f cs l)
 
@@ -195,7 +195,7 @@ pub numbers-other : (k : ℕ) (ms : List Member) → NotIn k (map (λ (m : Membe
 numbers-other k [] a = tt
 numbers-other k (m ∷ ms) a = (a.0, numbers-other k ms a.1)
 
-number-above : (j : ℕ) (m : Member) (ms : List Member) → AreRising j (map (λ (n : Member). n.client) ms) → Among m ms → j < m.client
+pub number-above : (j : ℕ) (m : Member) (ms : List Member) → AreRising j (map (λ (n : Member). n.client) ms) → Among m ms → j < m.client
 number-above j m [] r there = absurd there
 number-above j m (x ∷ xs) r (inl here) = subst (λ (y : Member). j < y.client) here r.0
 number-above j m (x ∷ xs) r (inr later) = let a : j < x.client = r.0 in let b : x.client < m.client =
@@ -228,7 +228,7 @@ among-put-by false n x y rest is (inl here) = inr (inl here, ap (λ (z : Member)
 among-put-by b n x y rest is (inr (inl same)) = inl same
 among-put-by b n x y rest is (inr (inr later)) = inr (inr later.0, later.1)
 
-among-put : (n x : Member) (ms : List Member) → Among x (put n ms) → (x ≡ n) ⊎ (Among x ms × ((x.conn == n.conn) ≡ false))
+pub among-put : (n x : Member) (ms : List Member) → Among x (put n ms) → (x ≡ n) ⊎ (Among x ms × ((x.conn == n.conn) ≡ false))
 among-put n x [] there = absurd there
 among-put n x (y ∷ ys) (inl here) = among-put-by (y.conn == n.conn) n x y ys refl (inl here)
 among-put n x (y ∷ ys) (inr later) = among-put-by (y.conn == n.conn) n x y ys refl (inr (among-put n x ys later))
@@ -239,16 +239,16 @@ among-filter-by true x y few all go (inl here) = inl here
 among-filter-by true x y few all go (inr later) = inr (go later)
 among-filter-by false x y few all go there = inr (go there)
 
-among-filter : (p : Member → Bool) (x : Member) (ms : List Member) → Among x (filter p ms) → Among x ms
+pub among-filter : (p : Member → Bool) (x : Member) (ms : List Member) → Among x (filter p ms) → Among x ms
 among-filter p x [] there = absurd there
 among-filter p x (y ∷ ys) there = among-filter-by (p y) x y (filter p ys) ys (λ later. among-filter p x ys later) there
 
-among-drawn : (x : Member) (ms : List Member) → Among x (map drawn ms) → (m : Member) × Among m ms × (x ≡ drawn m)
+pub among-drawn : (x : Member) (ms : List Member) → Among x (map drawn ms) → (m : Member) × Among m ms × (x ≡ drawn m)
 among-drawn x [] there = absurd there
 among-drawn x (y ∷ ys) (inl here) = (y, inl refl, sym here)
 among-drawn x (y ∷ ys) (inr later) = let a = among-drawn x ys later in (a.0, inr a.1, a.2)
 
-among-last : (x n : Member) (ms : List Member) → Among x (ms ++ n ∷ []) → Among x ms ⊎ (n ≡ x)
+pub among-last : (x n : Member) (ms : List Member) → Among x (ms ++ n ∷ []) → Among x ms ⊎ (n ≡ x)
 among-last x n [] (inl here) = inr here
 among-last x n [] (inr later) = absurd later
 among-last x n (y ∷ ys) (inl here) = inl (inl here)
@@ -435,7 +435,7 @@ drawing-senders f k [] a = tt
 drawing-senders f k (m ∷ ms) a = all-append (λ (e : Entry). e.sender ≤ k) (map (entry_of f m) (take 2 m.waiting)) (drawing f ms)
     (entry-senders f k m (take 2 m.waiting) a.0) (drawing-senders f k ms a.1)
 
-stamped-own : (t : Table) (m : Member) → Ordered t → On t m → stamped_of m.client (stamps t) ≡ take 2 m.waiting
+pub stamped-own : (t : Table) (m : Member) → Ordered t → On t m → stamped_of m.client (stamps t) ≡ take 2 m.waiting
 stamped-own t m r on =
     let high : 1 < m.client = number-above 1 m t.members r.clients on in
     stamped-append m.client (map (own_entry (t.top + 1)) t.own) (drawing (t.top + 1) t.members)
@@ -443,7 +443,7 @@ stamped-own t m r on =
     (stamped-none m.client (map (own_entry (t.top + 1)) t.own) (own-other m.client (t.top + 1) t.own (omega (arith, high))))
     ∙ drawing-own 1 (t.top + 1) m t.members r.clients on
 
-take-then-drop : (n : ℕ) (xs : List (ℕ × Command)) → take n xs ++ drop n xs ≡ xs
+pub take-then-drop : (n : ℕ) (xs : List (ℕ × Command)) → take n xs ++ drop n xs ≡ xs
 take-then-drop zero xs = refl
 take-then-drop (suc n) [] = refl
 take-then-drop (suc n) (x ∷ xs) = ap (λ (ys : List (ℕ × Command)). x ∷ ys) (take-then-drop n xs)
@@ -680,6 +680,10 @@ step-kept-by true c said o e t is r h = spoken-step c said o e t is r h
 step-kept-by false c said o e t is r h =
     subst (λ (ws : List (ℕ × Command)). Kept c ws (stepped o t e)) (sym (append-nil said) ∙ ap (λ (ws : List (ℕ × Command)). said ++ ws)
     (sym (silent-accepted o t e c is))) (step-quiet c said o e t (silent-is-quiet e c is) r h)
+
+pub step-kept : (c : ℕ) (said : List (ℕ × Command)) (o : Origin) (e : Event) (t : Table) → Ordered t → Kept c said t
+    → Kept c (said ++ accepted_by o t e c) (stepped o t e)
+step-kept c said o e t r h = step-kept-by (speaks e c) c said o e t refl r h
 
 from-kept : (c : ℕ) (o : Origin) (es : List Event) (t : Table) (said : List (ℕ × Command)) → Ordered t → Kept c said t
     → Kept c (said ++ accepted_from o t es c) (fold (stepped o) t es)

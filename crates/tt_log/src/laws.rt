@@ -27,6 +27,7 @@ ghost use Rattle.tt_log.specs.Origin.{IsJournal, IsOrigin, Origin, above, folded
 ghost use Rattle.tt_lockstep.specs.Journal.{AreAbove, AreUpTo};
 ghost use Rattle.tt_lockstep.specs.Shown as lockstep;
 ghost use Rattle.tt_log.specs.Shown.{shown, things_in};
+ghost use Rattle.tt_world.specs.declared.command.Command.{Command};
 ghost use Rattle.tt_world.specs.declared.command.Entry.{Entry};
 ghost use Rattle.tt_log.specs.Table.{Table, admin_of, is_live, member_of};
 ghost use Rattle.tt_log.specs.Told.{heard, heard_from, is_entry, sent, told};
@@ -153,6 +154,9 @@ pub fn members_are_marked()
 pub fn stamped_once()
     ensures clients { (o : Origin) (es : List Event) (conn : ℕ) (m : Member) → member_of (table_of o es) conn ≡ Some m
         → accepted o es conn ≡ stamped_of m.client (journal_of o es) ++ m.waiting }
+    // Whatever comes behind, also its end: what was stamped of it stays the front of what was accepted of its connection.
+    ensures fronts { (o : Origin) (es fs : List Event) (conn : ℕ) (m : Member) → member_of (table_of o es) conn ≡ Some m
+        → (rest : List (ℕ × Command)) × (accepted o (es ++ fs) conn ≡ stamped_of m.client (journal_of o (es ++ fs)) ++ rest) }
     // What the server ordered itself is what was stamped of it, and then its own list.
     ensures servers { (o : Origin) (es : List Event)
         → map owned (ordered o es) ≡ stamped_of 1 (journal_of o es) ++ map owned (table_of o es).own }

@@ -1,7 +1,15 @@
 pub mod Words
+pub mod Games
 pub mod JoinsGames
 pub mod LimitsGames
 pub mod CommandsGames
 pub mod TalksGames
 pub mod StepsGames
 pub mod ShownGames
+pub mod TokensGames
+pub mod SavedGames
+pub mod EnteringGames
+pub mod PlayingGames
+pub mod LastingGames
+pub mod StreamsGames
+pub mod MapsGames

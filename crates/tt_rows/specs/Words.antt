@@ -1,29 +1,5 @@
 -- The words in which games are told.
-use Rattle.std.specs.Prelude.{
-  ℕ,
-  ◌+◌,
-  ◌-◌,
-  ◌*◌,
-  Bool,
-  true,
-  false,
-  nat_lt,
-  List,
-  [],
-  ◌∷◌,
-  ◌++◌,
-  codes,
-  drop,
-  flat_map,
-  slice_index,
-  slice_set,
-  replicate,
-  Option,
-  Some,
-  None,
-  option_map,
-  ℤ,
-}
+use Rattle.std.specs.Prelude.{ℕ, zero, suc, pos, decimal, ◌+◌, ◌-◌, ◌*◌, Bool, true, false, nat_lt, List, [], ◌∷◌, ◌++◌, codes, drop, flat_map, slice_index, slice_set, replicate, Option, Some, None, option_map, ℤ}
 use Rattle.std.specs.Int.{w16, w32, to_le_bytes}
 use Rattle.tt_edge.specs.declared.event.Door.TheVariants.{Main}
 use Rattle.tt_edge.specs.declared.event.Event.{Event}
@@ -227,3 +203,12 @@ ended_by _ to = []
 
 abbrev pub ends_in : List Step → List ℕ
 ends_in steps = flat_map (λ (s : Step). ended_by s.what s.to) steps
+
+-- so many companies as they are founded, from number 0 on
+abbrev pub founded_from : ℕ → ℕ → List (ℕ × Company)
+founded_from n zero = []
+founded_from n (suc k) = (n, company (pos 100000) 100000 (codes "Company " ++ decimal (n + 1)) (codes "President")) ∷ founded_from (n + 1) k
+
+-- a game with this setup, from a world with so many companies
+abbrev pub with_companies : ℕ → Setup → Origin
+with_companies k setup = record { setup = setup; start = world (setup.seed, setup.seed) 0 0 false (founded_from 0 k) [] }

@@ -1,5 +1,6 @@
 use Rattle.tt_log.proofs.Stamping.{live-stamped, are-kept}
 use Rattle.tt_log.proofs.Ordering.{all-served}
+use Rattle.tt_log.proofs.Prefixes.{stamped-front}
 use Rattle.tt_log.proofs.laws.stamped_once.Goals as goal
 
 pub returns-clause-clients : goal.returns-clause-clients
@@ -10,3 +11,6 @@ returns-clause-senders c o es = (are-kept 0 o es).senders
 
 pub returns-clause-servers : goal.returns-clause-servers
 returns-clause-servers c o es = all-served o es
+
+pub returns-clause-fronts : goal.returns-clause-fronts
+returns-clause-fronts c o es fs conn m is = stamped-front o es fs conn m is

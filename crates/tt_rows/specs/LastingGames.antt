@@ -1,0 +1,140 @@
+-- Limits of time and cost that the first games leave out.
+use Rattle.std.specs.Prelude.{List, [], ◌∷◌, ◌++◌, true, false, replicate, codes}
+use Rattle.tt_edge.specs.declared.event.Event.TheVariants.{Tick}
+use Rattle.tt_world.specs.Setup.{plain}
+use Rattle.tt_rows.specs.Words.{plain_game, made_from, with_companies, hex, opens, ann, bob, cid, joins, spectates, asks_for_map, has_loaded, acknowledges, locks_company}
+use Rattle.tt_rows.specs.Games.{Game}
+
+-- The frame of the map counts as acknowledged, and one frame may be acknowledged again.
+abbrev pub acknowledged_twice : Game
+acknowledged_twice = record {
+  origin = plain_game;
+  events =
+      Tick ∷ opens ∷ opens ∷ spectates 1 ann ∷ spectates 2 bob ∷ asks_for_map 1 ∷ asks_for_map 2 ∷ Tick ∷ has_loaded 1 ∷
+      acknowledges 1 2 ∷ acknowledges 1 2 ∷ Tick ∷ has_loaded 2 ∷ acknowledges 2 1 ∷ [];
+  conns = (
+    hex (codes "0e000c020000000000000074740007000f01000000070010410000004400114f54544e0002000047414d450000000600")
+        ++ hex (codes "000000010052414e4400000008fe2468adffffffff434d505900000001005349474e000000020000454e444300000000")
+        ++ hex (codes "0300120c001d02000000ff416e6e000c001d03000000ff426f62000c00150200000002000000ff0c0015030000000300")
+        ++ hex (codes "0000000800220300000007"),
+    true,
+  )
+      ∷ (
+        hex (codes "0e000c030000000000000074740004000e0107000f02000000070010410000004400114f54544e0002000047414d4500")
+            ++ hex (codes "00000600000000020052414e440000000800000001bfc48d14434d505900000001005349474e000000020000454e4443")
+            ++ hex (codes "000000000300120c001d02000000ff416e6e000c001d03000000ff426f62000c00150300000003000000c004000307"),
+        false,
+      )
+      ∷ [];
+  journal =
+      [];
+  frames = (3, 3);
+}
+
+-- A company password may be waited for as long as the limit says, and no longer.
+abbrev pub company_password_in_time : Game
+company_password_in_time = record {
+  origin = with_companies 1 (record plain { pass_limit = 2 });
+  events =
+      opens ∷ opens ∷ joins 1 ann 0 ∷ asks_for_map 1 ∷ Tick ∷ has_loaded 1 ∷ acknowledges 1 1 ∷
+      locks_company 1 (codes "00000000000000000000000000000000") ∷ joins 2 bob 0 ∷ Tick ∷ Tick ∷ opens ∷ joins 3 cid 0 ∷ Tick ∷
+      Tick ∷ [];
+  conns = (
+    hex (codes "0e000c020000000000000074740007000f00000000070010660000006900114f54544e0002000047414d450000000600")
+        ++ hex (codes "000000000052414e44000000080000000000000000434d505900000026010000000000000186a0000186a0000493e009")
+        ++ hex (codes "436f6d70616e79203109507265736964656e745349474e000000020000454e4443000000000300120c001d0200000000")
+        ++ hex (codes "416e6e000c00150100000001000000ff0c00150200000002000000000c00150300000003000000000c00150400000004")
+        ++ hex (codes "000000000c0015050000000500000000"),
+    true,
+  )
+      ∷ (
+        hex (codes "0a000a0000000074740004000310"),
+        false,
+      )
+      ∷ (
+        hex (codes "0a000a00000000747400"),
+        true,
+      )
+      ∷ [];
+  journal =
+      [];
+  frames = (5, 5);
+}
+
+-- A member may catch up for as long as the limit says.
+abbrev pub catches_up_in_time : Game
+catches_up_in_time = record {
+  origin = made_from (record plain { «join» = 2 });
+  events =
+      opens ∷ spectates 1 ann ∷ asks_for_map 1 ∷ Tick ∷ has_loaded 1 ∷ Tick ∷ Tick ∷ acknowledges 1 3 ∷ [];
+  conns = (
+    hex (codes "0e000c020000000000000074740007000f00000000070010410000004400114f54544e0002000047414d450000000600")
+        ++ hex (codes "000000000052414e44000000080000000000000000434d505900000001005349474e000000020000454e444300000000")
+        ++ hex (codes "0300120c001d02000000ff416e6e000c00150100000001000000ff0c00150200000002000000000c0015030000000300")
+        ++ hex (codes "000000"),
+    true,
+  )
+      ∷ [];
+  journal =
+      [];
+  frames = (3, 3);
+}
+
+-- An early acknowledgement does not begin the limit again.
+abbrev pub acknowledging_is_no_joining : Game
+acknowledging_is_no_joining = record {
+  origin = made_from (record plain { «join» = 78 });
+  events =
+      (opens ∷ spectates 1 ann ∷ asks_for_map 1 ∷ Tick ∷ has_loaded 1 ∷ []) ++ replicate 76 Tick ++ (acknowledges 1 1 ∷ Tick ∷
+      Tick ∷ Tick ∷ []);
+  conns = (
+    hex (codes "0e000c020000000000000074740007000f00000000070010410000004400114f54544e0002000047414d450000000600")
+        ++ hex (codes "000000000052414e44000000080000000000000000434d505900000001005349474e000000020000454e444300000000")
+        ++ hex (codes "0300120c001d02000000ff416e6e000c00150100000001000000ff0c00150200000002000000000c0015030000000300")
+        ++ hex (codes "0000000c00150400000004000000000c00150500000005000000000c00150600000006000000000c0015070000000700")
+        ++ hex (codes "0000000c00150800000008000000000c00150900000009000000000c00150a0000000a000000000c00150b0000000b00")
+        ++ hex (codes "0000000c00150c0000000c000000000c00150d0000000d000000000c00150e0000000e000000000c00150f0000000f00")
+        ++ hex (codes "0000000c00151000000010000000000c00151100000011000000000c00151200000012000000000c0015130000001300")
+        ++ hex (codes "0000000c00151400000014000000000c00151500000015000000000c00151600000016000000000c0015170000001700")
+        ++ hex (codes "0000000c00151800000018000000000c00151900000019000000000c00151a0000001a000000000c00151b0000001b00")
+        ++ hex (codes "0000000c00151c0000001c000000000c00151d0000001d000000000c00151e0000001e000000000c00151f0000001f00")
+        ++ hex (codes "0000000c00152000000020000000000c00152100000021000000000c00152200000022000000000c0015230000002300")
+        ++ hex (codes "0000000c00152400000024000000000c00152500000025000000000c00152600000026000000000c0015270000002700")
+        ++ hex (codes "0000000c00152800000028000000000c00152900000029000000000c00152a0000002a000000000c00152b0000002b00")
+        ++ hex (codes "0000000c00152c0000002c000000000c00152d0000002d000000000c00152e0000002e000000000c00152f0000002f00")
+        ++ hex (codes "0000000c00153000000030000000000c00153100000031000000000c00153200000032000000000c0015330000003300")
+        ++ hex (codes "0000000c00153400000034000000000c00153500000035000000000c00153600000036000000000c0015370000003700")
+        ++ hex (codes "0000000c00153800000038000000000c00153900000039000000000c00153a0000003a000000000c00153b0000003b00")
+        ++ hex (codes "0000000c00153c0000003c000000000c00153d0000003d000000000c00153e0000003e000000000c00153f0000003f00")
+        ++ hex (codes "0000000c00154000000040000000000c00154100000041000000000c00154200000042000000000c0015430000004300")
+        ++ hex (codes "0000000c00154400000044000000000c00154500000045000000000c00154600000046000000000c0015470000004700")
+        ++ hex (codes "0000000c00154800000048000000000c00154900000049000000000c00154a0000004a000000000c00154b0000004b00")
+        ++ hex (codes "0000000c00154c0000004c000000000c00154d0000004d000000000c00154e0000004e000000000c00154f0000004f00")
+        ++ hex (codes "0000000c001550000000500000000004000313"),
+    false,
+  )
+      ∷ [];
+  journal =
+      [];
+  frames = (80, 80);
+}
+
+-- Ticks cost nothing.
+abbrev pub ticks_cost_nothing : Game
+ticks_cost_nothing = record {
+  origin = made_from (record plain { cost = 128 });
+  events =
+      opens ∷ Tick ∷ Tick ∷ Tick ∷ opens ∷ [];
+  conns = (
+    hex (codes "030025"),
+    false,
+  )
+      ∷ (
+        hex (codes "030025"),
+        false,
+      )
+      ∷ [];
+  journal =
+      [];
+  frames = (3, 3);
+}
