@@ -1,5 +1,33 @@
 -- Behind a member's end what was stamped of it stays the front of what was accepted of it.
-use Rattle.std.proofs.Common.{◌≡◌, ◌⊎◌, inl, inr, ℕ, ◌+◌, ◌≤◌, ◌<◌, List, [], ◌∷◌, ◌++◌, refl, ap, ap₂, sym, ◌∙◌, subst, true, false, Bool, Option, Some, None, arith, append-nil, append_assoc}
+use Rattle.std.proofs.Common.{
+  ◌≡◌,
+  ◌⊎◌,
+  inl,
+  inr,
+  ℕ,
+  ◌+◌,
+  ◌≤◌,
+  ◌<◌,
+  List,
+  [],
+  ◌∷◌,
+  ◌++◌,
+  refl,
+  ap,
+  ap₂,
+  sym,
+  ◌∙◌,
+  subst,
+  true,
+  false,
+  Bool,
+  Option,
+  Some,
+  None,
+  arith,
+  append-nil,
+  append_assoc,
+}
 use Rattle.std.specs.Prelude.{◌==◌, fold, length, take, drop, nat_le, map, filter, find, cond, not}
 use Rattle.std.specs.List.{AllByRecursion}
 use Rattle.std.proofs.lemmas.Bool.{eqb-true}
@@ -24,7 +52,23 @@ use Rattle.tt_log.proofs.Changes.{turned, turned-conn, turned-client, moved, mov
 use Rattle.tt_log.proofs.Walk.{Base, Walk, Doors, Closing, Moves, Ticks, running, of-asks, of-enters, of-leaves, of-deed}
 use Rattle.tt_log.proofs.Clock.{Ticked, ticked-is, event-same, taken-run}
 use Rattle.tt_log.proofs.Ordered.{Ordered, is-ordered, step-ordered}
-use Rattle.tt_log.proofs.Stamping.{Kept, are-kept, step-kept, among-put, among-filter, among-drawn, among-last, stamped-append, stamped-none, own-other, drawing, drawing-none, stamped-own, take-then-drop, number-above}
+use Rattle.tt_log.proofs.Stamping.{
+  Kept,
+  are-kept,
+  step-kept,
+  among-put,
+  among-filter,
+  among-drawn,
+  among-last,
+  stamped-append,
+  stamped-none,
+  own-other,
+  drawing,
+  drawing-none,
+  stamped-own,
+  take-then-drop,
+  number-above,
+}
 
 -- ---- a client number is that of one connection
 
@@ -44,10 +88,10 @@ one-number j x y [] r a b same = absurd a
 one-number j x y (z ∷ zs) r (inl here) (inl there) same = sym here ∙ there
 one-number j x y (z ∷ zs) r (inl here) (inr later) same =
     let above : z.client < y.client = number-above z.client y zs r.1 later in
-        absurd (omega (arith, above, same, ap (λ (n : Member). n.client) here))
+    absurd (omega (arith, above, same, ap (λ (n : Member). n.client) here))
 one-number j x y (z ∷ zs) r (inr later) (inl there) same =
     let above : z.client < x.client = number-above z.client x zs r.1 later in
-        absurd (omega (arith, above, same, ap (λ (n : Member). n.client) there))
+    absurd (omega (arith, above, same, ap (λ (n : Member). n.client) there))
 one-number j x y (z ∷ zs) r (inr a) (inr b) same = one-number z.client x y zs r.1 a b same
 
 -- no other connection has the number, and both were given
@@ -61,7 +105,7 @@ KeepsOnly c k t steps u = Only c k t → Only c k u
 put-only : (c k : ℕ) (t : Table) (n m : Member) → On t m → n.conn ≡ m.conn → n.client ≡ m.client → Only c k t → (x : Member)
     → On (record t { members = map (λ y. cond (y.conn == n.conn) n y) t.members }) x → x.client ≡ k → x.conn ≡ c
 put-only c k t n m on conn client h x there at = elim (among-put n x t.members there) [
-  inl same ↦ ap (λ (y : Member). y.conn) same ∙ conn ∙ h.only m on (sym client ∙ ap (λ (y : Member). y.client) (sym same) ∙ at)
+  | inl same ↦ ap (λ (y : Member). y.conn) same ∙ conn ∙ h.only m on (sym client ∙ ap (λ (y : Member). y.client) (sym same) ∙ at)
   | inr other ↦ h.only x other.0 at
 ]
 
@@ -69,8 +113,11 @@ only-base : (c k : ℕ) (o : Origin) (e : Event) → Base o e (KeepsOnly c k)
 only-base c k o e = record {
   still = λ t h. h;
   joins = λ t u v xs ys a b h. b (a h);
-  turns = λ d t m on may by h. record { only = put-only c k t (turned d t m) m on (turned-conn d t m) (turned-client d t m) h; known =
-      h.known };
+  turns = λ d t m on may by h. record {
+    only = put-only c k t (turned d t m) m on (turned-conn d t m) (turned-client d t m) h;
+    known =
+        h.known;
+  };
   tells_one = λ t m msg on talk h. h;
   tells_some = λ t to w there news h. h;
   tells_admins = λ t to msg there h. h;
@@ -83,8 +130,11 @@ only-moves c k o e = record {
   waits_on = λ t conn n there h. h;
   stands = λ t m on h. record { only = h.only; known = h.known };
   cuts = λ t place h. record { only = h.only; known = h.known };
-  parts = λ t m on h. record { only = λ x there at. h.only x (among-filter (λ n. not (is_on m.conn n)) x t.members there) at; known =
-      h.known };
+  parts = λ t m on h. record {
+    only = λ x there at. h.only x (among-filter (λ n. not (is_on m.conn n)) x t.members there) at;
+    known =
+        h.known;
+  };
   greets = λ t m on at h. record { only = λ x there own. put-only c k t _ m on refl refl h x there own; known = h.known };
 }
 
@@ -105,7 +155,7 @@ arrives-only false c k t h =
     let n : Member = new_member (t.openings + 1) (t.clients + 1) t.frame in
     record {
       only = λ x there at. elim (among-last x n t.members there) [
-        inl old ↦ h.only x old at
+        | inl old ↦ h.only x old at
         | inr new ↦ absurd (let same : t.clients + 1 ≡ k = ap (λ (y : Member). y.client) new ∙ at in omega (arith, same, h.known))
       ];
       known = omega (arith, h.known);
@@ -129,10 +179,16 @@ step-only c k o e t h = of-deed o e (KeepsOnly c k) (only-walk c k o e)
       };
       running = λ t b is. run-only b c k o t;
     })
-    (record { comes = λ t. arrives-only (nat_le o.setup.max_clients (length t.members)) c k t; comes_aside =
-        λ t. aside-only (nat_le most_admins (length t.admins)) c k t })
-    (record { charges = λ t h. record { only = h.only; known = h.known }; closes =
-        λ t h. record { only = λ x there at. absurd there; known = h.known } })
+    (record {
+      comes = λ t. arrives-only (nat_le o.setup.max_clients (length t.members)) c k t;
+      comes_aside =
+          λ t. aside-only (nat_le most_admins (length t.admins)) c k t;
+    })
+    (record {
+      charges = λ t h. record { only = h.only; known = h.known };
+      closes =
+          λ t h. record { only = λ x there at. absurd there; known = h.known };
+    })
     t h
 
 -- ---- what was stamped is a front of what was accepted
@@ -145,7 +201,7 @@ record Front (k : ℕ) (said : List (ℕ × Command)) (t : Table) : Type 0 where
 none-by : (b : Bool) (k : ℕ) (m : Member) (ms : List Member) → (m.client == k) ≡ b
     → cond b (Some m) (find (λ (n : Member). n.client == k) ms) ≡ None
     → (find (λ (n : Member). n.client == k) ms ≡ None → AllByRecursion (λ (n : Member). (n.client == k) ≡ false) ms)
-        → AllByRecursion (λ (n : Member). (n.client == k) ≡ false) (m ∷ ms)
+    → AllByRecursion (λ (n : Member). (n.client == k) ≡ false) (m ∷ ms)
 none-by true k m ms at none later = absurd cc
 none-by false k m ms at none later = (at, later none)
 
@@ -159,9 +215,9 @@ tick-front : (x : Option Member) (c k : ℕ) (said : List (ℕ × Command)) (t u
     → Front k said t → Front k said u
 tick-front None c k said t u high is journal r only kept h =
     let nothing : stamped_of k (stamps t) ≡ [] =
-            stamped-append k (map (own_entry (t.top + 1)) t.own) (drawing (t.top + 1) t.members)
-            ∙ ap₂ (λ (xs ys : List (ℕ × Command)). xs ++ ys) (stamped-none k (map (own_entry (t.top + 1)) t.own)
-                (own-other k (t.top + 1) t.own high)) (drawing-none k (t.top + 1) t.members (none-of k t.members is)) in
+    stamped-append k (map (own_entry (t.top + 1)) t.own) (drawing (t.top + 1) t.members)
+    ∙ ap₂ (λ (xs ys : List (ℕ × Command)). xs ++ ys) (stamped-none k (map (own_entry (t.top + 1)) t.own)
+    (own-other k (t.top + 1) t.own high)) (drawing-none k (t.top + 1) t.members (none-of k t.members is)) in
     record {
       rest = h.rest;
       all = h.all ∙ ap (λ (xs : List (ℕ × Command)). xs ++ h.rest) (sym (append-nil (stamped_of k t.journal))
@@ -178,7 +234,7 @@ tick-front (Some m) c k said t u high is journal r only kept h =
           ∙ sym (append_assoc (stamped_of m.client t.journal) (take 2 m.waiting) (drop 2 m.waiting))
           ∙ ap (λ (ws : List (ℕ × Command)). (stamped_of m.client t.journal ++ ws) ++ drop 2 m.waiting) (sym (stamped-own t m r on))
           ∙ ap (λ (ws : List (ℕ × Command)). ws ++ drop 2 m.waiting) (sym (stamped-append m.client t.journal (stamps t))
-              ∙ ap₂ (λ (n : ℕ) (xs : List Entry). stamped_of n xs) at (sym journal));
+          ∙ ap₂ (λ (n : ℕ) (xs : List Entry). stamped_of n xs) at (sym journal));
     }
 
 more-front : (k : ℕ) (said more : List (ℕ × Command)) (t u : Table) → u.journal ≡ t.journal → Front k said t → Front k (said ++ more) u
@@ -193,7 +249,7 @@ taken-front : (c k : ℕ) (said : List (ℕ × Command)) (o : Origin) (e : Event
 taken-front c k said o Tick t high r only kept h =
     let a : Ticked o t (ticked o t).table = ticked-is o t in
     let f : Front k said (taken o Tick t).table = tick-front (find (λ (m : Member). m.client == k) t.members) c k said t
-        (taken o Tick t).table high refl ((taken-run o Tick t).journal ∙ a.journal) r only kept h in
+    (taken o Tick t).table high refl ((taken-run o Tick t).journal ∙ a.journal) r only kept h in
     more-front k said [] (taken o Tick t).table (taken o Tick t).table refl f
 taken-front c k said o (Open door peer) t high r only kept h = let e : Event = Open door peer in more-front k said (accepted_by o t e c) t
     (taken o e t).table ((taken-run o e t).journal ∙ (event-same o e t refl).journal) h
@@ -217,9 +273,9 @@ from-front c k o [] t said high r only kept h = more-front k said [] t t refl h
 from-front c k o (e ∷ es) t said high r only kept h =
     let s : Table = stepped o t e in
     subst (λ (ws : List (ℕ × Command)). Front k ws (fold (stepped o) s es)) (append_assoc said (accepted_by o t e c)
-        (accepted_from o s es c))
+    (accepted_from o s es c))
     (from-front c k o es s (said ++ accepted_by o t e c) high (step-ordered o e t r) (step-only c k o e t only)
-        (step-kept c said o e t r kept) (step-front (takes t e) c k said o e t high r only kept h))
+    (step-kept c said o e t r kept) (step-front (takes t e) c k said o e t high r only kept h))
 
 accepted-append : (o : Origin) (es fs : List Event) (t : Table) (c : ℕ) → accepted_from o t (es ++ fs) c ≡ accepted_from o t es c
     ++ accepted_from o (fold (stepped o) t es) fs c
@@ -244,7 +300,9 @@ stamped-front o es fs c m is =
     let at : m.conn ≡ c = found-on c t.members m is in
     let kept : Kept c (accepted o es c) t = are-kept c o es in
     let f : Front m.client (accepted o es c ++ accepted_from o t fs c) (fold (stepped o) t fs) =
-            from-front c m.client o fs t (accepted o es c) (number-high m t.members r.clients on) r (one-has c m t r on at) kept
-                (record { rest = m.waiting; all = kept.live m on at }) in
-    (f.rest, accepted-append o es fs (first o) c ∙ f.all ∙ ap (λ (u : Table). stamped_of m.client u.journal ++ f.rest)
-        (sym (fold-append (stepped o) (first o) es fs)))
+    from-front c m.client o fs t (accepted o es c) (number-high m t.members r.clients on) r (one-has c m t r on at) kept
+    (record { rest = m.waiting; all = kept.live m on at }) in (
+      f.rest,
+      accepted-append o es fs (first o) c ∙ f.all ∙ ap (λ (u : Table). stamped_of m.client u.journal ++ f.rest)
+          (sym (fold-append (stepped o) (first o) es fs)),
+    )

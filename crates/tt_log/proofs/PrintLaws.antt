@@ -813,7 +813,13 @@ told_with st (Admin x) fits told =
                       told.settings.1.1.1.1.1.1.1.0,
                       (
                         told.settings.1.1.1.1.1.1.1.1.0,
-                        (told.settings.1.1.1.1.1.1.1.1.1.0, (told.settings.1.1.1.1.1.1.1.1.1.1.0, (fits, told.settings.1.1.1.1.1.1.1.1.1.1.1.1))),
+                        (
+                          told.settings.1.1.1.1.1.1.1.1.1.0,
+                          (
+                            told.settings.1.1.1.1.1.1.1.1.1.1.0,
+                            (fits, told.settings.1.1.1.1.1.1.1.1.1.1.1.1),
+                          ),
+                        ),
                       ),
                     ),
                   ),

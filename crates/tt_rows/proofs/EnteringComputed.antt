@@ -10,7 +10,15 @@ use Rattle.md5.specs.Md5.{block_words, rounds, compress, hash_after, digest_byte
 use Rattle.hex.specs.Hex.{encode_with}
 use Rattle.tt_world.specs.Commands.{new_id, new_name}
 use Rattle.tt_rows.specs.Games.{ComesTo}
-use Rattle.tt_rows.specs.EnteringGames.{counts_of_a_game, three_want_one_name, an_unnamed_one_has_no_name, a_waiting_one_leaves, no_number_is_free, both_passwords, shut_with_a_code}
+use Rattle.tt_rows.specs.EnteringGames.{
+  counts_of_a_game,
+  three_want_one_name,
+  an_unnamed_one_has_no_name,
+  a_waiting_one_leaves,
+  no_number_is_free,
+  both_passwords,
+  shut_with_a_code,
+}
 
 pub computed : ComesTo counts_of_a_game
     × ComesTo three_want_one_name
@@ -19,7 +27,8 @@ pub computed : ComesTo counts_of_a_game
     × ComesTo no_number_is_free
     × ComesTo both_passwords
     × ComesTo shut_with_a_code
-unfolding number_at within_at truth_at fixed_at before_zero text_at digest_at optional_digest_at raw_at items_at marked_at is_text is_digest is_utf8 chars encode digits block_words rounds compress hash_after digest_bytes md5 encode_with new_id new_name
+unfolding number_at within_at truth_at fixed_at before_zero text_at digest_at optional_digest_at raw_at items_at marked_at is_text
+    is_digest is_utf8 chars encode digits block_words rounds compress hash_after digest_bytes md5 encode_with new_id new_name
 computed = (
   ((refl, refl, (refl, refl, (refl, refl, tt))), refl, refl, refl),
   ((refl, refl, (refl, refl, (refl, refl, tt))), refl, refl, refl),

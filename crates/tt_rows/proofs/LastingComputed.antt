@@ -10,14 +10,21 @@ use Rattle.md5.specs.Md5.{block_words, rounds, compress, hash_after, digest_byte
 use Rattle.hex.specs.Hex.{encode_with}
 use Rattle.tt_world.specs.Commands.{new_id, new_name}
 use Rattle.tt_rows.specs.Games.{ComesTo}
-use Rattle.tt_rows.specs.LastingGames.{acknowledged_twice, company_password_in_time, catches_up_in_time, acknowledging_is_no_joining, ticks_cost_nothing}
+use Rattle.tt_rows.specs.LastingGames.{
+  acknowledged_twice,
+  company_password_in_time,
+  catches_up_in_time,
+  acknowledging_is_no_joining,
+  ticks_cost_nothing,
+}
 
 pub computed : ComesTo acknowledged_twice
     × ComesTo company_password_in_time
     × ComesTo catches_up_in_time
     × ComesTo acknowledging_is_no_joining
     × ComesTo ticks_cost_nothing
-unfolding number_at within_at truth_at fixed_at before_zero text_at digest_at optional_digest_at raw_at items_at marked_at is_text is_digest is_utf8 chars encode digits block_words rounds compress hash_after digest_bytes md5 encode_with new_id new_name
+unfolding number_at within_at truth_at fixed_at before_zero text_at digest_at optional_digest_at raw_at items_at marked_at is_text
+    is_digest is_utf8 chars encode digits block_words rounds compress hash_after digest_bytes md5 encode_with new_id new_name
 computed = (
   ((refl, refl, (refl, refl, tt)), refl, refl, refl),
   ((refl, refl, (refl, refl, (refl, refl, tt))), refl, refl, refl),

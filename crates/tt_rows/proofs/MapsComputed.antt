@@ -17,7 +17,8 @@ pub computed : ComesTo six_pieces
     × ComesTo one_whole_piece
     × ComesTo too_long_a_map
     × ComesTo map_of_its_frame
-unfolding number_at within_at truth_at fixed_at before_zero text_at digest_at optional_digest_at raw_at items_at marked_at is_text is_digest is_utf8 chars encode digits block_words rounds compress hash_after digest_bytes md5 encode_with new_id new_name
+unfolding number_at within_at truth_at fixed_at before_zero text_at digest_at optional_digest_at raw_at items_at marked_at is_text
+    is_digest is_utf8 chars encode digits block_words rounds compress hash_after digest_bytes md5 encode_with new_id new_name
 computed = (
   ((refl, refl, tt), refl, refl, refl),
   ((refl, refl, tt), refl, refl, refl),
