@@ -1,31 +1,6 @@
 -- A connection that stands nowhere in a table: no rule tells it anything, nor brings it in.
-use Rattle.std.proofs.Common.{
-  ◌≡◌,
-  ◌⊎◌,
-  inl,
-  inr,
-  ℕ,
-  ◌+◌,
-  ◌≤◌,
-  ◌<◌,
-  List,
-  [],
-  ◌∷◌,
-  ◌++◌,
-  refl,
-  ap,
-  sym,
-  ◌∙◌,
-  subst,
-  true,
-  false,
-  Bool,
-  Option,
-  Some,
-  None,
-  arith,
-}
-use Rattle.std.specs.Prelude.{◌==◌, drop, take, length, nat_le, map, find, filter, cond, not, fold, is_some, ◌||◌}
+use Rattle.std.proofs.Common.{◌≡◌, ◌⊎◌, inl, inr, ℕ, ◌+◌, ◌≤◌, ◌<◌, List, [], ◌∷◌, ◌++◌, refl, sym, ◌∙◌, subst, true, false, Bool, arith}
+use Rattle.std.specs.Prelude.{◌==◌, drop, take, length, nat_le, map, not, ◌||◌}
 use Rattle.std.specs.List.{AllByRecursion, list_any}
 use Rattle.std.proofs.lemmas.Bool.{ne_eqb}
 use Rattle.tt_edge.specs.declared.event.Event.{Event}
@@ -34,30 +9,18 @@ use Rattle.tt_log.specs.declared.deed.What.{What}
 use Rattle.tt_log.specs.Origin.{Origin}
 use Rattle.tt_log.specs.Member.{Member, is_playing}
 use Rattle.tt_log.specs.Admin.{Admin}
-use Rattle.tt_log.specs.Table.{Table, is_on, is_admin_on, is_live, playing, member_of}
-use Rattle.tt_log.specs.Deed.{Said, Deed}
-use Rattle.tt_log.specs.Desk.{admin_arrives, admin_opens, counted_aside, most_admins}
+use Rattle.tt_log.specs.Table.{Table, is_on, is_admin_on, is_live, playing}
+use Rattle.tt_log.specs.Deed.{Said}
+use Rattle.tt_log.specs.Desk.{admin_arrives, counted_aside, most_admins}
 use Rattle.tt_log.specs.Tick.{drawn}
-use Rattle.tt_log.specs.Events.{arrives, opened, counted_in, stepped, deed, shut_down}
-use Rattle.tt_log.specs.Tellings.{Filling, Telling, telling, filled, said_by, filling}
-use Rattle.tt_log.specs.Told.{told_to, told_by, heard_from}
-use Rattle.tt_log.proofs.Lists.{
-  Among,
-  NotIn,
-  IsOther,
-  Within,
-  all-append,
-  all-take,
-  all-drop,
-  all-filter,
-  any-not,
-  among-all,
-  all-of-filter,
-}
-use Rattle.tt_log.proofs.Crew.{On, OnAdmin, put, conns, admin_conns, put-conns, live-conns, live-admins}
-use Rattle.tt_log.proofs.Changes.{step, Change, told_with, turned, turned-conn, moved, moved-conn, Move, queues, begins_map, loads}
+use Rattle.tt_log.specs.Events.{arrives, opened, counted_in, stepped, deed}
+use Rattle.tt_log.specs.Tellings.{Filling, Telling, telling, filled, said_by}
+use Rattle.tt_log.specs.Told.{told_to}
+use Rattle.tt_log.proofs.Lists.{Among, NotIn, IsOther, all-append, all-take, all-drop, any-not, all-of-filter}
+use Rattle.tt_log.proofs.Crew.{put, conns, admin_conns, put-conns, live-conns, live-admins}
+use Rattle.tt_log.proofs.Changes.{step, told_with, turned, moved, Move, queues, begins_map, loads}
 use Rattle.tt_log.proofs.Walk.{Base, Walk, Doors, Closing, Moves, Ticks, running, told_moved, of-asks, of-enters, of-leaves, of-deed}
-use Rattle.tt_log.proofs.Ordered.{map-same, all-map-filter, all-more}
+use Rattle.tt_log.proofs.Ordered.{map-same, all-more}
 
 abbrev pub Misses : ℕ → List Step → Type 0
 Misses c steps = AllByRecursion (λ (s : Step). NotIn c s.to) steps

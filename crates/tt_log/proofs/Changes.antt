@@ -1,5 +1,5 @@
 -- What rules are made of: how a member changes and what it is told with it, and what others are told.
-use Rattle.std.proofs.Common.{◌≡◌, ◌⊎◌, ℕ, ◌+◌, ◌≤◌, ◌<◌, Bool, true, false, List, [], ◌∷◌, ◌++◌, Option, Some, None, refl}
+use Rattle.std.proofs.Common.{◌≡◌, ◌⊎◌, ℕ, ◌+◌, ◌≤◌, Bool, true, false, List, [], ◌∷◌, ◌++◌, Option, Some, None, refl}
 use Rattle.std.specs.Prelude.{length, map, cond, ◌==◌}
 use Rattle.tt_edge.specs.declared.event.Event.{Event}
 use Rattle.tt_edge.specs.declared.event.Event.TheVariants.{Packet}
@@ -24,16 +24,15 @@ use Rattle.tt_game.specs.declared.message.GameMsg.TheVariants.{
   ServerShutdown,
 }
 use Rattle.tt_world.specs.declared.command.Command.{Command}
-use Rattle.tt_world.specs.declared.command.Entry.{Entry}
 use Rattle.tt_world.specs.Random.{next_random}
 use Rattle.tt_rules.specs.Commands.{command_of}
 use Rattle.tt_rules.specs.Statuses.{rank}
 use Rattle.tt_rules.specs.Verdict.{permits, refusal, verdict_of, first_reason}
 use Rattle.tt_rules.specs.declared.status.Verdict.TheVariants.{Allowed}
-use Rattle.tt_rules.specs.declared.status.Status.TheVariants.{AuthGame, AuthCompany, Authorized, MapWait, Map, DoneMap, PreActive, Active}
+use Rattle.tt_rules.specs.declared.status.Status.TheVariants.{AuthGame, AuthCompany, Authorized, MapWait, DoneMap, PreActive, Active}
 use Rattle.tt_log.specs.declared.deed.Step.{Step}
 use Rattle.tt_log.specs.declared.deed.What.{What}
-use Rattle.tt_log.specs.declared.deed.What.TheVariants.{Msg, MapBegin, MapPieces, Sync, Stamp}
+use Rattle.tt_log.specs.declared.deed.What.TheVariants.{Msg, MapPieces, Sync, Stamp}
 use Rattle.tt_log.specs.Origin.{Origin}
 use Rattle.tt_log.specs.Member.{Member, standing_of}
 use Rattle.tt_log.specs.Table.{Table, living_in, now_in, with_member}

@@ -1,75 +1,19 @@
 -- Which rules leave the clock and the journal, and that the permitted frame is never behind the frame nor far ahead of it.
-use Rattle.std.proofs.Common.{
-  ◌≡◌,
-  ◌⊎◌,
-  inl,
-  inr,
-  ℕ,
-  ◌+◌,
-  ◌≤◌,
-  ◌<◌,
-  List,
-  [],
-  ◌∷◌,
-  ◌++◌,
-  refl,
-  ap,
-  sym,
-  ◌∙◌,
-  true,
-  false,
-  Bool,
-  Option,
-  Some,
-  None,
-  arith,
-}
+use Rattle.std.proofs.Common.{◌≡◌, ◌⊎◌, inl, inr, ℕ, ◌+◌, ◌≤◌, ◌<◌, List, [], ◌∷◌, ◌++◌, refl, ap, ◌∙◌, true, false, Bool, arith}
 use Rattle.std.specs.Prelude.{fold, length, nat_lt, nat_le, not, ◌&&◌}
 use Rattle.std.proofs.lemmas.Bool.{ltb-true, ltb-false}
 use Rattle.tt_edge.specs.declared.event.Event.{Event}
 use Rattle.tt_edge.specs.declared.event.Event.TheVariants.{Open, Packet, Broken, Shut, Tick, Stop}
-use Rattle.tt_edge.specs.Event.{is_tick, event_cost}
-use Rattle.tt_world.specs.declared.command.Entry.{Entry}
+use Rattle.tt_edge.specs.Event.{is_tick}
 use Rattle.tt_log.specs.declared.deed.Step.{Step}
 use Rattle.tt_log.specs.Origin.{Origin}
-use Rattle.tt_log.specs.Member.{Member}
-use Rattle.tt_log.specs.Admin.{Admin}
 use Rattle.tt_log.specs.Table.{Table, first, living_in}
-use Rattle.tt_log.specs.Deed.{Deed, ◌▹◌, where_}
-use Rattle.tt_log.specs.Desk.{admin_arrives, admin_opens, counted_aside, most_admins}
-use Rattle.tt_log.specs.Tick.{stamps, tells_entries, stamped, frame_runs_by, frame_runs, frame_follows, left_of, ticked}
-use Rattle.tt_log.specs.Events.{
-  arrives,
-  opened,
-  counted_in,
-  by_event,
-  charged,
-  closed,
-  shut_down,
-  stops,
-  taken,
-  takes,
-  names_live,
-  deed,
-  stepped,
-}
+use Rattle.tt_log.specs.Deed.{Deed, where_}
+use Rattle.tt_log.specs.Desk.{admin_arrives, counted_aside, most_admins}
+use Rattle.tt_log.specs.Tick.{stamps, stamped, frame_runs_by, left_of, ticked}
+use Rattle.tt_log.specs.Events.{arrives, counted_in, by_event, charged, shut_down, taken, takes, names_live, stepped}
 use Rattle.tt_log.specs.History.{table_of}
-use Rattle.tt_log.proofs.Walk.{
-  stamping,
-  running,
-  Base,
-  Walk,
-  Doors,
-  Closing,
-  Moves,
-  of-entries,
-  of-frames,
-  of-asks,
-  of-enters,
-  of-leaves,
-  of-follows,
-  of-still,
-}
+use Rattle.tt_log.proofs.Walk.{stamping, running, Base, Walk, Doors, Moves, of-entries, of-frames, of-asks, of-enters, of-leaves, of-follows, of-still}
 
 -- ---- what leaves the clock
 

@@ -1,5 +1,5 @@
 -- What is counted: openings, ticks, and what events cost.
-use Rattle.std.proofs.Common.{◌≡◌, ◌⊎◌, inl, inr, ℕ, ◌+◌, ◌≤◌, ◌<◌, List, [], ◌∷◌, ◌++◌, refl, ap, ap₂, sym, ◌∙◌, true, false, Bool, arith}
+use Rattle.std.proofs.Common.{◌≡◌, ℕ, ◌+◌, ◌≤◌, ◌<◌, List, [], ◌∷◌, refl, ap, ◌∙◌, true, false, Bool, arith}
 use Rattle.std.specs.Prelude.{◌==◌, ◌||◌, ◌&&◌, not, fold, length, nat_le, cond}
 use Rattle.std.proofs.lemmas.Bool.{eqb-false}
 use Rattle.std.proofs.lemmas.List.Sums.{sum_by-cons}
@@ -10,25 +10,12 @@ use Rattle.tt_edge.specs.Event.{is_open, is_tick, opens, ticks_in, event_cost, c
 use Rattle.tt_log.specs.declared.deed.Step.{Step}
 use Rattle.tt_log.specs.Origin.{Origin}
 use Rattle.tt_log.specs.Table.{Table, first}
-use Rattle.tt_log.specs.Deed.{Deed, where_}
+use Rattle.tt_log.specs.Deed.{where_}
 use Rattle.tt_log.specs.Desk.{admin_arrives, counted_aside, most_admins}
-use Rattle.tt_log.specs.Events.{
-  arrives,
-  counted_in,
-  by_event,
-  charged,
-  shut_down,
-  stops,
-  taken,
-  takes,
-  stepped,
-  names_live,
-  last_frame,
-  is_stop,
-}
+use Rattle.tt_log.specs.Events.{arrives, counted_in, by_event, charged, shut_down, stops, taken, takes, stepped, names_live, last_frame}
 use Rattle.tt_log.specs.History.{table_of, AllTaken, IsHistory}
 use Rattle.tt_log.proofs.Walk.{Base, Walk, Moves, Ticks, running, of-asks, of-enters, of-leaves, of-event, of-ticked}
-use Rattle.tt_log.proofs.Clock.{ticked-is, event-same, event-over, taken-run, from-all, no-tick}
+use Rattle.tt_log.proofs.Clock.{ticked-is, event-same, taken-run, from-all}
 
 -- ---- what leaves the counts
 

@@ -23,8 +23,8 @@ use Rattle.std.proofs.Common.{
   arith,
   suc,
 }
-use Rattle.std.specs.Prelude.{cond, not, map, length, nat_lt, is_some, is_none, option_map, slice_set, slice_index_or}
-use Rattle.std.specs.List.{list_any, position, position_or_len}
+use Rattle.std.specs.Prelude.{cond, not, map, length, nat_lt, is_some, is_none, option_map, slice_set}
+use Rattle.std.specs.List.{list_any, position_or_len}
 use Rattle.std.proofs.lemmas.Bool.{lt-ltb, le-ltb, ltb-true, ltb-false}
 use Rattle.std.proofs.lemmas.List.{map-set}
 use Rattle.std.proofs.Math.Seq.{map-set_same}
@@ -43,24 +43,8 @@ use Rattle.tt_world.specs.declared.command.Code.TheVariants.{
 use Rattle.tt_world.specs.declared.command.Entry.{Entry}
 use Rattle.tt_world.specs.declared.company.Company.{Company}
 use Rattle.tt_world.specs.declared.effect.Why.{Why}
-use Rattle.tt_world.specs.declared.effect.Effect.{Effect}
 use Rattle.tt_world.specs.World.{WorldState, company_of}
-use Rattle.tt_world.specs.Commands.{
-  applied,
-  answered,
-  refusal,
-  done,
-  refusal_by,
-  done_by,
-  changed,
-  given,
-  richer,
-  poorer,
-  new_number,
-  new_company,
-  founded,
-  found_refusal,
-}
+use Rattle.tt_world.specs.Commands.{applied, answered, refusal_by, done_by, changed, richer, poorer, new_number, new_company, founded}
 use Rattle.tt_rules.specs.Companies.{living, least_free}
 use Rattle.tt_log.specs.Tick.{founding, founder_of, living_with, foundings}
 use Rattle.tt_log.specs.Foundings.{founded_by, foundings_in}

@@ -1,33 +1,7 @@
 -- Lists: what holds of each element, and who is among whom.
-use Rattle.std.proofs.Common.{
-  ◌≡◌,
-  ◌⊎◌,
-  inl,
-  inr,
-  ℕ,
-  ◌+◌,
-  List,
-  [],
-  ◌∷◌,
-  ◌++◌,
-  refl,
-  ap,
-  ap₂,
-  sym,
-  ◌∙◌,
-  subst,
-  true,
-  false,
-  Bool,
-  Option,
-  Some,
-  None,
-  zero,
-  suc,
-}
-use Rattle.std.specs.Prelude.{◌==◌, drop, take, map, find, filter, cond, not, ◌&&◌, is_some}
+use Rattle.std.proofs.Common.{◌≡◌, ◌⊎◌, inl, inr, ℕ, List, [], ◌∷◌, ◌++◌, refl, subst, true, false, Bool, Option, Some, zero, suc}
+use Rattle.std.specs.Prelude.{◌==◌, drop, take, map, find, filter, cond, ◌&&◌}
 use Rattle.std.specs.List.{AllByRecursion, list_any}
-use Rattle.std.proofs.lemmas.Bool.{eqb-true}
 
 -- ---- what holds of each
 

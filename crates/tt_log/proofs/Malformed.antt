@@ -1,106 +1,38 @@
 -- An event that ends a member with a code ends nobody else, but where the game is over by it.
-use Rattle.std.proofs.Common.{
-  ◌≡◌,
-  ◌⊎◌,
-  inl,
-  inr,
-  ℕ,
-  ◌+◌,
-  ◌≤◌,
-  ◌<◌,
-  List,
-  [],
-  ◌∷◌,
-  ◌++◌,
-  refl,
-  ap,
-  ap₂,
-  sym,
-  ◌∙◌,
-  subst,
-  true,
-  false,
-  Bool,
-  Option,
-  Some,
-  None,
-  arith,
-  zero,
-  suc,
-  append-nil,
-  append_assoc,
-}
-use Rattle.std.specs.Prelude.{◌==◌, drop, take, length, nat_lt, nat_le, map, find, filter, cond, not, ◌&&◌, ◌||◌, position, is_some}
-use Rattle.std.specs.List.{AllByRecursion, list_any, position_or_len}
-use Rattle.std.proofs.lemmas.Bool.{eqb-true, eqb-false, eq-eqb, ne_eqb}
+use Rattle.std.proofs.Common.{◌≡◌, ◌⊎◌, inl, inr, ℕ, ◌+◌, List, [], ◌∷◌, ◌++◌, refl, ap, ap₂, sym, ◌∙◌, subst, true, false, Bool, Option, Some, None, zero, suc}
+use Rattle.std.specs.Prelude.{◌==◌, drop, take, length, nat_lt, nat_le, map, find, cond, not, ◌&&◌, ◌||◌, position, is_some}
+use Rattle.std.specs.List.{AllByRecursion, list_any}
+use Rattle.std.proofs.lemmas.Bool.{eqb-true, eq-eqb}
 use Rattle.tt_edge.specs.declared.event.Event.{Event}
 use Rattle.tt_edge.specs.declared.event.Event.TheVariants.{Open, Packet, Broken, Shut, Tick, Stop}
-use Rattle.tt_edge.specs.Event.{event_cost, is_tick}
-use Rattle.tt_game.specs.declared.message.GameMsg.{GameMsg}
+use Rattle.tt_edge.specs.Event.{event_cost}
 use Rattle.tt_game.specs.declared.message.GameMsg.TheVariants.{ServerError}
 use Rattle.tt_rules.specs.declared.status.Status.TheVariants.{Map, MapWait}
 use Rattle.tt_rules.specs.declared.status.Verdict.{Verdict}
-use Rattle.tt_rules.specs.declared.status.Verdict.TheVariants.{Ends}
 use Rattle.tt_log.specs.declared.deed.Step.{Step}
 use Rattle.tt_log.specs.declared.deed.What.{What}
-use Rattle.tt_log.specs.declared.deed.What.TheVariants.{Msg, ToAdmin, MapBegin, End}
+use Rattle.tt_log.specs.declared.deed.What.TheVariants.{End}
 use Rattle.tt_log.specs.Origin.{Origin}
 use Rattle.tt_log.specs.Member.{Member, is_in, is_playing, is_welcomed}
 use Rattle.tt_log.specs.Admin.{Admin, is_automatic, client_updates}
-use Rattle.tt_log.specs.Table.{Table, member_of, admin_of, is_live, with_member, without_member, playing, is_on, is_admin_on}
-use Rattle.tt_log.specs.Deed.{Said, game, Deed, ◌▹◌, where_, where_some, tells, tells_what}
-use Rattle.tt_log.specs.Queue.{moved_up, left_place, leaves_queue, begins, begins_for, begins_where, downloading, waits}
+use Rattle.tt_log.specs.Table.{Table, member_of, admin_of, is_live, with_member, without_member, is_on, is_admin_on}
+use Rattle.tt_log.specs.Deed.{Said, game, Deed, ◌▹◌, where_, where_some}
+use Rattle.tt_log.specs.Queue.{moved_up, left_place, leaves_queue, begins, begins_for, begins_where, downloading}
 use Rattle.tt_log.specs.Ending.{Failing, tells_farewell, leaves, ends}
-use Rattle.tt_log.specs.Judged.{judged}
 use Rattle.tt_log.specs.Desk.{admin_hears}
-use Rattle.tt_log.specs.Events.{
-  read_msg,
-  read_admin,
-  heard,
-  on_conn,
-  to_named,
-  by_verdict,
-  by_event,
-  charged,
-  stops,
-  closed,
-  shut_down,
-  taken,
-  takes,
-  deed,
-  stepped,
-  names_live,
-  is_stop,
-  last_frame,
-}
+use Rattle.tt_log.specs.Events.{read_msg, read_admin, heard, to_named, by_verdict, by_event, charged, stops, closed, shut_down, taken, takes, deed, stepped, last_frame}
 use Rattle.tt_log.specs.History.{table_of}
 use Rattle.tt_log.specs.Tellings.{Filling, Telling, telling, filled, said_by, filling}
-use Rattle.tt_log.specs.Told.{kept_if, told_to, told_by, told}
+use Rattle.tt_log.specs.Told.{kept_if, told_to, told}
 use Rattle.tt_log.specs.Endings.{EndsWith, IsEcho, StaysButForQueue, IsSameGame}
-use Rattle.tt_log.proofs.Lists.{IsOther, NotIn, Among, all-append, all-filter, any-not, all-of-filter}
-use Rattle.tt_log.proofs.Crew.{
-  On,
-  put,
-  put-conns,
-  conns,
-  admin_conns,
-  others,
-  live-conns,
-  live-admins,
-  found-on,
-  on-found,
-  find-put-here,
-  find-put-other,
-  find-others,
-  none-left,
-}
+use Rattle.tt_log.proofs.Lists.{IsOther, NotIn, all-append, any-not, all-of-filter}
+use Rattle.tt_log.proofs.Crew.{On, put, put-conns, conns, admin_conns, live-conns, live-admins, found-on, on-found, find-put-here, find-put-other, find-others, none-left}
 use Rattle.tt_log.proofs.Changes.{step, turned, moved}
 use Rattle.tt_log.proofs.Walk.{Base, Moves, of-leaves, of-leaves-queue}
 use Rattle.tt_log.proofs.Clock.{SameClock, KeepsClock, same-base, same-moves, over-is-empty}
-use Rattle.tt_log.proofs.Ordered.{Ordered, is-ordered, no-admin}
-use Rattle.tt_log.proofs.Apart.{Misses, missed}
-use Rattle.tt_log.proofs.Phases.{OnceIn, Place, place_in, removed-is, cut-none, none-behind, place-once, any-others}
-use Rattle.tt_log.proofs.Ended.{IsKept, is-kept, none-there}
+use Rattle.tt_log.proofs.Ordered.{is-ordered, no-admin}
+use Rattle.tt_log.proofs.Phases.{OnceIn, place_in, removed-is, cut-none, none-behind, place-once}
+use Rattle.tt_log.proofs.Ended.{is-kept, none-there}
 use Rattle.tt_log.proofs.Refusing.{table-snoc}
 
 -- ---- what is not heard

@@ -1,49 +1,22 @@
 -- The marks of members: frames that they were told, have acknowledged, and at which something began; commands that wait; tokens.
-use Rattle.std.proofs.Common.{
-  ◌≡◌,
-  ◌⊎◌,
-  inl,
-  inr,
-  ℕ,
-  ◌+◌,
-  ◌≤◌,
-  ◌<◌,
-  List,
-  [],
-  ◌∷◌,
-  ◌++◌,
-  refl,
-  ap,
-  sym,
-  ◌∙◌,
-  subst,
-  true,
-  false,
-  Bool,
-  Option,
-  Some,
-  None,
-  arith,
-}
-use Rattle.std.specs.Prelude.{◌==◌, ◌||◌, ◌/◌, ◌*◌, ◌^◌, length, drop, nat_lt, nat_le, map, filter, cond, not}
+use Rattle.std.proofs.Common.{◌≡◌, inl, inr, ℕ, ◌+◌, ◌≤◌, ◌<◌, List, [], ◌∷◌, ◌++◌, refl, ap, true, false, Bool, Option, None, arith}
+use Rattle.std.specs.Prelude.{◌==◌, ◌||◌, ◌/◌, ◌*◌, ◌^◌, length, drop, nat_lt, nat_le, cond, not}
 use Rattle.std.specs.List.{AllByRecursion}
-use Rattle.std.proofs.lemmas.Bool.{leb-true, leb-false, ltb-true, ltb-false, eqb-true}
+use Rattle.std.proofs.lemmas.Bool.{leb-true, leb-false, ltb-true, ltb-false}
 use Rattle.tt_edge.specs.declared.event.Event.{Event}
-use Rattle.tt_edge.specs.declared.event.Event.TheVariants.{Tick}
-use Rattle.tt_game.specs.declared.message.GameMsg.TheVariants.{ClientAck, ClientCommand}
 use Rattle.std.proofs.Math.Nat.{div-lt_iff_lt-mul, mod-lt}
 use Rattle.tt_world.specs.declared.command.Command.{Command}
 use Rattle.std.specs.Prelude.{◌-◌}
 use Rattle.std.specs.Int.{w32, rotate_right}
-use Rattle.tt_world.specs.Random.{next_random, below}
+use Rattle.tt_world.specs.Random.{next_random}
 use Rattle.tt_rules.specs.Reasons.{◌⇒◌, ◌or_else◌}
 use Rattle.tt_rules.specs.Statuses.{rank}
 use Rattle.tt_log.specs.declared.deed.Step.{Step}
 use Rattle.tt_log.specs.Origin.{Origin}
-use Rattle.tt_log.specs.Member.{Member, new_member, standing_of}
-use Rattle.tt_log.specs.Table.{Table, first, is_on, now_in, with_member}
+use Rattle.tt_log.specs.Member.{Member, new_member}
+use Rattle.tt_log.specs.Table.{Table, first, is_on, with_member}
 use Rattle.tt_log.specs.Frames.{fresh_token, opened_token}
-use Rattle.tt_log.specs.PacketRules.{acknowledged, closed_token}
+use Rattle.tt_log.specs.PacketRules.{closed_token}
 use Rattle.tt_log.specs.Desk.{admin_arrives, counted_aside, most_admins}
 use Rattle.tt_log.specs.Tick.{drawn}
 use Rattle.tt_log.specs.Events.{arrives, counted_in, stepped}
@@ -51,30 +24,7 @@ use Rattle.tt_log.specs.History.{table_of}
 use Rattle.tt_log.specs.Marks.{IsMarked}
 use Rattle.tt_log.proofs.Lists.{all-append, all-filter, all-map, all-so, among-all}
 use Rattle.tt_log.proofs.Crew.{On, put-all}
-use Rattle.tt_log.proofs.Changes.{
-  Allows,
-  Change,
-  wants_password,
-  is_let_in,
-  gets_token,
-  gets_frame,
-  answers,
-  plays,
-  commands,
-  has_name,
-  goes_to,
-  founds,
-  gets_pieces,
-  has_all,
-  Asks,
-  May,
-  turned,
-  moved,
-  Move,
-  queues,
-  begins_map,
-  loads,
-}
+use Rattle.tt_log.proofs.Changes.{Change, wants_password, is_let_in, gets_token, gets_frame, answers, plays, commands, has_name, goes_to, founds, gets_pieces, has_all, Asks, May, turned, moved, Move, queues, begins_map, loads}
 use Rattle.tt_log.proofs.Walk.{MayMove, Base, Walk, Doors, Closing, Moves, Ticks, running, of-asks, of-enters, of-leaves, of-deed}
 use Rattle.tt_log.proofs.Clock.{from-all}
 

@@ -1,32 +1,6 @@
 -- Members and admins stand in the order of their connections, each on one of its own; client numbers rise in the same order.
-use Rattle.std.proofs.Common.{
-  ◌≡◌,
-  ◌⊎◌,
-  inl,
-  inr,
-  ℕ,
-  ◌+◌,
-  ◌≤◌,
-  ◌<◌,
-  List,
-  [],
-  ◌∷◌,
-  ◌++◌,
-  refl,
-  ap,
-  ap₂,
-  sym,
-  ◌∙◌,
-  subst,
-  true,
-  false,
-  Bool,
-  Option,
-  Some,
-  None,
-  arith,
-}
-use Rattle.std.specs.Prelude.{◌==◌, length, nat_le, map, filter, find, cond, not, fold}
+use Rattle.std.proofs.Common.{◌≡◌, inl, inr, ℕ, ◌+◌, ◌≤◌, ◌<◌, List, [], ◌∷◌, ◌++◌, refl, ap, ap₂, sym, ◌∙◌, subst, true, false, Bool, Some, None, arith}
+use Rattle.std.specs.Prelude.{◌==◌, length, nat_le, map, filter, find, cond, not}
 use Rattle.std.specs.List.{AllByRecursion}
 use Rattle.std.proofs.lemmas.Bool.{eq-eqb, ne_eqb}
 use Rattle.tt_edge.specs.declared.event.Event.{Event}
@@ -35,12 +9,11 @@ use Rattle.tt_log.specs.Origin.{Origin}
 use Rattle.tt_log.specs.Member.{Member, new_member}
 use Rattle.tt_log.specs.Admin.{Admin, new_admin}
 use Rattle.tt_log.specs.Table.{Table, first, is_on, is_admin_on, member_of, admin_of}
-use Rattle.tt_log.specs.Deed.{Deed, becomes}
 use Rattle.tt_log.specs.Desk.{admin_arrives, counted_aside, most_admins}
 use Rattle.tt_log.specs.Tick.{drawn}
 use Rattle.tt_log.specs.Events.{arrives, counted_in, stepped}
 use Rattle.tt_log.specs.History.{table_of, AreRising}
-use Rattle.tt_log.proofs.Lists.{Among, NotIn, IsOther, all-append, all-so, all-of-filter, among-all}
+use Rattle.tt_log.proofs.Lists.{Among, NotIn, IsOther, all-so, all-of-filter, among-all}
 use Rattle.tt_log.proofs.Crew.{On, put, conns, admin_conns, put-conns, on-found, found-on}
 use Rattle.tt_log.proofs.Changes.{turned-conn, turned-client, moved-conn, moved-client, turned, moved}
 use Rattle.tt_log.proofs.Walk.{Base, Walk, Doors, Closing, Moves, Ticks, running, of-asks, of-enters, of-leaves, of-deed}

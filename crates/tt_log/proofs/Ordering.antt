@@ -1,32 +1,6 @@
 -- What the server ordered itself is what was stamped of it, and then its own list.
-use Rattle.std.proofs.Common.{
-  ◌≡◌,
-  ◌⊎◌,
-  ℕ,
-  ◌+◌,
-  ◌≤◌,
-  ◌<◌,
-  List,
-  [],
-  ◌∷◌,
-  ◌++◌,
-  refl,
-  ap,
-  ap₂,
-  sym,
-  ◌∙◌,
-  subst,
-  true,
-  false,
-  Bool,
-  arith,
-  append-nil,
-  append_assoc,
-  zero,
-  suc,
-}
-use Rattle.std.specs.Prelude.{◌==◌, ◌||◌, fold, length, drop, nat_le, nat_lt, map, cond}
-use Rattle.std.specs.List.{AllByRecursion}
+use Rattle.std.proofs.Common.{◌≡◌, ℕ, ◌+◌, List, [], ◌∷◌, ◌++◌, refl, ap, ap₂, sym, ◌∙◌, subst, true, false, Bool, append-nil, append_assoc, zero, suc}
+use Rattle.std.specs.Prelude.{◌==◌, ◌||◌, fold, length, drop, nat_le, nat_lt, map}
 use Rattle.tt_edge.specs.declared.event.Event.{Event}
 use Rattle.tt_edge.specs.declared.event.Event.TheVariants.{Open, Packet, Broken, Shut, Tick, Stop}
 use Rattle.tt_edge.specs.Event.{is_tick}
@@ -35,7 +9,7 @@ use Rattle.tt_world.specs.declared.command.Entry.{Entry}
 use Rattle.tt_log.specs.declared.deed.Step.{Step}
 use Rattle.tt_log.specs.Origin.{Origin}
 use Rattle.tt_log.specs.Table.{Table, first, living_in}
-use Rattle.tt_log.specs.Deed.{Deed, where_}
+use Rattle.tt_log.specs.Deed.{where_}
 use Rattle.tt_log.specs.Desk.{admin_arrives, counted_aside, most_admins}
 use Rattle.tt_log.specs.Tick.{stamps, own_entry, stamped, frame_runs_by, left_of, ticked}
 use Rattle.tt_log.specs.Events.{arrives, counted_in, by_event, charged, shut_down, stops, taken, takes, stepped, last_frame}
@@ -58,7 +32,7 @@ use Rattle.tt_log.proofs.Walk.{
 }
 use Rattle.tt_log.proofs.Clock.{Ticked, ticked-is, event-same, taken-run}
 use Rattle.tt_log.proofs.Ordered.{Ordered, is-ordered, step-ordered}
-use Rattle.tt_log.proofs.Stamping.{stamped-append, drawing, drawing-none, numbers-other, drop-front, rising-none}
+use Rattle.tt_log.proofs.Stamping.{stamped-append, drawing, drawing-none, drop-front, rising-none}
 
 -- the own list grows behind what stands there, and not in a tick
 record Grows (e : Event) (t u : Table) : Type 0 where

@@ -1,107 +1,24 @@
 -- How far a connection has come: it only comes further, and stands once in the queue just while it waits or downloads.
-use Rattle.std.proofs.Common.{
-  ◌≡◌,
-  ◌⊎◌,
-  inl,
-  inr,
-  ap₂,
-  ℕ,
-  ◌+◌,
-  ◌≤◌,
-  ◌<◌,
-  List,
-  [],
-  ◌∷◌,
-  ◌++◌,
-  refl,
-  ap,
-  sym,
-  ◌∙◌,
-  subst,
-  true,
-  false,
-  Bool,
-  Option,
-  Some,
-  None,
-  arith,
-  zero,
-  suc,
-}
-use Rattle.std.specs.Prelude.{◌==◌, drop, take, length, nat_lt, nat_le, map, find, filter, cond, not, ◌&&◌, ◌||◌, position}
+use Rattle.std.proofs.Common.{◌≡◌, ◌⊎◌, inl, inr, ap₂, ℕ, ◌+◌, ◌≤◌, ◌<◌, List, [], ◌∷◌, ◌++◌, refl, ap, sym, ◌∙◌, true, false, Bool, Option, Some, None, arith, zero, suc}
+use Rattle.std.specs.Prelude.{◌==◌, drop, take, length, nat_lt, map, cond, not, ◌&&◌, ◌||◌}
 use Rattle.std.specs.List.{AllByRecursion, list_any, position_or_len}
-use Rattle.std.proofs.lemmas.Bool.{eqb-true, eqb-false, ltb-false, leb-false}
-use Rattle.tt_edge.specs.declared.event.Door.TheVariants.{Main, Side}
-use Rattle.tt_edge.specs.declared.event.Event.{Event}
-use Rattle.tt_edge.specs.declared.event.Event.TheVariants.{Open, Packet, Broken, Shut, Tick, Stop}
-use Rattle.tt_edge.specs.Event.{event_cost}
-use Rattle.tt_game.specs.declared.message.GameMsg.{GameMsg}
-use Rattle.tt_game.specs.declared.message.GameMsg.TheVariants.{ServerCommand, ServerFrame}
+use Rattle.std.proofs.lemmas.Bool.{eqb-true, eqb-false, ltb-false}
 use Rattle.tt_rules.specs.Statuses.{rank}
 use Rattle.tt_log.specs.declared.deed.Step.{Step}
 use Rattle.tt_log.specs.declared.deed.What.{What}
-use Rattle.tt_log.specs.declared.deed.What.TheVariants.{Msg, ToAdmin, MapBegin, MapPieces, Sync, Entries, Stamp, End}
+use Rattle.tt_log.specs.declared.deed.What.TheVariants.{Msg, Entries, Stamp, End}
 use Rattle.tt_rules.specs.declared.status.Status.TheVariants.{MapWait}
-use Rattle.tt_log.specs.Origin.{Origin}
-use Rattle.tt_log.specs.Member.{Member, is_in, is_playing, is_welcomed, new_member}
-use Rattle.tt_log.specs.Table.{Table, member_of, with_member, without_member, playing, welcomed, is_on, now_in}
-use Rattle.tt_log.specs.Deed.{game, Deed, ◌▹◌, where_, where_some, becomes, tells, tells_what, tells_each, tells_playing}
+use Rattle.tt_log.specs.Member.{Member, is_in, is_welcomed}
+use Rattle.tt_log.specs.Table.{Table, member_of, with_member, without_member, welcomed, is_on, now_in}
+use Rattle.tt_log.specs.Deed.{game, Deed, ◌▹◌, where_, where_some, becomes, tells_what, tells_each}
 use Rattle.tt_log.specs.Told.{is_entry}
 use Rattle.tt_log.specs.Frames.{tells_fresh}
 use Rattle.tt_log.specs.Queue.{moved_up, left_place, leaves_queue, begins, begins_for, begins_where, downloading, waits, asks}
 use Rattle.tt_log.specs.Ending.{Farewell, Quitting, Failing, tells_farewell, leaves}
-use Rattle.tt_log.specs.PacketRules.{client_info, enters, acknowledged, closed_token}
-use Rattle.tt_log.specs.Desk.{admin_arrives, admin_opens, counted_aside, most_admins}
-use Rattle.tt_log.specs.Tick.{drawn, ticked}
-use Rattle.tt_log.specs.Events.{
-  by_event,
-  arrives,
-  opened,
-  counted_in,
-  charged,
-  closed,
-  stops,
-  shut_down,
-  taken,
-  takes,
-  deed,
-  is_stop,
-  last_frame,
-}
-use Rattle.tt_log.proofs.Lists.{Among, IsOther, NotIn, Within, all-append, all-drop, all-filter, all-map, among-all, any-not}
-use Rattle.tt_log.proofs.Crew.{On, put, put-all, put-conns, conns, others, live-conns, found-on}
-use Rattle.tt_log.proofs.Changes.{
-  step,
-  Change,
-  wants_password,
-  is_let_in,
-  gets_token,
-  gets_frame,
-  answers,
-  plays,
-  commands,
-  has_name,
-  goes_to,
-  founds,
-  gets_pieces,
-  has_all,
-  Asks,
-  May,
-  turned,
-  told_with,
-  turned_in,
-  steps_with,
-  moved,
-  Move,
-  queues,
-  begins_map,
-  loads,
-  IsTalk,
-  IsNews,
-  turned-conn,
-}
-use Rattle.tt_log.proofs.Ordered.{map-same}
-use Rattle.tt_log.proofs.Walk.{stamping, running, Base, Walk, Ticks, Closing, Of, of-event, of-ticked, of-taken}
+use Rattle.tt_log.specs.PacketRules.{client_info, enters}
+use Rattle.tt_log.proofs.Lists.{Among, IsOther, NotIn, all-append, all-drop, all-filter, any-not}
+use Rattle.tt_log.proofs.Crew.{On, put, put-all, put-conns, conns, others, found-on}
+use Rattle.tt_log.proofs.Changes.{step, gets_token, turned, moved, loads}
 
 -- ---- phases
 

@@ -1,140 +1,32 @@
 -- Every event brings a connection further, or leaves it in its phase.
-use Rattle.std.proofs.Common.{
-  ◌≡◌,
-  ◌⊎◌,
-  inl,
-  inr,
-  ap₂,
-  ℕ,
-  ◌+◌,
-  ◌≤◌,
-  ◌<◌,
-  List,
-  [],
-  ◌∷◌,
-  ◌++◌,
-  refl,
-  ap,
-  sym,
-  ◌∙◌,
-  subst,
-  true,
-  false,
-  Bool,
-  Option,
-  Some,
-  None,
-  arith,
-  zero,
-  suc,
-}
-use Rattle.std.specs.Prelude.{◌==◌, drop, take, length, nat_lt, nat_le, map, find, filter, cond, not, ◌&&◌, ◌||◌, position}
-use Rattle.std.specs.List.{AllByRecursion, list_any, position_or_len}
-use Rattle.std.proofs.lemmas.Bool.{eqb-true, leb-true}
+use Rattle.std.proofs.Common.{◌≡◌, inl, inr, ℕ, ◌+◌, ◌≤◌, List, [], ◌∷◌, ◌++◌, refl, ap, sym, ◌∙◌, subst, true, false, Bool, arith}
+use Rattle.std.specs.Prelude.{◌==◌, length, nat_le, map, filter, cond, ◌&&◌, ◌||◌}
+use Rattle.std.specs.List.{AllByRecursion, list_any}
+use Rattle.std.proofs.lemmas.Bool.{leb-true}
 use Rattle.tt_edge.specs.declared.event.Door.TheVariants.{Main, Side}
 use Rattle.tt_edge.specs.declared.event.Event.{Event}
 use Rattle.tt_edge.specs.declared.event.Event.TheVariants.{Open, Packet, Broken, Shut, Tick, Stop}
-use Rattle.tt_edge.specs.Event.{event_cost}
 use Rattle.tt_game.specs.declared.message.GameMsg.{GameMsg}
-use Rattle.tt_game.specs.declared.message.GameMsg.TheVariants.{ServerCommand, ServerFrame}
+use Rattle.tt_game.specs.declared.message.GameMsg.TheVariants.{ServerCommand}
 use Rattle.tt_rules.specs.Statuses.{rank}
 use Rattle.tt_log.specs.declared.deed.Step.{Step}
 use Rattle.tt_log.specs.declared.deed.What.{What}
-use Rattle.tt_log.specs.declared.deed.What.TheVariants.{Msg, ToAdmin, MapBegin, MapPieces, Sync, Entries, Stamp, End}
-use Rattle.tt_rules.specs.declared.status.Status.TheVariants.{MapWait}
+use Rattle.tt_log.specs.declared.deed.What.TheVariants.{Msg}
 use Rattle.tt_log.specs.Origin.{Origin}
-use Rattle.tt_log.specs.Member.{Member, is_playing, is_welcomed, new_member}
-use Rattle.tt_log.specs.Table.{Table, member_of, with_member, without_member, playing, welcomed, is_on, now_in}
-use Rattle.tt_log.specs.Deed.{game, Deed, ◌▹◌, where_, where_some, becomes, tells, tells_what, tells_each, tells_playing}
+use Rattle.tt_log.specs.Member.{Member, is_playing, new_member}
+use Rattle.tt_log.specs.Table.{Table, playing}
+use Rattle.tt_log.specs.Deed.{game, Deed, ◌▹◌, where_}
 use Rattle.tt_log.specs.Told.{is_entry}
-use Rattle.tt_log.specs.Frames.{tells_fresh}
-use Rattle.tt_log.specs.Queue.{moved_up, left_place, leaves_queue, begins, begins_for, downloading, waits, asks}
-use Rattle.tt_log.specs.Ending.{Farewell, Quitting, Failing, tells_farewell, leaves}
-use Rattle.tt_log.specs.PacketRules.{client_info, enters, acknowledged, closed_token}
-use Rattle.tt_log.specs.Desk.{admin_arrives, admin_opens, counted_aside, most_admins}
-use Rattle.tt_log.specs.Tick.{drawn, ticked}
-use Rattle.tt_log.specs.Events.{
-  by_event,
-  arrives,
-  opened,
-  counted_in,
-  charged,
-  closed,
-  stops,
-  shut_down,
-  taken,
-  takes,
-  deed,
-  is_stop,
-  last_frame,
-}
-use Rattle.tt_log.proofs.Lists.{Among, IsOther, NotIn, Within, all-append, all-drop, all-filter, all-map, among-all, any-not}
-use Rattle.tt_log.proofs.Crew.{On, put, put-all, put-conns, conns, others, live-conns, found-on}
-use Rattle.tt_log.proofs.Changes.{
-  step,
-  Change,
-  wants_password,
-  is_let_in,
-  gets_token,
-  gets_frame,
-  answers,
-  plays,
-  commands,
-  has_name,
-  goes_to,
-  founds,
-  gets_pieces,
-  has_all,
-  Asks,
-  May,
-  turned,
-  told_with,
-  turned_in,
-  steps_with,
-  moved,
-  Move,
-  queues,
-  begins_map,
-  loads,
-  IsTalk,
-  IsNews,
-  turned-conn,
-}
+use Rattle.tt_log.specs.PacketRules.{acknowledged, closed_token}
+use Rattle.tt_log.specs.Desk.{admin_arrives, counted_aside, most_admins}
+use Rattle.tt_log.specs.Tick.{drawn}
+use Rattle.tt_log.specs.Events.{by_event, arrives, counted_in, charged, closed, stops, shut_down, taken, takes, deed, last_frame}
+use Rattle.tt_log.proofs.Lists.{NotIn, Within, all-append, all-map, among-all, any-not}
+use Rattle.tt_log.proofs.Crew.{conns}
+use Rattle.tt_log.proofs.Changes.{step, Change, wants_password, is_let_in, gets_token, gets_frame, answers, plays, commands, has_name, goes_to, founds, gets_pieces, has_all, Asks, May, turned, steps_with, IsTalk, turned-conn}
 use Rattle.tt_log.proofs.Ordered.{map-same}
-use Rattle.tt_log.proofs.Phases.{
-  Phase,
-  Early,
-  Queued,
-  InGame,
-  fits,
-  Suits,
-  Place,
-  Holds,
-  Has,
-  is_command,
-  Quiet,
-  AllQuiet,
-  WhileQuiet,
-  Later,
-  Goes,
-  GoesBy,
-  later-self,
-  later-then,
-  while-all,
-  while-then,
-  then-goes,
-  where-goes,
-  place-live,
-  put-holds,
-  early-stays,
-  queued-stays,
-  playing-stays,
-  later-end,
-  asks-by,
-  enters-by,
-  leaves-by,
-}
-use Rattle.tt_log.proofs.Walk.{stamping, running, Base, Walk, Ticks, Closing, Of, of-event, of-ticked, of-taken}
+use Rattle.tt_log.proofs.Phases.{Phase, Early, Queued, InGame, fits, Suits, Place, Holds, Has, is_command, Quiet, AllQuiet, Goes, GoesBy, later-self, later-then, while-all, while-then, then-goes, where-goes, place-live, put-holds, early-stays, queued-stays, playing-stays, later-end, asks-by, enters-by, leaves-by}
+use Rattle.tt_log.proofs.Walk.{running, Base, Walk, Ticks, Closing, of-event, of-ticked}
 
 -- ---- what is told is quiet
 

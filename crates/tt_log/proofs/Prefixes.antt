@@ -1,34 +1,6 @@
 -- Behind a member's end what was stamped of it stays the front of what was accepted of it.
-use Rattle.std.proofs.Common.{
-  ◌≡◌,
-  ◌⊎◌,
-  inl,
-  inr,
-  ℕ,
-  ◌+◌,
-  ◌≤◌,
-  ◌<◌,
-  List,
-  [],
-  ◌∷◌,
-  ◌++◌,
-  refl,
-  ap,
-  ap₂,
-  sym,
-  ◌∙◌,
-  subst,
-  true,
-  false,
-  Bool,
-  Option,
-  Some,
-  None,
-  arith,
-  append-nil,
-  append_assoc,
-}
-use Rattle.std.specs.Prelude.{◌==◌, fold, length, take, drop, nat_le, map, filter, find, cond, not}
+use Rattle.std.proofs.Common.{◌≡◌, inl, inr, ℕ, ◌+◌, ◌≤◌, ◌<◌, List, [], ◌∷◌, ◌++◌, refl, ap, ap₂, sym, ◌∙◌, subst, true, false, Bool, Option, Some, None, arith, append-nil, append_assoc}
+use Rattle.std.specs.Prelude.{◌==◌, fold, length, take, drop, nat_le, map, find, cond, not}
 use Rattle.std.specs.List.{AllByRecursion}
 use Rattle.std.proofs.lemmas.Bool.{eqb-true}
 use Rattle.std.proofs.lemmas.List.Sums.{fold-append}
@@ -42,14 +14,14 @@ use Rattle.tt_log.specs.Member.{Member, new_member}
 use Rattle.tt_log.specs.Table.{Table, first, is_on, member_of}
 use Rattle.tt_log.specs.Deed.{where_}
 use Rattle.tt_log.specs.Desk.{admin_arrives, counted_aside, most_admins}
-use Rattle.tt_log.specs.Tick.{drawn, stamps, own_entry, ticked}
-use Rattle.tt_log.specs.Events.{arrives, counted_in, by_event, taken, takes, stepped}
+use Rattle.tt_log.specs.Tick.{stamps, own_entry, ticked}
+use Rattle.tt_log.specs.Events.{arrives, counted_in, taken, takes, stepped}
 use Rattle.tt_log.specs.History.{table_of, journal_of, AreRising}
 use Rattle.tt_log.specs.Stamps.{accepted, accepted_by, accepted_from, stamped_of}
 use Rattle.tt_log.proofs.Lists.{Among, found-among, found-passes}
 use Rattle.tt_log.proofs.Crew.{On, on-found, found-on}
 use Rattle.tt_log.proofs.Changes.{turned, turned-conn, turned-client, moved, moved-conn, moved-client}
-use Rattle.tt_log.proofs.Walk.{Base, Walk, Doors, Closing, Moves, Ticks, running, of-asks, of-enters, of-leaves, of-deed}
+use Rattle.tt_log.proofs.Walk.{Base, Walk, Moves, running, of-asks, of-enters, of-leaves, of-deed}
 use Rattle.tt_log.proofs.Clock.{Ticked, ticked-is, event-same, taken-run}
 use Rattle.tt_log.proofs.Ordered.{Ordered, is-ordered, step-ordered}
 use Rattle.tt_log.proofs.Stamping.{

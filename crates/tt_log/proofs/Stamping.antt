@@ -30,10 +30,9 @@ use Rattle.std.proofs.Common.{
   append-nil,
   append_assoc,
 }
-use Rattle.std.specs.Prelude.{◌==◌, ◌||◌, ◌&&◌, fold, length, take, drop, nat_le, map, flat_map, filter, find, cond, not, is_some}
+use Rattle.std.specs.Prelude.{◌==◌, ◌||◌, ◌&&◌, fold, length, take, drop, nat_le, map, flat_map, filter, cond, not, is_some}
 use Rattle.std.specs.List.{AllByRecursion}
-use Rattle.std.proofs.lemmas.Bool.{eq-eqb, eqb-true, eqb-false, ne_eqb}
-use Rattle.std.proofs.lemmas.List.Sums.{fold-append}
+use Rattle.std.proofs.lemmas.Bool.{eq-eqb, eqb-true, ne_eqb}
 use Rattle.tt_edge.specs.declared.event.Event.{Event}
 use Rattle.tt_edge.specs.declared.event.Event.TheVariants.{Open, Packet, Broken, Shut, Tick, Stop}
 use Rattle.tt_edge.specs.Event.{event_cost}
@@ -47,48 +46,19 @@ use Rattle.tt_rules.specs.declared.status.Verdict.TheVariants.{Allowed, Ends}
 use Rattle.tt_log.specs.declared.deed.Step.{Step}
 use Rattle.tt_log.specs.Origin.{Origin}
 use Rattle.tt_log.specs.Member.{Member, new_member}
-use Rattle.tt_log.specs.Table.{Table, first, is_on, member_of, admin_of, is_live, with_member}
+use Rattle.tt_log.specs.Table.{Table, first, is_on, member_of, admin_of, with_member}
 use Rattle.tt_log.specs.Deed.{Deed, ◌▹◌, where_, where_some}
 use Rattle.tt_log.specs.Judged.{judged}
 use Rattle.tt_log.specs.Ending.{ends}
-use Rattle.tt_log.specs.PacketRules.{acknowledged, closed_token, does, command_waits}
+use Rattle.tt_log.specs.PacketRules.{closed_token, command_waits}
 use Rattle.tt_log.specs.Desk.{admin_arrives, counted_aside, most_admins}
 use Rattle.tt_log.specs.Tick.{drawn, stamps, own_entry, entry_of}
 use Rattle.tt_log.specs.Admin.{Admin}
 use Rattle.tt_log.specs.Desk.{admin_hears}
-use Rattle.tt_log.specs.Events.{
-  read_admin,
-  arrives,
-  counted_in,
-  by_verdict,
-  by_event,
-  charged,
-  closed,
-  shut_down,
-  stops,
-  taken,
-  takes,
-  names_live,
-  stepped,
-  read_msg,
-  heard,
-  on_conn,
-  to_named,
-}
+use Rattle.tt_log.specs.Events.{read_admin, arrives, counted_in, by_verdict, by_event, charged, closed, shut_down, stops, taken, takes, stepped, read_msg, heard, to_named}
 use Rattle.tt_log.specs.History.{table_of, journal_of, AreRising}
-use Rattle.tt_log.specs.Stamps.{
-  accepted,
-  accepted_by,
-  accepted_from,
-  accepted_of,
-  commands_in,
-  command_in,
-  for_company,
-  if_allowed,
-  if_so,
-  stamped_of,
-}
-use Rattle.tt_log.proofs.Lists.{Among, NotIn, IsOther, all-append, all-so, among-all}
+use Rattle.tt_log.specs.Stamps.{accepted, accepted_by, accepted_from, accepted_of, commands_in, for_company, if_allowed, if_so, stamped_of}
+use Rattle.tt_log.proofs.Lists.{Among, NotIn, all-append, all-so, among-all}
 use Rattle.tt_log.proofs.Crew.{On, put, on-found, found-on, conns}
 use Rattle.tt_log.proofs.Changes.{
   Says,
@@ -117,23 +87,7 @@ use Rattle.tt_log.proofs.Changes.{
   begins_map,
   loads,
 }
-use Rattle.tt_log.proofs.Walk.{
-  Base,
-  Walk,
-  Doors,
-  Closing,
-  Moves,
-  Ticks,
-  running,
-  stamping,
-  of-asks,
-  of-enters,
-  of-leaves,
-  of-deed,
-  of-still,
-  of-ends,
-  of-taken,
-}
+use Rattle.tt_log.proofs.Walk.{Base, Walk, Doors, Closing, Moves, Ticks, running, of-asks, of-enters, of-leaves, of-deed, of-ends}
 use Rattle.tt_log.proofs.Ordered.{
   Ordered,
   is-ordered,
@@ -146,7 +100,6 @@ use Rattle.tt_log.proofs.Ordered.{
   order-closing,
   rising-not,
 }
-use Rattle.tt_log.proofs.Refusing.{table-snoc}
 
 -- ---- entries of a sender
 

@@ -1,5 +1,5 @@
 -- An event that ends a member with a code, and what is left then: what the laws say of it.
-use Rattle.std.specs.Prelude.{◌≡◌, ◌⊎◌, ℕ, Bool, true, List, Some, None, Option}
+use Rattle.std.specs.Prelude.{◌≡◌, ◌⊎◌, ℕ, Bool, true, Some, None}
 use Rattle.tt_edge.specs.declared.event.Event.{Event}
 use Rattle.tt_edge.specs.declared.event.Event.TheVariants.{Packet, Broken}
 use Rattle.tt_game.specs.declared.message.GameMsg.{GameMsg}

@@ -1,5 +1,5 @@
 -- How members stand at every time: what the laws say of them.
-use Rattle.std.specs.Prelude.{◌≡◌, ℕ, ◌≤◌, ◌<◌, List, [], length}
+use Rattle.std.specs.Prelude.{◌≡◌, ℕ, ◌≤◌, [], length}
 use Rattle.tt_rules.specs.Statuses.{rank}
 use Rattle.tt_log.specs.Member.{Member}
 

@@ -14,7 +14,7 @@ use Rattle.tt_admin.specs.declared.message.AdminMsg.TheVariants.{
 use Rattle.tt_world.specs.declared.command.Entry.{Entry}
 use Rattle.tt_rules.specs.Commands.{number_of}
 use Rattle.tt_log.specs.declared.deed.What.TheVariants.{ToAdmin}
-use Rattle.tt_log.specs.Admin.{Admin, is_automatic, client_updates, chat_updates, command_updates}
+use Rattle.tt_log.specs.Admin.{is_automatic, client_updates, chat_updates, command_updates}
 use Rattle.tt_log.specs.Member.{Member}
 use Rattle.tt_log.specs.Table.{Table}
 use Rattle.tt_log.specs.Deed.{Deed, becomes, tells_what}
