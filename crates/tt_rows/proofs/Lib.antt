@@ -5,3 +5,8 @@ pub mod PlayingComputed
 pub mod LastingComputed
 pub mod StreamsComputed
 pub mod MapsComputed
+pub mod JoinsComputed
+pub mod LimitsComputed
+pub mod CommandsComputed
+pub mod TalksComputed
+pub mod StepsComputed

@@ -1,5 +1,16 @@
 -- Commands, companies and frames: lists of events, and what a game is made from that is not plain.
-use Rattle.std.specs.Prelude.{List, [], ◌∷◌, ◌++◌, replicate, codes}
+use Rattle.tt_rows.specs.Games.{Game}
+use Rattle.tt_world.specs.declared.command.Code.TheVariants.{
+  IncreaseLoan,
+  DecreaseLoan,
+  Give,
+  PlaceSign,
+  RenameSign,
+  RenameCompany,
+  RenamePresident,
+  NewCompany,
+}
+use Rattle.std.specs.Prelude.{List, [], ◌∷◌, ◌++◌, replicate, codes, true, false}
 use Rattle.tt_edge.specs.declared.event.Event.{Event}
 use Rattle.tt_edge.specs.declared.event.Event.TheVariants.{Tick}
 use Rattle.tt_world.specs.Setup.{plain}
@@ -23,82 +34,338 @@ use Rattle.tt_rows.specs.Words.{
   renames_company,
   renames_president,
   orders,
+  hex,
+  plain_game,
+  entry,
 }
 
 -- Seventeen commands for a company that is none: the first one ends it.
-abbrev pub seventeen_commands : List Event
-seventeen_commands =
-    (opens ∷ founds 1 ann ∷ asks_for_map 1 ∷ Tick ∷ has_loaded 1 ∷ Tick ∷ acknowledges 1 2 ∷ [])
-    ++ replicate 17 (borrows 1 255 10000)
+abbrev pub seventeen_commands : Game
+seventeen_commands = record {
+  origin = plain_game;
+  events =
+      (opens ∷ founds 1 ann ∷ asks_for_map 1 ∷ Tick ∷ has_loaded 1 ∷ Tick ∷ acknowledges 1 2 ∷
+      []) ++ replicate 17 (borrows 1 255 10000);
+  conns = (
+    hex (codes "0e000c020000000000000074740007000f00000000070010410000004400114f54544e0002000047414d450000")
+        ++ hex (codes "000600000000000052414e44000000080000000000000000434d505900000001005349474e000000020000454e")
+        ++ hex (codes "4443000000000300120c001d02000000ff416e6e000c00150100000001000000ff0c0015020000000200000000")
+        ++ hex (codes "0400030c"),
+    false,
+  )
+      ∷ [];
+  journal =
+      [];
+  frames = (2, 2);
+}
 
 -- A founder gets its company, and its loan.
-abbrev pub company_and_loan : List Event
-company_and_loan =
-    opens ∷ founds 1 ann ∷ asks_for_map 1 ∷ Tick ∷ has_loaded 1 ∷ acknowledges 1 1 ∷ Tick ∷ borrows 1 0 10000 ∷ Tick
-    ∷ []
+abbrev pub company_and_loan : Game
+company_and_loan = record {
+  origin = plain_game;
+  events =
+      opens ∷ founds 1 ann ∷ asks_for_map 1 ∷ Tick ∷ has_loaded 1 ∷ acknowledges 1 1 ∷ Tick ∷ borrows 1 0 10000 ∷ Tick ∷ [];
+  conns = (
+    hex (codes "0e000c020000000000000074740007000f00000000070010410000004400114f54544e0002000047414d450000")
+        ++ hex (codes "000600000000000052414e44000000080000000000000000434d505900000001005349474e000000020000454e")
+        ++ hex (codes "4443000000000300120c001d02000000ff416e6e000c00150100000001000000ff140019ff0800020000000000")
+        ++ hex (codes "02000000010000000c001502000000020000000008002002000000001400190000001027000000000300000002")
+        ++ hex (codes "0000000c0015030000000300000000"),
+    true,
+  )
+      ∷ [];
+  journal =
+      entry 2 1 255 NewCompany 2 0 [] ∷ entry 3 2 0 IncreaseLoan 10000 0 [] ∷ [];
+  frames = (3, 3);
+}
 
 -- A command for a company that is not live ends it.
-abbrev pub other_company : List Event
-other_company =
-    opens ∷ founds 1 ann ∷ asks_for_map 1 ∷ Tick ∷ has_loaded 1 ∷ acknowledges 1 1 ∷ Tick ∷ borrows 1 1 10000 ∷ Tick
-    ∷ []
+abbrev pub other_company : Game
+other_company = record {
+  origin = plain_game;
+  events =
+      opens ∷ founds 1 ann ∷ asks_for_map 1 ∷ Tick ∷ has_loaded 1 ∷ acknowledges 1 1 ∷ Tick ∷ borrows 1 1 10000 ∷ Tick ∷ [];
+  conns = (
+    hex (codes "0e000c020000000000000074740007000f00000000070010410000004400114f54544e0002000047414d450000")
+        ++ hex (codes "000600000000000052414e44000000080000000000000000434d505900000001005349474e000000020000454e")
+        ++ hex (codes "4443000000000300120c001d02000000ff416e6e000c00150100000001000000ff140019ff0800020000000000")
+        ++ hex (codes "02000000010000000c001502000000020000000008002002000000000400030c"),
+    false,
+  )
+      ∷ [];
+  journal =
+      entry 2 1 255 NewCompany 2 0 [] ∷ [];
+  frames = (3, 3);
+}
 
 -- The seventeenth waiting command ends it, and the sixteen are dropped.
-abbrev pub sixteen_wait : List Event
-sixteen_wait =
-    (opens ∷ founds 1 ann ∷ asks_for_map 1 ∷ Tick ∷ has_loaded 1 ∷ acknowledges 1 1 ∷ Tick ∷ [])
-    ++ replicate 17 (borrows 1 0 10000) ++ (Tick ∷ [])
+abbrev pub sixteen_wait : Game
+sixteen_wait = record {
+  origin = plain_game;
+  events =
+      (opens ∷ founds 1 ann ∷ asks_for_map 1 ∷ Tick ∷ has_loaded 1 ∷ acknowledges 1 1 ∷ Tick ∷
+      []) ++ replicate 17 (borrows 1 0 10000) ++ (Tick ∷ []);
+  conns = (
+    hex (codes "0e000c020000000000000074740007000f00000000070010410000004400114f54544e0002000047414d450000")
+        ++ hex (codes "000600000000000052414e44000000080000000000000000434d505900000001005349474e000000020000454e")
+        ++ hex (codes "4443000000000300120c001d02000000ff416e6e000c00150100000001000000ff140019ff0800020000000000")
+        ++ hex (codes "02000000010000000c001502000000020000000008002002000000000400030f"),
+    false,
+  )
+      ∷ [];
+  journal =
+      entry 2 1 255 NewCompany 2 0 [] ∷ [];
+  frames = (3, 3);
+}
 
 -- Two members found companies.
-abbrev pub two_founders : List Event
-two_founders =
-    opens ∷ opens ∷ founds 1 ann ∷ asks_for_map 1 ∷ Tick ∷ has_loaded 1 ∷ acknowledges 1 1 ∷ founds 2 bob
-    ∷ asks_for_map 2 ∷ Tick ∷ has_loaded 2 ∷ acknowledges 2 2 ∷ Tick ∷ []
+abbrev pub two_founders : Game
+two_founders = record {
+  origin = plain_game;
+  events =
+      opens ∷ opens ∷ founds 1 ann ∷ asks_for_map 1 ∷ Tick ∷ has_loaded 1 ∷ acknowledges 1 1 ∷ founds 2 bob ∷ asks_for_map 2 ∷
+      Tick ∷ has_loaded 2 ∷ acknowledges 2 2 ∷ Tick ∷ [];
+  conns = (
+    hex (codes "0e000c020000000000000074740007000f00000000070010410000004400114f54544e0002000047414d450000")
+        ++ hex (codes "000600000000000052414e44000000080000000000000000434d505900000001005349474e000000020000454e")
+        ++ hex (codes "4443000000000300120c001d02000000ff416e6e000c00150100000001000000ff0c001d03000000ff426f6200")
+        ++ hex (codes "140019ff080002000000000002000000010000000c001502000000020000000008002002000000000700140300")
+        ++ hex (codes "0000140019ff080003000000000003000000010000000c00150300000003000000000800200300000001"),
+    true,
+  )
+      ∷ (
+        hex (codes "0e000c030000000000000074740007000f01000000070010410000004400114f54544e0002000047414d450000")
+            ++ hex (codes "000600000000010052414e4400000008fe2468adffffffff434d505900000001005349474e000000020000454e")
+            ++ hex (codes "4443000000000300120c001d0200000000416e6e000c001d03000000ff426f6200140019ff0800020000000000")
+            ++ hex (codes "02000000010000000c00150200000002000000c0140019ff080003000000000003000000010000000c00150300")
+            ++ hex (codes "000003000000000800200300000001"),
+        true,
+      )
+      ∷ [];
+  journal =
+      entry 2 1 255 NewCompany 2 0 [] ∷ entry 3 1 255 NewCompany 3 0 [] ∷ [];
+  frames = (3, 3);
+}
 
 -- Commands of two companies, two of a member in a tick.
-abbrev pub gift_and_sign : List Event
-gift_and_sign =
-    opens ∷ opens ∷ founds 1 ann ∷ asks_for_map 1 ∷ Tick ∷ has_loaded 1 ∷ acknowledges 1 1 ∷ founds 2 bob
-    ∷ asks_for_map 2 ∷ Tick ∷ has_loaded 2 ∷ acknowledges 2 2 ∷ Tick ∷ acknowledges 1 3 ∷ gives 1 0 1000 1
-    ∷ places_sign 1 0 77 (codes "Hi") ∷ renames_company 2 1 (codes "Rail") ∷ Tick ∷ renames_sign 1 0 0 (codes "Ho")
-    ∷ renames_president 2 1 (codes "Eve") ∷ repays 2 1 10000 ∷ Tick ∷ Tick ∷ []
+abbrev pub gift_and_sign : Game
+gift_and_sign = record {
+  origin = plain_game;
+  events =
+      opens ∷ opens ∷ founds 1 ann ∷ asks_for_map 1 ∷ Tick ∷ has_loaded 1 ∷ acknowledges 1 1 ∷ founds 2 bob ∷ asks_for_map 2 ∷
+      Tick ∷ has_loaded 2 ∷ acknowledges 2 2 ∷ Tick ∷ acknowledges 1 3 ∷ gives 1 0 1000 1 ∷ places_sign 1 0 77 (codes "Hi") ∷
+      renames_company 2 1 (codes "Rail") ∷ Tick ∷ renames_sign 1 0 0 (codes "Ho") ∷ renames_president 2 1 (codes "Eve") ∷
+      repays 2 1 10000 ∷ Tick ∷ Tick ∷ [];
+  conns = (
+    hex (codes "0e000c020000000000000074740007000f00000000070010410000004400114f54544e0002000047414d450000")
+        ++ hex (codes "000600000000000052414e44000000080000000000000000434d505900000001005349474e000000020000454e")
+        ++ hex (codes "4443000000000300120c001d02000000ff416e6e000c00150100000001000000ff0c001d03000000ff426f6200")
+        ++ hex (codes "140019ff080002000000000002000000010000000c001502000000020000000008002002000000000700140300")
+        ++ hex (codes "0000140019ff080003000000000003000000010000000c00150300000003000000000800200300000001140019")
+        ++ hex (codes "000200e8030000010004000000020000001600190003004d000000004869000400000002000000180019010500")
+        ++ hex (codes "00000000005261696c0004000000030000000c00150400000004000000001600190004000000000000486f0005")
+        ++ hex (codes "000000020000001700190106000000000000457665000500000003000000140019010100102700000000050000")
+        ++ hex (codes "00030000000c00150500000005000000000c0015060000000600000000"),
+    true,
+  )
+      ∷ (
+        hex (codes "0e000c030000000000000074740007000f01000000070010410000004400114f54544e0002000047414d450000")
+            ++ hex (codes "000600000000010052414e4400000008fe2468adffffffff434d505900000001005349474e000000020000454e")
+            ++ hex (codes "4443000000000300120c001d0200000000416e6e000c001d03000000ff426f6200140019ff0800020000000000")
+            ++ hex (codes "02000000010000000c00150200000002000000c0140019ff080003000000000003000000010000000c00150300")
+            ++ hex (codes "000003000000000800200300000001140019000200e8030000010004000000020000001600190003004d000000")
+            ++ hex (codes "00486900040000000200000018001901050000000000005261696c0004000000030000000c0015040000000400")
+            ++ hex (codes "0000001600190004000000000000486f0005000000020000001700190106000000000000457665000500000003")
+            ++ hex (codes "00000014001901010010270000000005000000030000000c00150500000005000000000c001506000000060000")
+            ++ hex (codes "0000"),
+        true,
+      )
+      ∷ [];
+  journal =
+      entry 2 1 255 NewCompany 2 0 [] ∷ entry 3 1 255 NewCompany 3 0 [] ∷ entry 4 2 0 Give 1000 1 [] ∷
+      entry 4 2 0 PlaceSign 77 0 (codes "Hi") ∷ entry 4 3 1 RenameCompany 0 0 (codes "Rail") ∷
+      entry 5 2 0 RenameSign 0 0 (codes "Ho") ∷ entry 5 3 1 RenamePresident 0 0 (codes "Eve") ∷
+      entry 5 3 1 DecreaseLoan 10000 0 [] ∷ [];
+  frames = (6, 6);
+}
 
 -- Of three waiting commands two are stamped in a tick.
-abbrev pub three_stamped_in_two_ticks : List Event
-three_stamped_in_two_ticks =
-    opens ∷ opens ∷ founds 1 ann ∷ asks_for_map 1 ∷ Tick ∷ has_loaded 1 ∷ acknowledges 1 1 ∷ founds 2 bob
-    ∷ asks_for_map 2 ∷ Tick ∷ has_loaded 2 ∷ acknowledges 2 2 ∷ Tick ∷ borrows 1 0 10000 ∷ borrows 1 0 20000
-    ∷ borrows 1 0 30000 ∷ Tick ∷ Tick ∷ []
+abbrev pub three_stamped_in_two_ticks : Game
+three_stamped_in_two_ticks = record {
+  origin = plain_game;
+  events =
+      opens ∷ opens ∷ founds 1 ann ∷ asks_for_map 1 ∷ Tick ∷ has_loaded 1 ∷ acknowledges 1 1 ∷ founds 2 bob ∷ asks_for_map 2 ∷
+      Tick ∷ has_loaded 2 ∷ acknowledges 2 2 ∷ Tick ∷ borrows 1 0 10000 ∷ borrows 1 0 20000 ∷ borrows 1 0 30000 ∷ Tick ∷ Tick ∷
+      [];
+  conns = (
+    hex (codes "0e000c020000000000000074740007000f00000000070010410000004400114f54544e0002000047414d450000")
+        ++ hex (codes "000600000000000052414e44000000080000000000000000434d505900000001005349474e000000020000454e")
+        ++ hex (codes "4443000000000300120c001d02000000ff416e6e000c00150100000001000000ff0c001d03000000ff426f6200")
+        ++ hex (codes "140019ff080002000000000002000000010000000c001502000000020000000008002002000000000700140300")
+        ++ hex (codes "0000140019ff080003000000000003000000010000000c00150300000003000000000800200300000001140019")
+        ++ hex (codes "0000001027000000000400000002000000140019000000204e0000000004000000020000000c00150400000004")
+        ++ hex (codes "0000000014001900000030750000000005000000020000000c0015050000000500000000"),
+    true,
+  )
+      ∷ (
+        hex (codes "0e000c030000000000000074740007000f01000000070010410000004400114f54544e0002000047414d450000")
+            ++ hex (codes "000600000000010052414e4400000008fe2468adffffffff434d505900000001005349474e000000020000454e")
+            ++ hex (codes "4443000000000300120c001d0200000000416e6e000c001d03000000ff426f6200140019ff0800020000000000")
+            ++ hex (codes "02000000010000000c00150200000002000000c0140019ff080003000000000003000000010000000c00150300")
+            ++ hex (codes "0000030000000008002003000000011400190000001027000000000400000002000000140019000000204e0000")
+            ++ hex (codes "000004000000020000000c001504000000040000000014001900000030750000000005000000020000000c0015")
+            ++ hex (codes "050000000500000000"),
+        true,
+      )
+      ∷ [];
+  journal =
+      entry 2 1 255 NewCompany 2 0 [] ∷ entry 3 1 255 NewCompany 3 0 [] ∷ entry 4 2 0 IncreaseLoan 10000 0 [] ∷
+      entry 4 2 0 IncreaseLoan 20000 0 [] ∷ entry 5 2 0 IncreaseLoan 30000 0 [] ∷ [];
+  frames = (5, 5);
+}
 
 -- clients may run three frames ahead
 abbrev pub ahead_of_time_game : Origin
 ahead_of_time_game = made_from (record plain { frame_freq = 3 })
 
 -- With three frames ahead commands wait for their frame, and a joiner is given those that wait.
-abbrev pub ahead_of_time : List Event
-ahead_of_time =
-    (opens ∷ opens ∷ founds 1 ann ∷ asks_for_map 1 ∷ Tick ∷ has_loaded 1 ∷ acknowledges 1 4 ∷ Tick ∷ founds 2 bob
-    ∷ asks_for_map 2 ∷ Tick ∷ Tick ∷ Tick ∷ borrows 1 0 10000 ∷ Tick ∷ has_loaded 2 ∷ Tick ∷ Tick ∷ acknowledges 2 8
-    ∷ []) ++ replicate 6 Tick
+abbrev pub ahead_of_time : Game
+ahead_of_time = record {
+  origin = ahead_of_time_game;
+  events =
+      (opens ∷ opens ∷ founds 1 ann ∷ asks_for_map 1 ∷ Tick ∷ has_loaded 1 ∷ acknowledges 1 4 ∷ Tick ∷ founds 2 bob ∷
+      asks_for_map 2 ∷ Tick ∷ Tick ∷ Tick ∷ borrows 1 0 10000 ∷ Tick ∷ has_loaded 2 ∷ Tick ∷ Tick ∷ acknowledges 2 8 ∷
+      []) ++ replicate 6 Tick;
+  conns = (
+    hex (codes "0e000c020000000000000074740007000f00000000070010410000004400114f54544e0002000047414d450000")
+        ++ hex (codes "000600000000000052414e44000000080000000000000000434d505900000001005349474e000000020000454e")
+        ++ hex (codes "4443000000000300120c001d02000000ff416e6e000c00150100000004000000ff140019ff0800020000000000")
+        ++ hex (codes "05000000010000000c001d03000000ff426f62000c001505000000080000000008002002000000001400190000")
+        ++ hex (codes "00102700000000090000000200000007001403000000140019ff080003000000000009000000010000000c0015")
+        ++ hex (codes "090000000c0000000008002003000000010c00150d0000001000000000"),
+    true,
+  )
+      ∷ (
+        hex (codes "0e000c030000000000000074740007000f02000000070010410000004400114f54544e0002000047414d450000")
+            ++ hex (codes "000600000000020052414e440000000800000001bfc48d14434d505900000001005349474e000000020000454e")
+            ++ hex (codes "4443000000000300120c001d0200000000416e6e000c001d03000000ff426f6200140019ff0800020000000000")
+            ++ hex (codes "050000000100000014001900000010270000000009000000020000000c00150600000008000000c0140019ff08")
+            ++ hex (codes "0003000000000009000000010000000c0015090000000c0000000008002003000000010c00150d000000100000")
+            ++ hex (codes "0000"),
+        true,
+      )
+      ∷ [];
+  journal =
+      entry 5 1 255 NewCompany 2 0 [] ∷ entry 9 2 0 IncreaseLoan 10000 0 [] ∷ entry 9 1 255 NewCompany 3 0 [] ∷ [];
+  frames = (14, 16);
+}
 
 -- a word is told every second frame
 abbrev pub sync_told_game : Origin
 sync_told_game = made_from (record plain { sync_freq = 2 })
 
 -- Every second frame a word is told.
-abbrev pub sync_told : List Event
-sync_told =
-    (opens ∷ spectates 1 ann ∷ asks_for_map 1 ∷ Tick ∷ has_loaded 1 ∷ acknowledges 1 1 ∷ []) ++ replicate 5 Tick
+abbrev pub sync_told : Game
+sync_told = record {
+  origin = sync_told_game;
+  events =
+      (opens ∷ spectates 1 ann ∷ asks_for_map 1 ∷ Tick ∷ has_loaded 1 ∷ acknowledges 1 1 ∷ []) ++ replicate 5 Tick;
+  conns = (
+    hex (codes "0e000c020000000000000074740007000f00000000070010410000004400114f54544e0002000047414d450000")
+        ++ hex (codes "000600000000000052414e44000000080000000000000000434d505900000001005349474e000000020000454e")
+        ++ hex (codes "4443000000000300120c001d02000000ff416e6e000c00150100000001000000ff0c0015020000000200000000")
+        ++ hex (codes "0b001602000000010000000c00150300000003000000000c00150400000004000000000b0016040000000c7977")
+        ++ hex (codes "d70c00150500000005000000000c00150600000006000000000b001606000000d4ec9a28"),
+    true,
+  )
+      ∷ [];
+  journal =
+      [];
+  frames = (6, 6);
+}
 
 -- The pause, an unknown command, and one for a company of another.
-abbrev pub own_codes : List Event
-own_codes =
-    opens ∷ opens ∷ opens ∷ founds 1 ann ∷ asks_for_map 1 ∷ Tick ∷ has_loaded 1 ∷ acknowledges 1 1 ∷ founds 2 bob
-    ∷ asks_for_map 2 ∷ Tick ∷ has_loaded 2 ∷ acknowledges 2 2 ∷ spectates 3 cid ∷ asks_for_map 3 ∷ Tick
-    ∷ has_loaded 3 ∷ acknowledges 3 3 ∷ orders 1 0 7 1 0 [] ∷ orders 2 1 9 1 0 [] ∷ borrows 3 0 10000 ∷ Tick ∷ []
+abbrev pub own_codes : Game
+own_codes = record {
+  origin = plain_game;
+  events =
+      opens ∷ opens ∷ opens ∷ founds 1 ann ∷ asks_for_map 1 ∷ Tick ∷ has_loaded 1 ∷ acknowledges 1 1 ∷ founds 2 bob ∷
+      asks_for_map 2 ∷ Tick ∷ has_loaded 2 ∷ acknowledges 2 2 ∷ spectates 3 cid ∷ asks_for_map 3 ∷ Tick ∷ has_loaded 3 ∷
+      acknowledges 3 3 ∷ orders 1 0 7 1 0 [] ∷ orders 2 1 9 1 0 [] ∷ borrows 3 0 10000 ∷ Tick ∷ [];
+  conns = (
+    hex (codes "0e000c020000000000000074740007000f00000000070010410000004400114f54544e0002000047414d450000")
+        ++ hex (codes "000600000000000052414e44000000080000000000000000434d505900000001005349474e000000020000454e")
+        ++ hex (codes "4443000000000300120c001d02000000ff416e6e000c00150100000001000000ff0c001d03000000ff426f6200")
+        ++ hex (codes "140019ff080002000000000002000000010000000c001502000000020000000008002002000000000700140300")
+        ++ hex (codes "00000c001d04000000ff43696400140019ff080003000000000003000000010000000c00150300000003000000")
+        ++ hex (codes "000800200300000001070014040000000400030c"),
+    false,
+  )
+      ∷ (
+        hex (codes "0e000c030000000000000074740007000f01000000070010410000004400114f54544e0002000047414d450000")
+            ++ hex (codes "000600000000010052414e4400000008fe2468adffffffff434d505900000001005349474e000000020000454e")
+            ++ hex (codes "4443000000000300120c001d0200000000416e6e000c001d03000000ff426f6200140019ff0800020000000000")
+            ++ hex (codes "02000000010000000c00150200000002000000c00c001d04000000ff43696400140019ff080003000000000003")
+            ++ hex (codes "000000010000000c0015030000000300000000080020030000000107001404000000080022020000000c040003")
+            ++ hex (codes "07"),
+        false,
+      )
+      ∷ (
+        hex (codes "0e000c040000000000000074740007000f02000000070010660000006900114f54544e0002000047414d450000")
+            ++ hex (codes "000600000000020052414e440000000800000001bfc48d14434d505900000026010000000000000186a0000186")
+            ++ hex (codes "a0000493e009436f6d70616e79203109507265736964656e745349474e000000020000454e4443000000000300")
+            ++ hex (codes "120c001d0200000000416e6e000c001d0300000001426f62000c001d04000000ff43696400140019ff08000300")
+            ++ hex (codes "0000000003000000010000000c0015030000000300000020080022020000000c08002203000000070400030b"),
+        false,
+      )
+      ∷ [];
+  journal =
+      entry 2 1 255 NewCompany 2 0 [] ∷ entry 3 1 255 NewCompany 3 0 [] ∷ [];
+  frames = (4, 4);
+}
 
 -- Behind a day a company has earned.
-abbrev pub a_day : List Event
-a_day =
-    (opens ∷ founds 1 ann ∷ asks_for_map 1 ∷ Tick ∷ has_loaded 1 ∷ acknowledges 1 1 ∷ []) ++ replicate 20 Tick
-    ++ (borrows 1 0 10000 ∷ []) ++ replicate 75 Tick
+abbrev pub a_day : Game
+a_day = record {
+  origin = plain_game;
+  events =
+      (opens ∷ founds 1 ann ∷ asks_for_map 1 ∷ Tick ∷ has_loaded 1 ∷ acknowledges 1 1 ∷
+      []) ++ replicate 20 Tick ++ (borrows 1 0 10000 ∷ []) ++ replicate 75 Tick;
+  conns = (
+    hex (codes "0e000c020000000000000074740007000f00000000070010410000004400114f54544e0002000047414d450000")
+        ++ hex (codes "000600000000000052414e44000000080000000000000000434d505900000001005349474e000000020000454e")
+        ++ hex (codes "4443000000000300120c001d02000000ff416e6e000c00150100000001000000ff140019ff0800020000000000")
+        ++ hex (codes "02000000010000000c001502000000020000000008002002000000000c00150300000003000000000c00150400")
+        ++ hex (codes "000004000000000c00150500000005000000000c00150600000006000000000c00150700000007000000000c00")
+        ++ hex (codes "150800000008000000000c00150900000009000000000c00150a0000000a000000000c00150b0000000b000000")
+        ++ hex (codes "000c00150c0000000c000000000c00150d0000000d000000000c00150e0000000e000000000c00150f0000000f")
+        ++ hex (codes "000000000c00151000000010000000000c00151100000011000000000c00151200000012000000000c00151300")
+        ++ hex (codes "000013000000000c00151400000014000000000c00151500000015000000001400190000001027000000001600")
+        ++ hex (codes "0000020000000c00151600000016000000000c00151700000017000000000c00151800000018000000000c0015")
+        ++ hex (codes "1900000019000000000c00151a0000001a000000000c00151b0000001b000000000c00151c0000001c00000000")
+        ++ hex (codes "0c00151d0000001d000000000c00151e0000001e000000000c00151f0000001f000000000c0015200000002000")
+        ++ hex (codes "0000000c00152100000021000000000c00152200000022000000000c00152300000023000000000c0015240000")
+        ++ hex (codes "0024000000000c00152500000025000000000c00152600000026000000000c00152700000027000000000c0015")
+        ++ hex (codes "2800000028000000000c00152900000029000000000c00152a0000002a000000000c00152b0000002b00000000")
+        ++ hex (codes "0c00152c0000002c000000000c00152d0000002d000000000c00152e0000002e000000000c00152f0000002f00")
+        ++ hex (codes "0000000c00153000000030000000000c00153100000031000000000c00153200000032000000000c0015330000")
+        ++ hex (codes "0033000000000c00153400000034000000000c00153500000035000000000c00153600000036000000000c0015")
+        ++ hex (codes "3700000037000000000c00153800000038000000000c00153900000039000000000c00153a0000003a00000000")
+        ++ hex (codes "0c00153b0000003b000000000c00153c0000003c000000000c00153d0000003d000000000c00153e0000003e00")
+        ++ hex (codes "0000000c00153f0000003f000000000c00154000000040000000000c00154100000041000000000c0015420000")
+        ++ hex (codes "0042000000000c00154300000043000000000c00154400000044000000000c00154500000045000000000c0015")
+        ++ hex (codes "4600000046000000000c00154700000047000000000c00154800000048000000000c0015490000004900000000")
+        ++ hex (codes "0c00154a0000004a000000000c00154b0000004b000000000c00154c0000004c000000000c00154d0000004d00")
+        ++ hex (codes "0000000c00154e0000004e000000000c00154f0000004f000000000c00155000000050000000000c0015510000")
+        ++ hex (codes "0051000000000c00155200000052000000000c00155300000053000000000c00155400000054000000000c0015")
+        ++ hex (codes "5500000055000000000c00155600000056000000000c00155700000057000000000c0015580000005800000000")
+        ++ hex (codes "0c00155900000059000000000c00155a0000005a000000000c00155b0000005b000000000c00155c0000005c00")
+        ++ hex (codes "0000000c00155d0000005d000000000c00155e0000005e000000000c00155f0000005f000000000c0015600000")
+        ++ hex (codes "006000000000"),
+    true,
+  )
+      ∷ [];
+  journal =
+      entry 2 1 255 NewCompany 2 0 [] ∷ entry 22 2 0 IncreaseLoan 10000 0 [] ∷ [];
+  frames = (96, 96);
+}

@@ -20,8 +20,8 @@ pub record Game : Type 0 where
 -- of the connections from one on
 abbrev pub Conns : Game → ℕ → List (List ℕ × Bool) → Type 0
 Conns g conn [] = Unit {0}
-Conns g conn (c ∷ conns) =
-    (sent g.origin g.events conn ≡ c.0) × (is_live (table_of g.origin g.events) conn ≡ c.1) × Conns g (conn + 1) conns
+Conns g conn (c ∷ conns) = (sent g.origin g.events conn ≡ c.0) × (is_live (table_of g.origin g.events) conn ≡ c.1)
+    × Conns g (conn + 1) conns
 
 -- its events come to this
 abbrev pub ComesTo : Game → Type 0

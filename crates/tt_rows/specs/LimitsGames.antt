@@ -1,5 +1,6 @@
 -- Time limits and acknowledgements: lists of events, and what a game is made from that is not plain.
-use Rattle.std.specs.Prelude.{List, [], ◌∷◌, ◌++◌, replicate, codes}
+use Rattle.tt_rows.specs.Games.{Game}
+use Rattle.std.specs.Prelude.{List, [], ◌∷◌, ◌++◌, replicate, codes, true, false}
 use Rattle.tt_edge.specs.declared.event.Event.{Event}
 use Rattle.tt_edge.specs.declared.event.Event.TheVariants.{Tick}
 use Rattle.tt_world.specs.Setup.{plain}
@@ -17,61 +18,239 @@ use Rattle.tt_rows.specs.Words.{
   acknowledges,
   gives_back,
   chats_to,
+  hex,
+  plain_game,
 }
 
 -- A connection that says nothing may stay for 100 ticks.
-abbrev pub quiet_for_100_ticks : List Event
-quiet_for_100_ticks =
-    (opens ∷ []) ++ replicate 100 Tick
+abbrev pub quiet_for_100_ticks : Game
+quiet_for_100_ticks = record {
+  origin = plain_game;
+  events =
+      (opens ∷ []) ++ replicate 100 Tick;
+  conns = (
+    [],
+    true,
+  )
+      ∷ [];
+  journal =
+      [];
+  frames = (100, 100);
+}
 
 -- Behind 101 ticks it ends.
-abbrev pub late_behind_101_ticks : List Event
-late_behind_101_ticks =
-    (opens ∷ []) ++ replicate 101 Tick
+abbrev pub late_behind_101_ticks : Game
+late_behind_101_ticks = record {
+  origin = plain_game;
+  events =
+      (opens ∷ []) ++ replicate 101 Tick;
+  conns = (
+    hex (codes "04000311"),
+    false,
+  )
+      ∷ [];
+  journal =
+      [];
+  frames = (101, 101);
+}
 
 -- short limits of time, and a password
 abbrev pub limits_of_time_game : Origin
 limits_of_time_game = made_from (record plain { init = 3; pass_limit = 2; download = 4; «join» = 5; lag = 6; password = codes "px" })
 
 -- Limits of time before the welcome.
-abbrev pub limits_of_time : List Event
-limits_of_time =
-    opens ∷ opens ∷ Tick ∷ Tick ∷ Tick ∷ spectates 1 ann ∷ Tick ∷ Tick ∷ Tick ∷ []
+abbrev pub limits_of_time : Game
+limits_of_time = record {
+  origin = limits_of_time_game;
+  events =
+      opens ∷ opens ∷ Tick ∷ Tick ∷ Tick ∷ spectates 1 ann ∷ Tick ∷ Tick ∷ Tick ∷ [];
+  conns = (
+    hex (codes "0a00080000000074740004000310"),
+    false,
+  )
+      ∷ (
+        hex (codes "04000311"),
+        false,
+      )
+      ∷ [];
+  journal =
+      [];
+  frames = (6, 6);
+}
 
 -- short limits of time
 abbrev pub limits_of_map_game : Origin
 limits_of_map_game = made_from (record plain { init = 3; download = 4; «join» = 5; lag = 6 })
 
 -- Limits of time of a download, of those behind it, and of one that never came.
-abbrev pub limits_of_map : List Event
-limits_of_map =
-    replicate 4 opens ++ (spectates 1 ann ∷ spectates 2 bob ∷ spectates 3 cid ∷ spectates 4 dan ∷ asks_for_map 1
-    ∷ asks_for_map 2 ∷ asks_for_map 3 ∷ []) ++ replicate 5 Tick ++ (has_loaded 2 ∷ []) ++ replicate 6 Tick
+abbrev pub limits_of_map : Game
+limits_of_map = record {
+  origin = limits_of_map_game;
+  events =
+      replicate 4 opens ++ (spectates 1 ann ∷ spectates 2 bob ∷ spectates 3 cid ∷ spectates 4 dan ∷ asks_for_map 1 ∷
+      asks_for_map 2 ∷ asks_for_map 3 ∷ []) ++ replicate 5 Tick ++ (has_loaded 2 ∷ []) ++ replicate 6 Tick;
+  conns = (
+    hex (codes "0e000c020000000000000074740007000f00000000070010410000004400114f54544e0002000047414d450000")
+        ++ hex (codes "000600000000000052414e44000000080000000000000000434d505900000001005349474e000000020000454e")
+        ++ hex (codes "44430000000003001204000312"),
+    false,
+  )
+      ∷ (
+        hex (codes "0e000c030000000000000074740004000e0107000f050000000700104100000004000307"),
+        false,
+      )
+      ∷ (
+        hex (codes "0e000c040000000000000074740004000e0204000e0107000f05000000070010410000004400114f54544e0002")
+            ++ hex (codes "000047414d450000000600000000050052414e4400000008698937619aeeef20434d505900000001005349474e")
+            ++ hex (codes "000000020000454e44430000000003001204000312"),
+        false,
+      )
+      ∷ (
+        hex (codes "0e000c050000000000000074740004000311"),
+        false,
+      )
+      ∷ [];
+  journal =
+      [];
+  frames = (11, 11);
+}
 
 -- an active member may lag six frames behind
 abbrev pub short_lag_game : Origin
 short_lag_game = made_from (record plain { lag = 6 })
 
 -- A member that acknowledges nothing ends.
-abbrev pub lags : List Event
-lags =
-    (opens ∷ spectates 1 ann ∷ asks_for_map 1 ∷ Tick ∷ has_loaded 1 ∷ acknowledges 1 1 ∷ []) ++ replicate 7 Tick
+abbrev pub lags : Game
+lags = record {
+  origin = short_lag_game;
+  events =
+      (opens ∷ spectates 1 ann ∷ asks_for_map 1 ∷ Tick ∷ has_loaded 1 ∷ acknowledges 1 1 ∷ []) ++ replicate 7 Tick;
+  conns = (
+    hex (codes "0e000c020000000000000074740007000f00000000070010410000004400114f54544e0002000047414d450000")
+        ++ hex (codes "000600000000000052414e44000000080000000000000000434d505900000001005349474e000000020000454e")
+        ++ hex (codes "4443000000000300120c001d02000000ff416e6e000c00150100000001000000ff0c0015020000000200000000")
+        ++ hex (codes "0c00150300000003000000000c00150400000004000000000c00150500000005000000000c0015060000000600")
+        ++ hex (codes "0000000c00150700000007000000000c001508000000080000000004000311"),
+    false,
+  )
+      ∷ [];
+  journal =
+      [];
+  frames = (8, 8);
+}
 
 -- A member that acknowledges stays.
-abbrev pub acknowledged_in_time : List Event
-acknowledged_in_time =
-    (opens ∷ spectates 1 ann ∷ asks_for_map 1 ∷ Tick ∷ has_loaded 1 ∷ gives_back 1 1 255 ∷ []) ++ replicate 4 Tick
-    ++ (gives_back 1 5 192 ∷ []) ++ replicate 4 Tick
+abbrev pub acknowledged_in_time : Game
+acknowledged_in_time = record {
+  origin = short_lag_game;
+  events =
+      (opens ∷ spectates 1 ann ∷ asks_for_map 1 ∷ Tick ∷ has_loaded 1 ∷ gives_back 1 1 255 ∷
+      []) ++ replicate 4 Tick ++ (gives_back 1 5 192 ∷ []) ++ replicate 4 Tick;
+  conns = (
+    hex (codes "0e000c020000000000000074740007000f00000000070010410000004400114f54544e0002000047414d450000")
+        ++ hex (codes "000600000000000052414e44000000080000000000000000434d505900000001005349474e000000020000454e")
+        ++ hex (codes "4443000000000300120c001d02000000ff416e6e000c00150100000001000000ff0c00150200000002000000c0")
+        ++ hex (codes "0c00150300000003000000000c00150400000004000000000c00150500000005000000000c0015060000000600")
+        ++ hex (codes "0000200c00150700000007000000000c00150800000008000000000c0015090000000900000000"),
+    true,
+  )
+      ∷ [];
+  journal =
+      [];
+  frames = (9, 9);
+}
 
 -- An acknowledged frame that was not permitted, and one below the last.
-abbrev pub bad_ack : List Event
-bad_ack =
-    opens ∷ opens ∷ spectates 1 ann ∷ asks_for_map 1 ∷ Tick ∷ has_loaded 1 ∷ acknowledges 1 1 ∷ spectates 2 bob
-    ∷ asks_for_map 2 ∷ Tick ∷ has_loaded 2 ∷ acknowledges 2 2 ∷ acknowledges 1 9 ∷ Tick ∷ acknowledges 2 1 ∷ []
+abbrev pub bad_ack : Game
+bad_ack = record {
+  origin = plain_game;
+  events =
+      opens ∷ opens ∷ spectates 1 ann ∷ asks_for_map 1 ∷ Tick ∷ has_loaded 1 ∷ acknowledges 1 1 ∷ spectates 2 bob ∷
+      asks_for_map 2 ∷ Tick ∷ has_loaded 2 ∷ acknowledges 2 2 ∷ acknowledges 1 9 ∷ Tick ∷ acknowledges 2 1 ∷ [];
+  conns = (
+    hex (codes "0e000c020000000000000074740007000f00000000070010410000004400114f54544e0002000047414d450000")
+        ++ hex (codes "000600000000000052414e44000000080000000000000000434d505900000001005349474e000000020000454e")
+        ++ hex (codes "4443000000000300120c001d02000000ff416e6e000c00150100000001000000ff0c001d03000000ff426f6200")
+        ++ hex (codes "0c00150200000002000000000700140300000004000307"),
+    false,
+  )
+      ∷ (
+        hex (codes "0e000c030000000000000074740007000f01000000070010410000004400114f54544e0002000047414d450000")
+            ++ hex (codes "000600000000010052414e4400000008fe2468adffffffff434d505900000001005349474e000000020000454e")
+            ++ hex (codes "4443000000000300120c001d02000000ff416e6e000c001d03000000ff426f62000c00150200000002000000c0")
+            ++ hex (codes "08002202000000070c001503000000030000000004000307"),
+        false,
+      )
+      ∷ [];
+  journal =
+      [];
+  frames = (3, 3);
+}
 
 -- An acknowledgement 74 frames behind makes a member active, one 75 behind does not.
-abbrev pub late_acknowledgements : List Event
-late_acknowledgements =
-    (opens ∷ opens ∷ spectates 1 ann ∷ spectates 2 bob ∷ asks_for_map 1 ∷ asks_for_map 2 ∷ Tick ∷ has_loaded 1
-    ∷ Tick ∷ has_loaded 2 ∷ []) ++ replicate 73 Tick ++ (acknowledges 1 1 ∷ Tick ∷ Tick ∷ acknowledges 2 2
-    ∷ chats_to 1 0 0 (codes "a") ∷ chats_to 2 0 0 (codes "b") ∷ [])
+abbrev pub late_acknowledgements : Game
+late_acknowledgements = record {
+  origin = plain_game;
+  events =
+      (opens ∷ opens ∷ spectates 1 ann ∷ spectates 2 bob ∷ asks_for_map 1 ∷ asks_for_map 2 ∷ Tick ∷ has_loaded 1 ∷ Tick ∷
+      has_loaded 2 ∷ []) ++ replicate 73 Tick ++ (acknowledges 1 1 ∷ Tick ∷ Tick ∷ acknowledges 2 2 ∷
+      chats_to 1 0 0 (codes "a") ∷ chats_to 2 0 0 (codes "b") ∷ []);
+  conns = (
+    hex (codes "0e000c020000000000000074740007000f00000000070010410000004400114f54544e0002000047414d450000")
+        ++ hex (codes "000600000000000052414e44000000080000000000000000434d505900000001005349474e000000020000454e")
+        ++ hex (codes "4443000000000300120c001d02000000ff416e6e000c001d03000000ff426f62000c00150100000001000000ff")
+        ++ hex (codes "0c00150200000002000000000c00150300000003000000000c00150400000004000000000c0015050000000500")
+        ++ hex (codes "0000000c00150600000006000000000c00150700000007000000000c00150800000008000000000c0015090000")
+        ++ hex (codes "0009000000000c00150a0000000a000000000c00150b0000000b000000000c00150c0000000c000000000c0015")
+        ++ hex (codes "0d0000000d000000000c00150e0000000e000000000c00150f0000000f000000000c0015100000001000000000")
+        ++ hex (codes "0c00151100000011000000000c00151200000012000000000c00151300000013000000000c0015140000001400")
+        ++ hex (codes "0000000c00151500000015000000000c00151600000016000000000c00151700000017000000000c0015180000")
+        ++ hex (codes "0018000000000c00151900000019000000000c00151a0000001a000000000c00151b0000001b000000000c0015")
+        ++ hex (codes "1c0000001c000000000c00151d0000001d000000000c00151e0000001e000000000c00151f0000001f00000000")
+        ++ hex (codes "0c00152000000020000000000c00152100000021000000000c00152200000022000000000c0015230000002300")
+        ++ hex (codes "0000000c00152400000024000000000c00152500000025000000000c00152600000026000000000c0015270000")
+        ++ hex (codes "0027000000000c00152800000028000000000c00152900000029000000000c00152a0000002a000000000c0015")
+        ++ hex (codes "2b0000002b000000000c00152c0000002c000000000c00152d0000002d000000000c00152e0000002e00000000")
+        ++ hex (codes "0c00152f0000002f000000000c00153000000030000000000c00153100000031000000000c0015320000003200")
+        ++ hex (codes "0000000c00153300000033000000000c00153400000034000000000c00153500000035000000000c0015360000")
+        ++ hex (codes "0036000000000c00153700000037000000000c00153800000038000000000c00153900000039000000000c0015")
+        ++ hex (codes "3a0000003a000000000c00153b0000003b000000000c00153c0000003c000000000c00153d0000003d00000000")
+        ++ hex (codes "0c00153e0000003e000000000c00153f0000003f000000000c00154000000040000000000c0015410000004100")
+        ++ hex (codes "0000000c00154200000042000000000c00154300000043000000000c00154400000044000000000c0015450000")
+        ++ hex (codes "0045000000000c00154600000046000000000c00154700000047000000000c00154800000048000000000c0015")
+        ++ hex (codes "4900000049000000000c00154a0000004a000000000c00154b0000004b000000000c00154c0000004c00000000")
+        ++ hex (codes "0c00154d0000004d000000000a001b020000000061000800220300000007"),
+    true,
+  )
+      ∷ (
+        hex (codes "0e000c030000000000000074740004000e0107000f01000000070010410000004400114f54544e000200004741")
+            ++ hex (codes "4d450000000600000000010052414e4400000008fe2468adffffffff434d505900000001005349474e00000002")
+            ++ hex (codes "0000454e4443000000000300120c001d02000000ff416e6e000c001d03000000ff426f62000c00150200000002")
+            ++ hex (codes "000000c00c00150300000003000000000c00150400000004000000000c00150500000005000000000c00150600")
+            ++ hex (codes "000006000000000c00150700000007000000000c00150800000008000000000c00150900000009000000000c00")
+            ++ hex (codes "150a0000000a000000000c00150b0000000b000000000c00150c0000000c000000000c00150d0000000d000000")
+            ++ hex (codes "000c00150e0000000e000000000c00150f0000000f000000000c00151000000010000000000c00151100000011")
+            ++ hex (codes "000000000c00151200000012000000000c00151300000013000000000c00151400000014000000000c00151500")
+            ++ hex (codes "000015000000000c00151600000016000000000c00151700000017000000000c00151800000018000000000c00")
+            ++ hex (codes "151900000019000000000c00151a0000001a000000000c00151b0000001b000000000c00151c0000001c000000")
+            ++ hex (codes "000c00151d0000001d000000000c00151e0000001e000000000c00151f0000001f000000000c00152000000020")
+            ++ hex (codes "000000000c00152100000021000000000c00152200000022000000000c00152300000023000000000c00152400")
+            ++ hex (codes "000024000000000c00152500000025000000000c00152600000026000000000c00152700000027000000000c00")
+            ++ hex (codes "152800000028000000000c00152900000029000000000c00152a0000002a000000000c00152b0000002b000000")
+            ++ hex (codes "000c00152c0000002c000000000c00152d0000002d000000000c00152e0000002e000000000c00152f0000002f")
+            ++ hex (codes "000000000c00153000000030000000000c00153100000031000000000c00153200000032000000000c00153300")
+            ++ hex (codes "000033000000000c00153400000034000000000c00153500000035000000000c00153600000036000000000c00")
+            ++ hex (codes "153700000037000000000c00153800000038000000000c00153900000039000000000c00153a0000003a000000")
+            ++ hex (codes "000c00153b0000003b000000000c00153c0000003c000000000c00153d0000003d000000000c00153e0000003e")
+            ++ hex (codes "000000000c00153f0000003f000000000c00154000000040000000000c00154100000041000000000c00154200")
+            ++ hex (codes "000042000000000c00154300000043000000000c00154400000044000000000c00154500000045000000000c00")
+            ++ hex (codes "154600000046000000000c00154700000047000000000c00154800000048000000000c00154900000049000000")
+            ++ hex (codes "000c00154a0000004a000000000c00154b0000004b00000000070014020000000c00154c0000004c000000000c")
+            ++ hex (codes "00154d0000004d000000000a001b0200000000610004000307"),
+        false,
+      )
+      ∷ [];
+  journal =
+      [];
+  frames = (77, 77);
+}

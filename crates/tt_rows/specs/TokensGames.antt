@@ -80,8 +80,8 @@ wrong_frame_first = record {
 abbrev pub open_for_long : Game
 open_for_long = record {
   origin = short_lag_game;
-  events = comes_in ++ acknowledges 1 2 ∷ Tick ∷ acknowledges 1 3 ∷ Tick ∷ acknowledges 1 4 ∷ Tick ∷ acknowledges 1 5 ∷ Tick ∷ acknowledges
-      1 6 ∷ Tick ∷ acknowledges 1 7 ∷ Tick ∷ [];
+  events = comes_in ++ acknowledges 1 2 ∷ Tick ∷ acknowledges 1 3 ∷ Tick ∷ acknowledges 1 4 ∷ Tick ∷ acknowledges 1 5 ∷ Tick
+      ∷ acknowledges 1 6 ∷ Tick ∷ acknowledges 1 7 ∷ Tick ∷ [];
   conns = (
     told_so_far ++ hex (codes "0c00150300000003000000000c00150400000004000000000c00150500000005000000000c00150600000006000000000c00")
         ++ hex (codes "150700000007000000000c001508000000080000000004000311"),
@@ -95,8 +95,8 @@ open_for_long = record {
 abbrev pub open_for_the_lag : Game
 open_for_the_lag = record {
   origin = short_lag_game;
-  events = comes_in ++ acknowledges 1 2 ∷ Tick ∷ acknowledges 1 3 ∷ Tick ∷ acknowledges 1 4 ∷ Tick ∷ acknowledges 1 5 ∷ Tick ∷ acknowledges
-      1 6 ∷ Tick ∷ [];
+  events = comes_in ++ acknowledges 1 2 ∷ Tick ∷ acknowledges 1 3 ∷ Tick ∷ acknowledges 1 4 ∷ Tick ∷ acknowledges 1 5 ∷ Tick
+      ∷ acknowledges 1 6 ∷ Tick ∷ [];
   conns = (
     told_so_far ++ hex (codes "0c00150300000003000000000c00150400000004000000000c00150500000005000000000c00150600000006000000000c00")
         ++ hex (codes "15070000000700000000"),

@@ -3,7 +3,7 @@ ghost use Rattle.std.specs.Prelude.{◌≡◌, [], ◌∷◌, ◌++◌, codes};
 ghost use Rattle.tt_log.specs.Told.{sent};
 ghost use Rattle.tt_world.specs.declared.command.Code.TheVariants.{IncreaseLoan, NewCompany};
 ghost use Rattle.tt_log.specs.Shown.{EndedWith, Joining, Loaded, ShutDown, WrongAt};
-ghost use Rattle.tt_rows.specs.Words.{entry, hex, plain_game};
+ghost use Rattle.tt_rows.specs.Words.{entry, hex};
 ghost use Rattle.tt_rows.specs.JoinsGames.{whole_join};
 ghost use Rattle.tt_rows.specs.CommandsGames.{company_and_loan, two_founders};
 ghost use Rattle.tt_rows.specs.TalksGames.{moves, stopped};
@@ -27,38 +27,38 @@ pub fn shows_where_it_is_wrong()
     ensures second { (seen_in (welcome ++ frame_1 ++ no_message)).phase ≡ WrongAt 14 }
     ensures part { (seen_in (welcome ++ hex (codes "0c0015"))).phase ≡ Joining }
     // In the game: a permitted frame below the last one, behind the 135 bytes of a whole join.
-    ensures falls { (seen_in (sent plain_game whole_join 1 ++ frame_1)).phase ≡ WrongAt 135 }
+    ensures falls { (seen_in (sent whole_join.origin whole_join.events 1 ++ frame_1)).phase ≡ WrongAt 135 }
 {}
 
 /// A client that has its map plays; it is in no company until one is named with its number.
 pub fn shows_a_spectator()
-    ensures phase { (seen_in (sent plain_game whole_join 1)).phase ≡ Loaded }
-    ensures client { (seen_in (sent plain_game whole_join 1)).client ≡ 2 }
-    ensures company { (seen_in (sent plain_game whole_join 1)).company ≡ 255 }
-    ensures permitted { permitted_in (seen_in (sent plain_game whole_join 1)).seen ≡ 2 }
+    ensures phase { (seen_in (sent whole_join.origin whole_join.events 1)).phase ≡ Loaded }
+    ensures client { (seen_in (sent whole_join.origin whole_join.events 1)).client ≡ 2 }
+    ensures company { (seen_in (sent whole_join.origin whole_join.events 1)).company ≡ 255 }
+    ensures permitted { permitted_in (seen_in (sent whole_join.origin whole_join.events 1)).seen ≡ 2 }
 {}
 
 /// A founder is shown its company by MOVE, and the commands of the journal.
 pub fn shows_a_founder()
-    ensures phase { (seen_in (sent plain_game company_and_loan 1)).phase ≡ Loaded }
-    ensures company { (seen_in (sent plain_game company_and_loan 1)).company ≡ 0 }
-    ensures entries { entries_in (seen_in (sent plain_game company_and_loan 1)).seen ≡ entry 2 1 255 NewCompany 2 0 [] ∷ entry 3 2 0 IncreaseLoan 10000 0 [] ∷ [] }
+    ensures phase { (seen_in (sent company_and_loan.origin company_and_loan.events 1)).phase ≡ Loaded }
+    ensures company { (seen_in (sent company_and_loan.origin company_and_loan.events 1)).company ≡ 0 }
+    ensures entries { entries_in (seen_in (sent company_and_loan.origin company_and_loan.events 1)).seen ≡ entry 2 1 255 NewCompany 2 0 [] ∷ entry 3 2 0 IncreaseLoan 10000 0 [] ∷ [] }
 {}
 
 /// Of two founders each is shown its own company, and not the other one's.
 pub fn shows_two_founders()
-    ensures company_1 { (seen_in (sent plain_game two_founders 1)).company ≡ 0 }
-    ensures company_2 { (seen_in (sent plain_game two_founders 2)).company ≡ 1 }
+    ensures company_1 { (seen_in (sent two_founders.origin two_founders.events 1)).company ≡ 0 }
+    ensures company_2 { (seen_in (sent two_founders.origin two_founders.events 2)).company ≡ 1 }
 {}
 
 /// A member that moves into a company and out of it is shown that it has none.
 pub fn shows_moves()
-    ensures company_1 { (seen_in (sent plain_game moves 1)).company ≡ 0 }
-    ensures company_3 { (seen_in (sent plain_game moves 3)).company ≡ 255 }
+    ensures company_1 { (seen_in (sent moves.origin moves.events 1)).company ≡ 0 }
+    ensures company_3 { (seen_in (sent moves.origin moves.events 3)).company ≡ 255 }
 {}
 
 /// Behind the end of the game its last company stays.
 pub fn shows_a_stop()
-    ensures phase { (seen_in (sent plain_game stopped 1)).phase ≡ ShutDown }
-    ensures company { (seen_in (sent plain_game stopped 1)).company ≡ 0 }
+    ensures phase { (seen_in (sent stopped.origin stopped.events 1)).phase ≡ ShutDown }
+    ensures company { (seen_in (sent stopped.origin stopped.events 1)).company ≡ 0 }
 {}
