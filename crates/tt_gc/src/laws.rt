@@ -1,0 +1,52 @@
+//! What holds of every list of events. These functions do nothing: their contracts are the laws.
+ghost use Rattle.std.specs.Prelude.{◌≡◌, ◌<◌, ◌≤◌, ◌^◌, ◌⊎◌, ◌==◌, Bool, Some, None, length, ℕ, true, false, List, [], ◌∷◌, ◌++◌};
+ghost use Rattle.tt_edge.specs.declared.event.Event.{Event};
+ghost use Rattle.tt_edge.specs.Event.{opens, is_taken};
+ghost use Rattle.tt_edge.specs.Core.{GrowsTo, IsUnopened};
+ghost use Rattle.tt_gc.specs.declared.setup.GcSetup.{GcSetup};
+ghost use Rattle.tt_attempts.specs.declared.attempt.Heard.{Heard};
+ghost use Rattle.tt_attempts.specs.declared.attempt.Heard.TheVariants.{Connected};
+ghost use Rattle.tt_attempts.specs.Runs.{told_in, applying};
+ghost use Rattle.tt_gc.specs.Ways.{ways, hearings, numbers};
+ghost use Rattle.tt_gc.specs.Table.{Table, Meeting, meeting_of};
+ghost use Rattle.tt_gc.specs.Deed.{becomes};
+ghost use Rattle.tt_gc.specs.PacketRules.{may_fail, is_side, on_failed, on_result, on_connected};
+ghost use Rattle.tt_gc.specs.Told.{sent, is_live, is_over, takes};
+
+/// The laws of a core, and of one that a server can be run over.
+pub fn core_laws()
+    ensures grows { (s : GcSetup) (es : List Event) (e : Event) (conn : ℕ) → GrowsTo (sent s es conn) (sent s (es ++ e ∷ []) conn) }
+    ensures ended { (s : GcSetup) (es : List Event) (e : Event) (conn : ℕ) → conn ≤ opens es → is_live s es conn ≡ false
+        → (is_live s (es ++ e ∷ []) conn ≡ false) × (sent s (es ++ e ∷ []) conn ≡ sent s es conn) }
+    ensures unopened { (s : GcSetup) (es : List Event) (conn : ℕ) → IsUnopened es conn
+        → (is_live s es conn ≡ false) × (sent s es conn ≡ []) }
+    ensures over { (s : GcSetup) (es : List Event) (e : Event) (conn : ℕ) → is_over s es ≡ true
+        → (is_live s es conn ≡ false) × (is_over s (es ++ e ∷ []) ≡ true) }
+    ensures taken { (s : GcSetup) (es : List Event) (e : Event) → takes s es e ≡ is_taken (is_live s es) e }
+{}
+
+/// What is told for a token is what `tt_attempts` says of all that its attempt hears; so the ways are told in the order of
+/// those that apply, each at most once.
+pub fn ways_in_order()
+    ensures told { (s : GcSetup) (es : List Event) (token : List ℕ) → length es < 2 ^ 64
+        → ((ways s es token ≡ []) × (hearings s es token ≡ [])) ⊎ (ways s es token ≡ numbers (told_in s.ways (hearings s es token))) }
+    ensures order { (s : GcSetup) (es : List Event) (token : List ℕ) → length es < 2 ^ 64
+        → (later : List ℕ) × (numbers (applying s.ways) ≡ ways s es token ++ later) }
+    // After CLIENT_CONNECTED, or its client's end, no further way is told.
+    ensures connected { (s : GcSetup) (es : List Event) (token : List ℕ) (before after : List Heard) → length es < 2 ^ 64
+        → hearings s es token ≡ before ++ Connected ∷ after → ways s es token ≡ numbers (told_in s.ways before) }
+{}
+
+/// What a stranger says about an open attempt's token changes nothing and tells nothing.
+pub fn strangers_change_nothing()
+    ensures failed { (s : GcSetup) (t : Table) (m : Meeting) (conn : ℕ) (token : List ℕ) (tracking : ℕ) → meeting_of t token ≡ Some m
+        → may_fail conn tracking m ≡ false → on_failed s conn token tracking t ≡ becomes t }
+    ensures result { (s : GcSetup) (t : Table) (m : Meeting) (conn : ℕ) (token : List ℕ) (side : ℕ) (ok : Bool)
+        → meeting_of t token ≡ Some m
+        → is_side conn side m ≡ false → on_result s conn token side ok t ≡ becomes t }
+    ensures connected { (s : GcSetup) (t : Table) (m : Meeting) (conn : ℕ) (token : List ℕ) → meeting_of t token ≡ Some m
+        → (m.client.conn == conn) ≡ false → on_connected s conn token t ≡ becomes t }
+    // So does all that is said about a token of no open attempt.
+    ensures unknown { (s : GcSetup) (t : Table) (conn : ℕ) (token : List ℕ) (tracking : ℕ) → meeting_of t token ≡ None
+        → on_failed s conn token tracking t ≡ becomes t }
+{}
