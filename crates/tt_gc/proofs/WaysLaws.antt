@@ -132,7 +132,7 @@ use Rattle.tt_gc.specs.Events.{
   table_of,
 }
 use Rattle.tt_gc.specs.Events as events
-use Rattle.tt_gc.specs.Ways.{way_in, way_of, hears_of, of_steps, steps_from, ways, hearings, numbered, numbers}
+use Rattle.tt_gc.specs.Ways.{word_in, word_of, hears_of, of_steps, steps_from, words_for, hearings, numbered, numbers}
 use Rattle.tt_gc.specs.Walk.{
   IsKept,
   kept_given,
@@ -147,95 +147,7 @@ use Rattle.tt_gc.specs.Walk.{
   kept_heard,
   kept_desk,
 }
-
--- ---- finding
-
-abbrev unwrapped : {A : Type 0} → A → Option A → A
-unwrapped d None = d
-unwrapped d (Some x) = x
-
-found : {A : Type 0} (p : A → Bool) (xs : List A) (x : A) → find p xs ≡ Some x → p x ≡ true
-found p [] x is = absurd (false≢true (ap is_some is))
-found {A = A} p (y ∷ ys) x is = by (p y) refl is (found p ys x)
-  where
-    by : (b : Bool) → p y ≡ b → cond b (Some y) (find p ys) ≡ Some x → (find p ys ≡ Some x → p x ≡ true) → p x ≡ true
-    by true at same rest = sym (ap p (ap (unwrapped {A = A} y) same)) ∙ at
-    by false at same rest = rest same
-
-other_front : {A : Type 0} (p : A → Bool) (x : A) (F xs : List A) (a : Bool) → (a ≡ true → p x ≡ false) → find p F ≡ find p xs
-    → find p (cond (not a) (x ∷ F) F) ≡ cond (p x) (Some x) (find p xs)
-other_front {A = A} p x F xs true other same = same ∙ sym (ap (λ (b : Bool). cond {A = Option A} b (Some x) (find p xs)) (other refl))
-other_front {A = A} p x F xs false other same = ap (λ (o : Option A). cond (p x) (Some x) o) same
-
-find_filter_other : {A : Type 0} (p q : A → Bool) → ((x : A) → q x ≡ true → p x ≡ false) → (xs : List A)
-    → find p (filter (λ (x : A). not (q x)) xs) ≡ find p xs
-find_filter_other p q other [] = refl
-find_filter_other {A = A} p q other (x ∷ xs) =
-    other_front p x (filter (λ (x : A). not (q x)) xs) xs (q x) (other x) (find_filter_other p q other xs)
-
-none_front : {A : Type 0} (p : A → Bool) (x : A) (F : List A) (a : Bool) → (p x ≡ true → a ≡ true) → find p F ≡ None
-    → find p (cond (not a) (x ∷ F) F) ≡ None
-none_front p x F true own none = none
-none_front p x F false own none = by (p x) own
-  where
-    by : (b : Bool) → (b ≡ true → false ≡ true) → cond b (Some x) (find p F) ≡ None
-    by true f = absurd (false≢true (f refl))
-    by false f = none
-
-find_filter_same : {A : Type 0} (p q : A → Bool) → ((x : A) → p x ≡ true → q x ≡ true) → (xs : List A)
-    → find p (filter (λ (x : A). not (q x)) xs) ≡ None
-find_filter_same p q own [] = refl
-find_filter_same {A = A} p q own (x ∷ xs) = none_front p x (filter (λ (x : A). not (q x)) xs) (q x) (own x) (find_filter_same p q own xs)
-
--- a change that leaves what is looked for, and what is looked at
-find_map : {A B : Type 0} (p q : A → Bool) (f : A → A) (g : A → B) → ((x : A) → p (f x) ≡ p x) → ((x : A) → q x ≡ true → p x ≡ true
-    → g (f x) ≡ g x) → (xs : List A)
-    → option_map g (find p (map (λ (x : A). cond (q x) (f x) x) xs)) ≡ option_map g (find p xs)
-find_map p q f g same kept [] = refl
-find_map {A = A} {B = B} p q f g same kept (x ∷ xs) = by (q x) (p x) refl (kept x) (find_map p q f g same kept xs)
-  where
-    by : (a b : Bool) → p x ≡ b → (a ≡ true → p x ≡ true → g (f x) ≡ g x) → option_map g (find p (map (λ (x : A). cond (q x) (f x) x) xs))
-        ≡ option_map g (find p xs)
-        → option_map g (cond (p (cond a (f x) x)) (Some (cond a (f x) x)) (find p (map (λ (x : A). cond (q x) (f x) x) xs))) ≡ option_map g
-        (cond (p x) (Some x) (find p xs))
-    by true true is k rest = ap (λ (b : Bool). option_map g (cond b (Some (f x)) (find p (map (λ (x : A). cond (q x) (f x) x) xs))))
-        (same x ∙ is) ∙ ap (λ (y : B). Some y) (k refl is) ∙ sym (ap (λ (b : Bool). option_map g (cond b (Some x) (find p xs))) is)
-    by true false is k rest = ap (λ (b : Bool). option_map g (cond b (Some (f x)) (find p (map (λ (x : A). cond (q x) (f x) x) xs))))
-        (same x ∙ is) ∙ rest ∙ sym (ap (λ (b : Bool). option_map g (cond b (Some x) (find p xs))) is)
-    by false true is k rest = ap (λ (b : Bool). option_map g (cond b (Some x) (find p (map (λ (x : A). cond (q x) (f x) x) xs)))) is
-        ∙ sym (ap (λ (b : Bool). option_map g (cond b (Some x) (find p xs))) is)
-    by false false is k rest = ap (λ (b : Bool). option_map g (cond b (Some x) (find p (map (λ (x : A). cond (q x) (f x) x) xs)))) is
-        ∙ rest ∙ sym (ap (λ (b : Bool). option_map g (cond b (Some x) (find p xs))) is)
-
--- a change of all that is looked for
-find_changed : {A : Type 0} (p q : A → Bool) (f : A → A) → ((x : A) → p (f x) ≡ p x) → ((x : A) → p x ≡ true → q x ≡ true)
-    → (xs : List A) (m : A) → find p xs ≡ Some m
-    → find p (map (λ (x : A). cond (q x) (f x) x) xs) ≡ Some (f m)
-find_changed p q f same own [] m is = absurd (false≢true (ap is_some is))
-find_changed {A = A} p q f same own (x ∷ xs) m is = by (q x) (p x) refl (own x) is (find_changed p q f same own xs m)
-  where
-    by : (a b : Bool) → p x ≡ b → (p x ≡ true → a ≡ true) → cond b (Some x) (find p xs) ≡ Some m
-        → (find p xs ≡ Some m → find p (map (λ (x : A). cond (q x) (f x) x) xs) ≡ Some (f m))
-        → cond (p (cond a (f x) x)) (Some (cond a (f x) x)) (find p (map (λ (x : A). cond (q x) (f x) x) xs)) ≡ Some (f m)
-    by true true at k e rest =
-        ap (λ (b : Bool). cond b (Some (f x)) (find p (map (λ (x : A). cond (q x) (f x) x) xs))) (same x ∙ at) ∙ ap (option_map f) e
-    by false true at k e rest = absurd (false≢true (k at))
-    by true false at k e rest =
-        ap (λ (b : Bool). cond b (Some (f x)) (find p (map (λ (x : A). cond (q x) (f x) x) xs))) (same x ∙ at) ∙ rest e
-    by false false at k e rest = ap (λ (b : Bool). cond b (Some x) (find p (map (λ (x : A). cond (q x) (f x) x) xs))) at ∙ rest e
-
-find_behind : {A : Type 0} (p : A → Bool) (x : A) → p x ≡ false → (xs : List A) → find p (xs ++ x ∷ []) ≡ find p xs
-find_behind {A = A} p x at [] = ap (λ (b : Bool). cond {A = Option A} b (Some x) None) at
-find_behind {A = A} p x at (y ∷ ys) = ap (λ (o : Option A). cond (p y) (Some y) o) (find_behind p x at ys)
-
-find_new : {A : Type 0} (p : A → Bool) (x : A) → p x ≡ true → (xs : List A) → find p xs ≡ None → find p (xs ++ x ∷ []) ≡ Some x
-find_new {A = A} p x at [] none = ap (λ (b : Bool). cond {A = Option A} b (Some x) None) at
-find_new p x at (y ∷ ys) none = by (p y) none (find_new p x at ys)
-  where
-    by : (b : Bool) → cond b (Some y) (find p ys) ≡ None → (find p ys ≡ None → find p (ys ++ x ∷ []) ≡ Some x)
-        → cond b (Some y) (find p (ys ++ x ∷ [])) ≡ Some x
-    by true e rest = absurd (true≢false (ap is_some e))
-    by false e rest = rest e
+use Rattle.tt_gc.proofs.Finding.{unwrapped, found, find_filter_other, find_filter_same, find_map, find_changed, find_behind, find_new}
 
 -- ---- steps
 
@@ -248,14 +160,14 @@ nothing_either : {A : Type 0} (b : Bool) → [] ≡ cond {A = List A} b [] []
 nothing_either true = refl
 nothing_either false = refl
 
-word_ways : (s : GcSetup) (token : List ℕ) (w : word.Told) (m : Meeting) (t : Table) → of_steps (way_of token) (tells_word s w m t).told ≡
+word_ways : (s : GcSetup) (token : List ℕ) (w : word.Told) (m : Meeting) (t : Table) → of_steps (word_of token) (tells_word s w m t).told ≡
     cond (bytes_eq token m.token) (numbered w) []
 word_ways s token Nothing m t = nothing_either (bytes_eq token m.token)
 word_ways s token Direct m t = append-nil (cond (bytes_eq token m.token) (1 ∷ []) [])
 word_ways s token AskStun m t = append-nil (cond (bytes_eq token m.token) (2 ∷ []) [])
 word_ways s token Stun m t = nothing_either (bytes_eq token m.token)
 word_ways s token Turn m t = append-nil (cond (bytes_eq token m.token) (3 ∷ []) [])
-word_ways s token AllFailed m t = nothing_either (bytes_eq token m.token)
+word_ways s token AllFailed m t = append-nil (cond (bytes_eq token m.token) (4 ∷ []) [])
 
 word_hears : (s : GcSetup) (token : List ℕ) (w : word.Told) (m : Meeting) (t : Table) → of_steps (hears_of token) (tells_word s w m t).told
     ≡ []
@@ -281,37 +193,37 @@ either_told false f g t = refl
 -- ---- how a token stands
 
 -- the state of the open attempt with this token
-abbrev state_in : Table → List ℕ → Option AttemptState
+abbrev pub state_in : Table → List ℕ → Option AttemptState
 state_in t token = option_map (λ (m : Meeting). m.state) (meeting_of t token)
 
 -- an attempt that is over is open no longer
-abbrev as_open : Ways → Stage → Option AttemptState
+abbrev pub as_open : Ways → Stage → Option AttemptState
 as_open ways stage = cond (is_over stage) None (Some (record { ways = ways; stage = stage }))
 
 -- its number was given
-abbrev IsOld : List ℕ → ℕ → Type 0
+abbrev pub IsOld : List ℕ → ℕ → Type 0
 IsOld token k = (n : ℕ) × (n ≤ k) × (drop 8 token ≡ decimal n)
 
-record IsFresh (o : Option AttemptState) (w : List ℕ) (h : List Heard) : Type 0 where
+pub record IsFresh (o : Option AttemptState) (w : List ℕ) (h : List Heard) : Type 0 where
   pub none : o ≡ None
   pub ways : w ≡ []
   pub heard : h ≡ []
 
-record HasBegun (s : GcSetup) (token : List ℕ) (o : Option AttemptState) (k : ℕ) (w : List ℕ) (h : List Heard) : Type 0 where
+pub record HasBegun (s : GcSetup) (token : List ℕ) (o : Option AttemptState) (k : ℕ) (w : List ℕ) (h : List Heard) : Type 0 where
   pub old : IsOld token k
   pub state : o ≡ as_open s.ways (stage_in s.ways h)
   pub ways : w ≡ numbers (told_in s.ways h)
 
-abbrev Stands : GcSetup → List ℕ → Option AttemptState → ℕ → List ℕ → List Heard → Type 0
+abbrev pub Stands : GcSetup → List ℕ → Option AttemptState → ℕ → List ℕ → List Heard → Type 0
 Stands s token o k w h = IsFresh o w h ⊎ HasBegun s token o k w h
 
 record Follows (s : GcSetup) (token : List ℕ) (t : Table) (d : Deed) : Type 0 where
   pub rises : t.attempts ≤ d.table.attempts
   pub keeps : d.table.attempts < 2 ^ 64 → (w : List ℕ) (h : List Heard) → Stands s token (state_in t token) t.attempts w h
-      → Stands s token (state_in d.table token) d.table.attempts (w ++ of_steps (way_of token) d.told) (h
+      → Stands s token (state_in d.table token) d.table.attempts (w ++ of_steps (word_of token) d.told) (h
       ++ of_steps (hears_of token) d.told)
 
-nothing_more : {A : Type 0} (xs ys : List A) → ys ≡ [] → xs ++ ys ≡ xs
+pub nothing_more : {A : Type 0} (xs ys : List A) → ys ≡ [] → xs ++ ys ≡ xs
 nothing_more {A = A} xs ys none = ap (λ (l : List A). xs ++ l) none ∙ append-nil xs
 
 still : (s : GcSetup) (token : List ℕ) (o p : Option AttemptState) (k j : ℕ) (w : List ℕ) (h : List Heard) → p ≡ o → k ≤ j
@@ -326,11 +238,11 @@ moved s token o k w v h g ws hs st =
     subst (λ (x : List Heard). Stands s token o k v x) hs (subst (λ (x : List ℕ). Stands s token o k x h) ws st)
 
 unmoved : (s : GcSetup) (token : List ℕ) (t : Table) (d : Deed) → state_in d.table token ≡ state_in t token → t.attempts ≤ d.table.attempts
-    → of_steps (way_of token) d.told ≡ [] → of_steps (hears_of token) d.told ≡ [] → Follows s token t d
+    → of_steps (word_of token) d.told ≡ [] → of_steps (hears_of token) d.told ≡ [] → Follows s token t d
 unmoved s token t d same up no_ways no_hears = record {
   rises = up;
-  keeps = λ few w h st. moved s token (state_in d.table token) d.table.attempts w (w ++ of_steps (way_of token) d.told) h (h
-      ++ of_steps (hears_of token) d.told) (sym (nothing_more w (of_steps (way_of token) d.told) no_ways))
+  keeps = λ few w h st. moved s token (state_in d.table token) d.table.attempts w (w ++ of_steps (word_of token) d.told) h (h
+      ++ of_steps (hears_of token) d.told) (sym (nothing_more w (of_steps (word_of token) d.told) no_ways))
       (sym (nothing_more h (of_steps (hears_of token) d.told) no_hears))
       (still s token (state_in t token) (state_in d.table token) t.attempts d.table.attempts w h same up st);
 }
@@ -342,14 +254,15 @@ follows_joins s token t d rule one two =
     record {
       rises = omega (arith, one.rises, two.rises);
       keeps = λ few w h st. moved s token (state_in next.table token) next.table.attempts
-          ((w ++ of_steps (way_of token) d.told) ++ of_steps (way_of token) next.told) (w ++ of_steps (way_of token) (d.told ++ next.told))
+          ((w ++ of_steps (word_of token) d.told) ++ of_steps (word_of token) next.told) (w ++ of_steps (word_of token) (d.told
+          ++ next.told))
           ((h ++ of_steps (hears_of token) d.told) ++ of_steps (hears_of token) next.told) (h ++ of_steps (hears_of token) (d.told
           ++ next.told))
-          (append_assoc w (of_steps (way_of token) d.told) (of_steps (way_of token) next.told) ∙ ap (λ (l : List ℕ). w
-          ++ l) (sym (of_append (way_of token) d.told next.told)))
+          (append_assoc w (of_steps (word_of token) d.told) (of_steps (word_of token) next.told) ∙ ap (λ (l : List ℕ). w
+          ++ l) (sym (of_append (word_of token) d.told next.told)))
           (append_assoc h (of_steps (hears_of token) d.told) (of_steps (hears_of token) next.told) ∙ ap (λ (l : List Heard). h
           ++ l) (sym (of_append (hears_of token) d.told next.told)))
-          (two.keeps few (w ++ of_steps (way_of token) d.told) (h ++ of_steps (hears_of token) d.told)
+          (two.keeps few (w ++ of_steps (word_of token) d.told) (h ++ of_steps (hears_of token) d.told)
           (one.keeps (omega (arith, two.rises, few)) w h st));
     }
 
@@ -387,11 +300,11 @@ it_steps {A = A} f s h m t =
     ap (λ (l : List Step). of_steps f ((notes (hears m.token h) t).told ++ l ++ (tells_word s step.told m r.table).told))
     (reaches_told step.stage m.token t)
 
-it_ways : (s : GcSetup) (token : List ℕ) (h : Heard) (m : Meeting) (t : Table) → of_steps (way_of token) (hears_it s h m t).told ≡ cond
+it_ways : (s : GcSetup) (token : List ℕ) (h : Heard) (m : Meeting) (t : Table) → of_steps (word_of token) (hears_it s h m t).told ≡ cond
     (bytes_eq token m.token) (numbered (attempt_stepped m.state.ways m.state.stage h).told) []
 it_ways s token h m t =
     let step = attempt_stepped m.state.ways m.state.stage h in
-    it_steps (way_of token) s h m t ∙ word_ways s token step.told m (reaches step.stage m.token t).table
+    it_steps (word_of token) s h m t ∙ word_ways s token step.told m (reaches step.stage m.token t).table
 
 it_hears : (s : GcSetup) (token : List ℕ) (h : Heard) (m : Meeting) (t : Table) → of_steps (hears_of token) (hears_it s h m t).told ≡ cond
     (bytes_eq token m.token) (h ∷ []) []
@@ -444,7 +357,7 @@ open_is ways stage a is = by (is_over stage) is
     by true e = absurd (true≢false (ap is_some e))
     by false e = ap (unwrapped {A = AttemptState} a) e
 
-numbers_append : (xs ys : List word.Told) → numbers (xs ++ ys) ≡ numbers xs ++ numbers ys
+pub numbers_append : (xs ys : List word.Told) → numbers (xs ++ ys) ≡ numbers xs ++ numbers ys
 numbers_append [] ys = refl
 numbers_append (x ∷ xs) ys =
     ap (λ (l : List ℕ). numbered x ++ l) (numbers_append xs ys) ∙ sym (append_assoc (numbered x) (numbers xs) (numbers ys))
@@ -464,7 +377,7 @@ own_hearing : (s : GcSetup) (token : List ℕ) (h : Heard) (m : Meeting) (t : Ta
     → bytes_eq token m.token ≡ true
     → (w : List ℕ) (g : List Heard) → Stands s token (state_in t token) t.attempts w g
     → Stands s token (state_in (hears_it s h m t).table token) (hears_it s h m t).table.attempts (w
-    ++ of_steps (way_of token) (hears_it s h m t).told) (g ++ of_steps (hears_of token) (hears_it s h m t).told)
+    ++ of_steps (word_of token) (hears_it s h m t).told) (g ++ of_steps (hears_of token) (hears_it s h m t).told)
 own_hearing s token h m t is own w g (inl f) =
     absurd (true≢false (ap is_some (sym (ap (option_map (λ (m : Meeting). m.state)) is) ∙ f.none)))
 own_hearing s token h m t is own w g (inr b) =
@@ -475,7 +388,7 @@ own_hearing s token h m t is own w g (inr b) =
     let ways_are : m.state.ways ≡ s.ways = ap (λ (a : AttemptState). a.ways) at in
     let same : attempt_stepped m.state.ways m.state.stage h ≡ attempt_stepped s.ways (stage_in s.ways g) h =
     ap (λ (a : AttemptState). attempt_stepped a.ways a.stage h) at in
-    let more : of_steps (way_of token) d.told ≡ numbered step.told =
+    let more : of_steps (word_of token) d.told ≡ numbered step.told =
     it_ways s token h m t ∙ ap (λ (c : Bool). cond {A = List ℕ} c (numbered step.told) []) own in
     let said : of_steps (hears_of token) d.told ≡ h ∷ [] =
     it_hears s token h m t ∙ ap (λ (c : Bool). cond {A = List Heard} c (h ∷ []) []) own in
@@ -623,8 +536,8 @@ follows_begins s token t code server v client = by (bytes_eq token (new_token t)
     d : Deed
     d = begins_it s code m t
 
-    told_ways : of_steps (way_of token) d.told ≡ cond (bytes_eq token (new_token t)) (numbered (from_direct s.ways).told) []
-    told_ways = begin_steps (way_of token) s code m t ∙ word_ways s token (from_direct s.ways).told m (stands m.state.stage m
+    told_ways : of_steps (word_of token) d.told ≡ cond (bytes_eq token (new_token t)) (numbered (from_direct s.ways).told) []
+    told_ways = begin_steps (word_of token) s code m t ∙ word_ways s token (from_direct s.ways).told m (stands m.state.stage m
         (behind_token t)).table
 
     told_hears : of_steps (hears_of token) d.told ≡ []
@@ -633,7 +546,7 @@ follows_begins s token t code server v client = by (bytes_eq token (new_token t)
 
     begun : bytes_eq token (new_token t) ≡ true → d.table.attempts < 2 ^ 64 → (w : List ℕ) (h : List Heard)
         → Stands s token (state_in t token) t.attempts w h
-        → Stands s token (state_in d.table token) d.table.attempts (w ++ of_steps (way_of token) d.told) (h
+        → Stands s token (state_in d.table token) d.table.attempts (w ++ of_steps (word_of token) d.told) (h
         ++ of_steps (hears_of token) d.told)
     begun own few w h (inr b) =
         let is : token ≡ new_token t = (bytes_eq-Decides token (new_token t)).0 own in
@@ -646,7 +559,7 @@ follows_begins s token t code server v client = by (bytes_eq token (new_token t)
         let is : token ≡ new_token t = (bytes_eq-Decides token (new_token t)).0 own in
         let count : d.table.attempts ≡ t.attempts + 1 = begin_count s code m t in
         let silent : h ++ of_steps (hears_of token) d.told ≡ [] = ap₂ (λ (x y : List Heard). x ++ y) f.heard told_hears in
-        let first_word : of_steps (way_of token) d.told ≡ numbered (from_direct s.ways).told =
+        let first_word : of_steps (word_of token) d.told ≡ numbered (from_direct s.ways).told =
         told_ways ∙ ap (λ (c : Bool). cond {A = List ℕ} c (numbered (from_direct s.ways).told) []) own in
         inr (record {
           old = (t.attempts + 1, omega (arith, count), ap (λ (l : List ℕ). drop 8 l) is ∙ new_number t);
@@ -670,7 +583,7 @@ follows : (s : GcSetup) (token : List ℕ) → IsKept s (Follows s token)
 follows s token = record {
   plain = λ t u like. unmoved s token t (becomes u) (ap (λ (ms : List Meeting). option_map (λ (m : Meeting). m.state)
       (find (is_for token) ms)) like.2) (omega (arith, like.3)) refl refl;
-  tells = λ t to m none. unmoved s token t (tells to m t) refl (omega arith) (append-nil (way_in token m) ∙ none token) refl;
+  tells = λ t to m none. unmoved s token t (tells to m t) refl (omega arith) (append-nil (word_in token m) ∙ none token) refl;
   goes = λ t conn. unmoved s token t (goes conn t) refl (omega arith) refl refl;
   hears = λ t h named. follows_hears s token t h named;
   shows = λ t peer named side. follows_shows s token t peer named side;
@@ -734,7 +647,7 @@ rises_all s t (e ∷ es) = omega (arith, (follows_deed s [] e t).rises, rises_al
 stands_behind : (s : GcSetup) (token : List ℕ) (t : Table) (es : List Event) (w : List ℕ) (h : List Heard)
     → (fold (stepped s) t es).attempts < 2 ^ 64 → Stands s token (state_in t token) t.attempts w h
     → Stands s token (state_in (fold (stepped s) t es) token) (fold (stepped s) t es).attempts (w
-    ++ of_steps (way_of token) (steps_from s t es)) (h ++ of_steps (hears_of token) (steps_from s t es))
+    ++ of_steps (word_of token) (steps_from s t es)) (h ++ of_steps (hears_of token) (steps_from s t es))
 stands_behind s token t [] w h few st =
     moved s token (state_in t token) t.attempts w (w ++ []) h (h ++ []) (sym (append-nil w)) (sym (append-nil h)) st
 stands_behind s token t (e ∷ es) w h few st =
@@ -742,18 +655,18 @@ stands_behind s token t (e ∷ es) w h few st =
     let u : Table = fold (stepped s) (stepped s t e) es in
     let one = (follows_deed s token e t).keeps (omega (arith, few, rises_all s (stepped s t e) es)) w h st in
     moved s token (state_in u token) u.attempts
-    ((w ++ of_steps (way_of token) d.told) ++ of_steps (way_of token) (steps_from s (stepped s t e) es)) (w
-    ++ of_steps (way_of token) (steps_from s t (e ∷ es)))
+    ((w ++ of_steps (word_of token) d.told) ++ of_steps (word_of token) (steps_from s (stepped s t e) es)) (w
+    ++ of_steps (word_of token) (steps_from s t (e ∷ es)))
     ((h ++ of_steps (hears_of token) d.told) ++ of_steps (hears_of token) (steps_from s (stepped s t e) es)) (h
     ++ of_steps (hears_of token) (steps_from s t (e ∷ es)))
-    (append_assoc w (of_steps (way_of token) d.told) (of_steps (way_of token) (steps_from s (stepped s t e) es)) ∙ ap (λ (l : List ℕ). w
-    ++ l) (sym (of_append (way_of token) d.told (steps_from s (stepped s t e) es))))
+    (append_assoc w (of_steps (word_of token) d.told) (of_steps (word_of token) (steps_from s (stepped s t e) es)) ∙ ap (λ (l : List ℕ). w
+    ++ l) (sym (of_append (word_of token) d.told (steps_from s (stepped s t e) es))))
     (append_assoc h (of_steps (hears_of token) d.told) (of_steps (hears_of token) (steps_from s (stepped s t e) es))
     ∙ ap (λ (l : List Heard). h ++ l) (sym (of_append (hears_of token) d.told (steps_from s (stepped s t e) es))))
-    (stands_behind s token (stepped s t e) es (w ++ of_steps (way_of token) d.told) (h ++ of_steps (hears_of token) d.told) few one)
+    (stands_behind s token (stepped s t e) es (w ++ of_steps (word_of token) d.told) (h ++ of_steps (hears_of token) d.told) few one)
 
-stands_of : (s : GcSetup) (es : List Event) (token : List ℕ) → (table_of s es).attempts < 2 ^ 64
-    → Stands s token (state_in (table_of s es) token) (table_of s es).attempts (ways s es token) (hearings s es token)
+pub stands_of : (s : GcSetup) (es : List Event) (token : List ℕ) → (table_of s es).attempts < 2 ^ 64
+    → Stands s token (state_in (table_of s es) token) (table_of s es).attempts (words_for s es token) (hearings s es token)
 stands_of s es token few = stands_behind s token (first s) es [] [] few (inl (record { none = refl; ways = refl; heard = refl }))
 
 -- ---- an event begins at most one attempt
@@ -878,60 +791,5 @@ slow_all : (s : GcSetup) (t : Table) (es : List Event) → (fold (stepped s) t e
 slow_all s t [] = omega arith
 slow_all s t (e ∷ es) = omega (arith, slow_deed s t e, slow_all s (stepped s t e) es)
 
-few_attempts : (s : GcSetup) (es : List Event) → length es < 2 ^ 64 → (table_of s es).attempts < 2 ^ 64
+pub few_attempts : (s : GcSetup) (es : List Event) → length es < 2 ^ 64 → (table_of s es).attempts < 2 ^ 64
 few_attempts s es few = omega (arith, few, slow_all s (first s) es)
-
--- ---- the promise
-
-pub ways_told : (s : GcSetup) (es : List Event) (token : List ℕ) → length es < 2 ^ 64 → ((ways s es token ≡ [])
-    × (hearings s es token ≡ [])) ⊎ (ways s es token ≡ numbers (told_in s.ways (hearings s es token)))
-ways_told s es token few = by (stands_of s es token (few_attempts s es few))
-  where
-    by : Stands s token (state_in (table_of s es) token) (table_of s es).attempts (ways s es token) (hearings s es token)
-        → ((ways s es token ≡ []) × (hearings s es token ≡ [])) ⊎ (ways s es token ≡ numbers (told_in s.ways (hearings s es token)))
-    by (inl f) = inl (f.ways, f.heard)
-    by (inr b) = inr b.ways
-
-numbers_ways : (ts : List word.Told) → numbers (ways_in ts) ≡ numbers ts
-numbers_ways [] = refl
-numbers_ways (Nothing ∷ ts) = numbers_ways ts
-numbers_ways (Direct ∷ ts) = ap (λ (l : List ℕ). 1 ∷ l) (numbers_ways ts)
-numbers_ways (AskStun ∷ ts) = ap (λ (l : List ℕ). 2 ∷ l) (numbers_ways ts)
-numbers_ways (Stun ∷ ts) = numbers_ways ts
-numbers_ways (Turn ∷ ts) = ap (λ (l : List ℕ). 3 ∷ l) (numbers_ways ts)
-numbers_ways (AllFailed ∷ ts) = numbers_ways ts
-
-pub ways_order : (s : GcSetup) (es : List Event) (token : List ℕ) → length es < 2 ^ 64 → (later : List ℕ)
-    × (numbers (applying s.ways) ≡ ways s es token ++ later)
-ways_order s es token few = by (ways_told s es token few)
-  where
-    by : ((ways s es token ≡ []) × (hearings s es token ≡ [])) ⊎ (ways s es token ≡ numbers (told_in s.ways (hearings s es token)))
-        → (later : List ℕ) × (numbers (applying s.ways) ≡ ways s es token ++ later)
-    by (inl none) = (numbers (applying s.ways), ap (λ (l : List ℕ). l ++ numbers (applying s.ways)) (sym none.0))
-    by (inr is) =
-        let order = in_order s.ways (hearings s es token) in (
-          numbers order.0,
-          ap numbers order.1 ∙ numbers_append (ways_in (told_in s.ways (hearings s es token))) order.0
-              ∙ ap (λ (l : List ℕ). l ++ numbers order.0) (numbers_ways (told_in s.ways (hearings s es token)) ∙ sym is),
-        )
-
-quiet_words : (n : ℕ) → numbers (replicate n Nothing) ≡ []
-quiet_words zero = refl
-quiet_words (suc n) = quiet_words n
-
--- after CLIENT_CONNECTED, or the client's end, no way is told
-pub none_behind : (s : GcSetup) (es : List Event) (token : List ℕ) (before after : List Heard) → length es < 2 ^ 64
-    → hearings s es token ≡ before ++ Connected ∷ after → ways s es token ≡ numbers (told_in s.ways before)
-none_behind s es token before after few is = by (ways_told s es token few)
-  where
-    some : (l : List Heard) → l ≡ [] → l ≡ before ++ Connected ∷ after → 0 ≡ length (before ++ Connected ∷ after)
-    some l none same = ap length (sym none ∙ same)
-
-    by : ((ways s es token ≡ []) × (hearings s es token ≡ [])) ⊎ (ways s es token ≡ numbers (told_in s.ways (hearings s es token)))
-        → ways s es token ≡ numbers (told_in s.ways before)
-    by (inl none) = absurd (omega (arith, some (hearings s es token) none.1 is, length-append before (Connected ∷ after)))
-    by (inr told) =
-        told ∙ ap (λ (l : List Heard). numbers (told_in s.ways l)) is
-        ∙ ap numbers (connected_silent s.ways before after)
-        ∙ numbers_append (told_in s.ways before) (Nothing ∷ replicate (length after) Nothing)
-        ∙ nothing_more (numbers (told_in s.ways before)) (numbers (replicate (length after) Nothing)) (quiet_words (length after))

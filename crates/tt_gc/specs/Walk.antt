@@ -68,21 +68,21 @@ use Rattle.tt_gc.specs.PacketRules.{
   heard,
 }
 use Rattle.tt_gc.specs.Desk.{shows, on_stun, at_desk}
-use Rattle.tt_gc.specs.Ways.{way_in}
+use Rattle.tt_gc.specs.Ways.{word_in}
 
 -- alike in all but servers, drawn codes, words, cost and ticks
 abbrev pub IsLike : Table → Table → Type 0
 IsLike t u =
     (u.connections ≡ t.connections) × (u.over ≡ t.over) × (u.meetings ≡ t.meetings) × (u.attempts ≡ t.attempts) × (u.openings ≡ t.openings)
 
--- the message tells no way
-abbrev pub TellsNoWay : CoordMsg → Type 0
-TellsNoWay m = (token : List ℕ) → way_in token m ≡ []
+-- the message tells no way, and no end of an attempt
+abbrev pub TellsNoWord : CoordMsg → Type 0
+TellsNoWord m = (token : List ℕ) → word_in token m ≡ []
 
 -- of each small step, and of two
 pub record IsKept (s : GcSetup) (P : Table → Deed → Type 0) : Type 0 where
   pub plain : (t u : Table) → IsLike t u → P t (becomes u)
-  pub tells : (t : Table) (to : List ℕ) (m : CoordMsg) → TellsNoWay m → P t (tells to m t)
+  pub tells : (t : Table) (to : List ℕ) (m : CoordMsg) → TellsNoWord m → P t (tells to m t)
   pub goes : (t : Table) (conn : ℕ) → P t (goes conn t)
   pub hears : (t : Table) (h : Heard) (token : List ℕ) → P t (is_heard s h token t)
   pub shows : (t : Table) (peer : Peer) (token : List ℕ) (side : ℕ) → P t (shows peer token side t)

@@ -7,7 +7,7 @@ ghost use Rattle.tt_gc.specs.declared.setup.GcSetup.{GcSetup};
 ghost use Rattle.tt_attempts.specs.declared.attempt.Heard.{Heard};
 ghost use Rattle.tt_attempts.specs.declared.attempt.Heard.TheVariants.{Connected};
 ghost use Rattle.tt_attempts.specs.Runs.{told_in, applying};
-ghost use Rattle.tt_gc.specs.Ways.{ways, hearings, numbers};
+ghost use Rattle.tt_gc.specs.Ways.{words_for, ways, hearings, numbers, IsCaused};
 ghost use Rattle.tt_gc.specs.Table.{Table, Meeting, meeting_of};
 ghost use Rattle.tt_gc.specs.Deed.{becomes};
 ghost use Rattle.tt_gc.specs.PacketRules.{may_fail, is_side, on_failed, on_result, on_connected};
@@ -25,16 +25,25 @@ pub fn core_laws()
     ensures taken { (s : GcSetup) (es : List Event) (e : Event) → takes s es e ≡ is_taken (is_live s es) e }
 {}
 
-/// What is told for a token is what `tt_attempts` says of all that its attempt hears; so the ways are told in the order of
-/// those that apply, each at most once.
+/// What is told for a token, of a list of fewer than 2^64 events.
 pub fn ways_in_order()
+    // It is what `tt_attempts` says of all that its attempt hears; where no attempt began with this token it is nothing.
     ensures told { (s : GcSetup) (es : List Event) (token : List ℕ) → length es < 2 ^ 64
-        → ((ways s es token ≡ []) × (hearings s es token ≡ [])) ⊎ (ways s es token ≡ numbers (told_in s.ways (hearings s es token))) }
+        → ((words_for s es token ≡ []) × (hearings s es token ≡ []))
+        ⊎ (words_for s es token ≡ numbers (told_in s.ways (hearings s es token))) }
+    // The ways among it are Direct 1, STUN 2 and TURN 3 in this order, each at most once, and only those that apply.
     ensures order { (s : GcSetup) (es : List Event) (token : List ℕ) → length es < 2 ^ 64
         → (later : List ℕ) × (numbers (applying s.ways) ≡ ways s es token ++ later) }
-    // After CLIENT_CONNECTED, or its client's end, no further way is told.
+    // What is told after the first word, a way or the end, is told only after the way before it has failed by its rule; the end
+    // also where the server has gone.
+    ensures caused { (s : GcSetup) (es : List Event) (token before : List ℕ) (word : ℕ) (after : List ℕ) → length es < 2 ^ 64
+        → words_for s es token ≡ before ++ word ∷ after → (before ≡ [] → ⊥) → IsCaused s.ways (hearings s es token) before word }
+    // That the attempt failed is told last, so at most once.
+    ensures once { (s : GcSetup) (es : List Event) (token before after : List ℕ) → length es < 2 ^ 64
+        → words_for s es token ≡ before ++ 4 ∷ after → after ≡ [] }
+    // After CLIENT_CONNECTED, or its client's end, no further way is told, and no end.
     ensures connected { (s : GcSetup) (es : List Event) (token : List ℕ) (before after : List Heard) → length es < 2 ^ 64
-        → hearings s es token ≡ before ++ Connected ∷ after → ways s es token ≡ numbers (told_in s.ways before) }
+        → hearings s es token ≡ before ++ Connected ∷ after → words_for s es token ≡ numbers (told_in s.ways before) }
 {}
 
 /// What a stranger says about an open attempt's token changes nothing and tells nothing.
