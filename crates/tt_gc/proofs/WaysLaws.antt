@@ -283,7 +283,7 @@ for_other token named apart x at = by (is_for token x) refl
 for_same : (token named : List ℕ) → token ≡ named → (x : Meeting) → is_for token x ≡ true → is_for named x ≡ true
 for_same token named same x at = ap (λ (n : List ℕ). is_for n x) (sym same) ∙ at
 
-it_table : (s : GcSetup) (h : Heard) (m : Meeting) (t : Table)
+pub it_table : (s : GcSetup) (h : Heard) (m : Meeting) (t : Table)
     → (hears_it s h m t).table ≡ (reaches (attempt_stepped m.state.ways m.state.stage h).stage m.token t).table
 it_table s h m t = let step = attempt_stepped m.state.ways m.state.stage h in word_table s step.told m (reaches step.stage m.token t).table
 

@@ -8,6 +8,7 @@ pub mod Desk
 pub mod Events
 pub mod Told
 pub mod Ways
+pub mod Listing
 pub mod Walk
 pub mod Laws
 pub mod Registry

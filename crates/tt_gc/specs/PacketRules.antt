@@ -133,10 +133,13 @@ has_revision revision (Some info) = bytes_eq revision info.revision
 abbrev pub is_listed : List ℕ → Server → Bool
 is_listed revision v = (v.kind == 1) && has_revision revision v.info
 
+-- a server as a listing tells it: its code, and what it said last of its game
+abbrev pub listed_item : List ℕ → Info → List ℕ × (List ℕ × (List ℕ × (ℕ × (ℕ × (ℕ × (Bool × (ℕ × Unit {0})))))))
+listed_item code info =
+    (code, (info.name, (info.revision, (info.clients, (info.max, (info.companies, (info.password, (info.frame, tt))))))))
+
 abbrev pub tells_server : ℕ → Server → Table → Deed
-tells_server conn v = given v.info (λ info. tells (conn ∷ [])
-    (GcListing ((v.code, (info.name, (info.revision, (info.clients, (info.max, (info.companies, (info.password, (info.frame, tt)))))))) ∷
-    [])))
+tells_server conn v = given v.info (λ info. tells (conn ∷ []) (GcListing (listed_item v.code info ∷ [])))
 
 -- each of them, one to a packet, and then a packet with none
 abbrev pub on_listing : ℕ → List ℕ → Table → Deed

@@ -58,6 +58,7 @@ use Rattle.tt_gc.specs.PacketRules.{
   on_register,
   on_update,
   is_listed,
+  listed_item,
   tells_server,
   on_listing,
   by_code,
@@ -173,13 +174,9 @@ kept_update s P k t conn info =
     (k.plain t (with_info conn info t) (refl, refl, refl, refl, refl)) (kept_ends s P k t conn 0 [])
 
 kept_server : (s : GcSetup) (P : Table → Deed → Type 0) (k : IsKept s P) (conn : ℕ) (v : Server) (t : Table) → P t (tells_server conn v t)
-kept_server s P k conn v t = kept_given s P k t v.info
-    (λ info. tells (conn ∷ [])
-    (GcListing ((v.code, (info.name, (info.revision, (info.clients, (info.max, (info.companies, (info.password, (info.frame, tt))))))))
-    ∷ [])))
-    (λ info. k.tells t (conn ∷ [])
-    (GcListing ((v.code, (info.name, (info.revision, (info.clients, (info.max, (info.companies, (info.password, (info.frame, tt))))))))
-    ∷ [])) (λ token. refl))
+kept_server s P k conn v t =
+    kept_given s P k t v.info (λ info. tells (conn ∷ []) (GcListing (listed_item v.code info ∷ [])))
+    (λ info. k.tells t (conn ∷ []) (GcListing (listed_item v.code info ∷ [])) (λ token. refl))
 
 pub kept_listing : (s : GcSetup) (P : Table → Deed → Type 0) (k : IsKept s P) (t : Table) (conn : ℕ) (revision : List ℕ)
     → P t (on_listing conn revision t)

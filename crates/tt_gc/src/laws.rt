@@ -1,5 +1,5 @@
 //! What holds of every list of events. These functions do nothing: their contracts are the laws.
-ghost use Rattle.std.specs.Prelude.{◌≡◌, ◌<◌, ◌≤◌, ◌^◌, ◌⊎◌, ◌==◌, Bool, Some, None, length, ℕ, true, false, List, [], ◌∷◌, ◌++◌};
+ghost use Rattle.std.specs.Prelude.{◌≡◌, filter, not, ◌<◌, ◌≤◌, ◌^◌, ◌⊎◌, ◌==◌, Bool, Some, None, length, ℕ, true, false, List, [], ◌∷◌, ◌++◌};
 ghost use Rattle.tt_edge.specs.declared.event.Event.{Event};
 ghost use Rattle.tt_edge.specs.Event.{opens, is_taken};
 ghost use Rattle.tt_edge.specs.Core.{GrowsTo, IsUnopened};
@@ -8,9 +8,13 @@ ghost use Rattle.tt_attempts.specs.declared.attempt.Heard.{Heard};
 ghost use Rattle.tt_attempts.specs.declared.attempt.Heard.TheVariants.{Connected};
 ghost use Rattle.tt_attempts.specs.Runs.{told_in, applying};
 ghost use Rattle.tt_gc.specs.Ways.{words_for, ways, hearings, numbers, IsCaused};
-ghost use Rattle.tt_gc.specs.Table.{Table, Meeting, meeting_of};
-ghost use Rattle.tt_gc.specs.Deed.{becomes};
-ghost use Rattle.tt_gc.specs.PacketRules.{may_fail, is_side, on_failed, on_result, on_connected};
+ghost use Rattle.tt_gc.specs.Table.{Table, Server, Meeting, is_servers, meeting_of};
+ghost use Rattle.tt_gc.specs.Deed.{Step, becomes};
+ghost use Rattle.tt_gc.specs.Listing.{ListsServer, EndsListing};
+ghost use Rattle.tt_gc.specs.Events.{table_of};
+ghost use Rattle.tt_edge.specs.declared.event.Event.TheVariants.{Packet};
+ghost use Rattle.std.specs.List.{Contains};
+ghost use Rattle.tt_gc.specs.PacketRules.{read_msg, on_listing, may_fail, is_side, on_failed, on_result, on_connected};
 ghost use Rattle.tt_gc.specs.Told.{sent, is_live, is_over, takes};
 
 /// The laws of a core, and of one that a server can be run over.
@@ -58,4 +62,22 @@ pub fn strangers_change_nothing()
     // So does all that is said about a token of no open attempt.
     ensures unknown { (s : GcSetup) (t : Table) (conn : ℕ) (token : List ℕ) (tracking : ℕ) → meeting_of t token ≡ None
         → on_failed s conn token tracking t ≡ becomes t }
+{}
+
+/// A packet that spells nothing ends its own connection, and no other, whatever was said on it before; and so does any packet at
+/// the desk. No other connection's server is touched. (Where the event is the last one by its cost, all end.)
+pub fn a_bad_packet_ends_its_own_connection()
+    ensures { (s : GcSetup) (es : List Event) (conn kind : ℕ) (body : List ℕ) → read_msg kind body ≡ None → is_live s es conn ≡ true
+        → is_over s (es ++ Packet conn kind body ∷ []) ≡ false
+        → (is_live s (es ++ Packet conn kind body ∷ []) conn ≡ false)
+        × ((other : ℕ) → (other ≡ conn → ⊥) → is_live s (es ++ Packet conn kind body ∷ []) other ≡ is_live s es other)
+        × (filter (λ v. not (is_servers conn v)) (table_of s (es ++ Packet conn kind body ∷ [])).servers
+        ≡ filter (λ v. not (is_servers conn v)) (table_of s es).servers) }
+{}
+
+/// Each packet of a listing but the last tells one public server that is registered and whose last update has the revision that
+/// is asked for; no server of another kind, and none of another revision.
+pub fn only_asked_servers_are_listed()
+    ensures { (conn : ℕ) (revision : List ℕ) (t : Table) (step : Step) → Contains (on_listing conn revision t).told step
+        → EndsListing step ⊎ ListsServer t.servers revision step }
 {}

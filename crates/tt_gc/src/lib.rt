@@ -10,5 +10,8 @@ mod laws;
 mod registry;
 mod setup;
 
-pub use laws::{core_laws, strangers_change_nothing, ways_in_order};
+pub use laws::{
+    a_bad_packet_ends_its_own_connection, core_laws, only_asked_servers_are_listed,
+    strangers_change_nothing, ways_in_order,
+};
 pub use setup::GcSetup;
