@@ -2,7 +2,7 @@
 use Rattle.std.specs.Prelude.{List, [], ◌∷◌, codes}
 use Rattle.tt_edge.specs.declared.event.Event.{Event}
 use Rattle.tt_edge.specs.declared.event.Event.TheVariants.{Shut}
-use Rattle.tt_gc_rows.specs.Words.{opens, says, registers, connects, fails, connected, results}
+use Rattle.tt_gc_rows.specs.Words.{opens, shows, says, registers, connects, fails, connected, results, says_stun}
 
 -- The code that is asked for names no server.
 abbrev pub no_such_server : List Event
@@ -114,3 +114,21 @@ abbrev pub another_attempt : List Event
 another_attempt =
     opens 1 ∷ registers 1 1 3979 [] [] ∷ opens 2 ∷ connects 2 (codes "+9ZDDVF") ∷ fails 2 (codes "YPXYD99R1") 9
     ∷ opens 3 ∷ connects 3 (codes "+AAAAAA") ∷ connects 2 (codes "+9ZDDVF") ∷ fails 2 (codes "LDRWP49P2") 1 ∷ []
+
+-- A client is brought to a server directly.
+abbrev pub connected_directly : List Event
+connected_directly =
+    opens 1 ∷ registers 1 1 3979 [] [] ∷ opens 2 ∷ connects 2 (codes "+9ZDDVF") ∷ connected 2 (codes "YPXYD99R1") ∷ []
+
+-- By STUN, where both show themselves to the desk.
+abbrev pub connected_by_stun : List Event
+connected_by_stun =
+    opens 1 ∷ registers 1 1 3979 [] [] ∷ opens 2 ∷ connects 2 (codes "+9ZDDVF") ∷ fails 2 (codes "YPXYD99R1") 1
+    ∷ shows 1 ∷ says_stun 3 (codes "YPXYD99R1") 0 ∷ results 1 (codes "YPXYD99R1") 0 1 ∷ shows 2
+    ∷ says_stun 4 (codes "YPXYD99R1") 1 ∷ results 2 (codes "YPXYD99R1") 1 1 ∷ connected 2 (codes "YPXYD99R1") ∷ []
+
+-- And by TURN, where the server doesn't reach the desk.
+abbrev pub connected_by_turn : List Event
+connected_by_turn =
+    opens 1 ∷ registers 1 1 3979 [] [] ∷ opens 2 ∷ connects 2 (codes "+9ZDDVF") ∷ fails 2 (codes "YPXYD99R1") 1
+    ∷ results 1 (codes "YPXYD99R1") 0 0 ∷ connected 2 (codes "YPXYD99R1") ∷ []

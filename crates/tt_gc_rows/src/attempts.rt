@@ -6,6 +6,7 @@ ghost use Rattle.tt_gc_rows.specs.AttemptsLists.{no_such_server, no_such_code, e
 ghost use Rattle.tt_gc_rows.specs.AttemptsLists.{addresses_fail_the_client, refused_by_the_server, without_the_second, second_alone};
 ghost use Rattle.tt_gc_rows.specs.AttemptsLists.{turn_alone, no_way, another_turn_server, connected_in_time, strangers};
 ghost use Rattle.tt_gc_rows.specs.AttemptsLists.{server_says_connected, of_itself, of_itself_by_stun, another_attempt};
+ghost use Rattle.tt_gc_rows.specs.AttemptsLists.{connected_directly, connected_by_stun, connected_by_turn};
 
 /// The code that is asked for names no server.
 pub fn makes_no_such_server()
@@ -343,6 +344,64 @@ pub fn makes_another_attempt()
             ways = 1 ∷ 2 ∷ [];
             heard = Failed 1 ∷ [];
           }
+          ∷ [];
+      over = false;
+    } }
+{}
+
+/// A client is brought to a server directly.
+pub fn makes_connected_directly()
+    ensures { outcome plain (codes "YPXYD99R1" ∷ []) connected_directly ≡ record {
+      connections = lives (codes "2d00022b395a44445646005333324135434158355755395a354255504b4c43475852394a575332325747480000" ∷ [])
+          ∷ lives (codes "150007595058594439395231002b395a4444564600"
+          ∷ codes "19000b595058594439395231000131302e302e302e31008b0f" ∷ [])
+          ∷ [];
+      attempts = record {
+        ways = 1 ∷ [];
+        heard = Connected ∷ [];
+      }
+          ∷ [];
+      over = false;
+    } }
+{}
+
+/// By STUN, where both show themselves to the desk.
+pub fn makes_connected_by_stun()
+    ensures { outcome plain (codes "YPXYD99R1" ∷ []) connected_by_stun ≡ record {
+      connections = lives (codes "2d00022b395a44445646005333324135434158355755395a354255504b4c43475852394a575332325747480000"
+          ∷ codes "0d000c59505859443939523100"
+          ∷ codes "1a000e59505859443939523100020031302e302e302e32005a1b" ∷ [])
+          ∷ lives (codes "150007595058594439395231002b395a4444564600"
+          ∷ codes "19000b595058594439395231000131302e302e302e31008b0f"
+          ∷ codes "0d000c59505859443939523100"
+          ∷ codes "1a000e59505859443939523100020131302e302e302e3100591b" ∷ [])
+          ∷ ended []
+          ∷ ended []
+          ∷ [];
+      attempts = record {
+        ways = 1 ∷ 2 ∷ [];
+        heard = Failed 1 ∷ StunResult 0 true ∷ StunResult 1 true ∷ Connected ∷ [];
+      }
+          ∷ [];
+      over = false;
+    } }
+{}
+
+/// And by TURN, where the server doesn't reach the desk.
+pub fn makes_connected_by_turn()
+    ensures { outcome plain (codes "YPXYD99R1" ∷ []) connected_by_turn ≡ record {
+      connections = lives (codes "2d00022b395a44445646005333324135434158355755395a354255504b4c43475852394a575332325747480000"
+          ∷ codes "0d000c59505859443939523100"
+          ∷ codes "1d00105950585944393952310003595058594439395231007475726e00" ∷ [])
+          ∷ lives (codes "150007595058594439395231002b395a4444564600"
+          ∷ codes "19000b595058594439395231000131302e302e302e31008b0f"
+          ∷ codes "0d000c59505859443939523100"
+          ∷ codes "1d00105950585944393952310003595058594439395231007475726e00" ∷ [])
+          ∷ [];
+      attempts = record {
+        ways = 1 ∷ 2 ∷ 3 ∷ [];
+        heard = Failed 1 ∷ StunResult 0 false ∷ Connected ∷ [];
+      }
           ∷ [];
       over = false;
     } }

@@ -13,7 +13,8 @@ mod registry;
 
 pub use attempts::{
     makes_addresses_fail, makes_addresses_fail_the_client, makes_all_ways_fail,
-    makes_another_attempt, makes_another_turn_server, makes_connected_in_time, makes_every_kind,
+    makes_another_attempt, makes_another_turn_server, makes_connected_by_stun,
+    makes_connected_by_turn, makes_connected_directly, makes_connected_in_time, makes_every_kind,
     makes_no_such_code, makes_no_such_server, makes_no_way, makes_of_itself,
     makes_of_itself_by_stun, makes_refused_by_the_server, makes_second_alone,
     makes_server_says_connected, makes_strangers, makes_turn_alone, makes_without_the_second,
