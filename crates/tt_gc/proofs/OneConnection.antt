@@ -1,9 +1,32 @@
 -- A packet that spells nothing ends its own connection, and no other.
-use Rattle.std.proofs.Common.{◌≡◌, ℕ, Bool, true, false, not, ◌&&◌, ◌||◌, cond, List, [], ◌∷◌, ◌++◌, Option, Some, None, refl, sym, ap,
-    ap₂, subst, ◌∙◌}
+use Rattle.std.proofs.Common.{
+  ◌≡◌,
+  ℕ,
+  Bool,
+  true,
+  false,
+  not,
+  ◌&&◌,
+  ◌||◌,
+  cond,
+  List,
+  [],
+  ◌∷◌,
+  ◌++◌,
+  Option,
+  Some,
+  None,
+  refl,
+  sym,
+  ap,
+  ap₂,
+  subst,
+  ◌∙◌,
+}
 use Rattle.std.specs.Prelude.{eqb, filter, find, is_some, nat_le}
 use Rattle.std.proofs.lemmas.Bool.{eqb-true, and_right, ne_eqb, true≢false, false≢true}
 use Rattle.std.proofs.lemmas.List.{append-nil}
+use Rattle.tt_edge.specs.declared.event.Peer.{Peer}
 use Rattle.tt_edge.specs.declared.event.Event.{Event}
 use Rattle.tt_edge.specs.declared.event.Event.TheVariants.{Packet}
 use Rattle.tt_edge.specs.Event.{event_cost}
@@ -14,8 +37,21 @@ use Rattle.tt_attempts.specs.declared.attempt.Stage.{Stage}
 use Rattle.tt_attempts.specs.declared.attempt.Heard.{Heard}
 use Rattle.tt_attempts.specs.declared.attempt.Heard.TheVariants.{Connected, ServerGone}
 use Rattle.tt_gc.specs.declared.setup.GcSetup.{GcSetup}
-use Rattle.tt_gc.specs.Table.{Table, Connection, Server, Meeting, is_on, is_servers, connection_of, meeting_of, without_meeting,
-    with_meeting, without_server, served_by, asked_by}
+use Rattle.tt_gc.specs.Table.{
+  Table,
+  Connection,
+  Server,
+  Meeting,
+  is_on,
+  is_servers,
+  connection_of,
+  meeting_of,
+  without_meeting,
+  with_meeting,
+  without_server,
+  served_by,
+  asked_by,
+}
 use Rattle.tt_gc.specs.Table as table
 use Rattle.tt_gc.specs.Deed.{Deed, ◌▹◌, where_, either, given, each, becomes}
 use Rattle.tt_gc.specs.Meetings.{is_over, reaches, hears_it, is_heard}
@@ -30,18 +66,20 @@ use Rattle.tt_gc.proofs.Finding.{unwrapped, found, find_filter_other, find_filte
 use Rattle.tt_gc.proofs.WaysLaws.{it_table}
 
 -- the same connections and servers, and as much over
-record IsStill (t u : Table) : Type 0 where
+pub record IsStill (t u : Table) : Type 0 where
   pub connections : u.connections ≡ t.connections
   pub servers : u.servers ≡ t.servers
+  pub drawn : u.drawn ≡ t.drawn
   pub over : u.over ≡ t.over
 
-still : (t : Table) → IsStill t t
-still t = record { connections = refl; servers = refl; over = refl }
+pub still : (t : Table) → IsStill t t
+still t = record { connections = refl; servers = refl; drawn = refl; over = refl }
 
 still_on : (t u v : Table) → IsStill t u → IsStill u v → IsStill t v
 still_on t u v one two = record {
   connections = two.connections ∙ one.connections;
   servers = two.servers ∙ one.servers;
+  drawn = two.drawn ∙ one.drawn;
   over = two.over ∙ one.over;
 }
 
@@ -51,10 +89,10 @@ still_reaches stage token t = by (is_over stage)
     by : (b : Bool)
         → IsStill t (either b (λ t. becomes (without_meeting token t))
         (λ t. becomes (with_meeting token (λ m. record m { state = record m.state { stage = stage } }) t)) t).table
-    by true = record { connections = refl; servers = refl; over = refl }
-    by false = record { connections = refl; servers = refl; over = refl }
+    by true = record { connections = refl; servers = refl; drawn = refl; over = refl }
+    by false = record { connections = refl; servers = refl; drawn = refl; over = refl }
 
-still_heard : (s : GcSetup) (h : Heard) (t : Table) (o : Option Meeting) → IsStill t (given o (hears_it s h) t).table
+pub still_heard : (s : GcSetup) (h : Heard) (t : Table) (o : Option Meeting) → IsStill t (given o (hears_it s h) t).table
 still_heard s h t None = still t
 still_heard s h t (Some m) =
     let stage : Stage = (attempt_stepped m.state.ways m.state.stage h).stage in
@@ -63,6 +101,7 @@ still_heard s h t (Some m) =
     record {
       connections = ap (λ (u : Table). u.connections) is ∙ r.connections;
       servers = ap (λ (u : Table). u.servers) is ∙ r.servers;
+      drawn = ap (λ (u : Table). u.drawn) is ∙ r.drawn;
       over = ap (λ (u : Table). u.over) is ∙ r.over;
     }
 
@@ -109,19 +148,19 @@ without_goes conn t u same = record {
   over = same.over;
 }
 
-still_shows : (t : Table) (c : Connection) (token : List ℕ) (side : ℕ) (o : Option Meeting)
-    → IsStill t (given o (λ (m : Meeting). where_ (is_at_stun m.state.stage) (λ t. becomes (with_meeting token (with_note side c.peer) t)))
-        t).table
-still_shows t c token side None = still t
-still_shows t c token side (Some m) = by (is_at_stun m.state.stage)
+pub still_shows : (t : Table) (peer : Peer) (token : List ℕ) (side : ℕ) (o : Option Meeting)
+    → IsStill t (given o (λ (m : Meeting). where_ (is_at_stun m.state.stage) (λ t. becomes (with_meeting token (with_note side peer) t)))
+    t).table
+still_shows t peer token side None = still t
+still_shows t peer token side (Some m) = by (is_at_stun m.state.stage)
   where
-    by : (b : Bool) → IsStill t (where_ b (λ t. becomes (with_meeting token (with_note side c.peer) t)) t).table
-    by true = record { connections = refl; servers = refl; over = refl }
+    by : (b : Bool) → IsStill t (where_ b (λ t. becomes (with_meeting token (with_note side peer) t)) t).table
+    by true = record { connections = refl; servers = refl; drawn = refl; over = refl }
     by false = still t
 
 still_stun : (t : Table) (c : Connection) (o : Option StunMsg) → IsStill t (given o (on_stun c.peer) t).table
 still_stun t c None = still t
-still_stun t c (Some (SercliStun token side)) = still_shows t c token side (meeting_of t token)
+still_stun t c (Some (SercliStun token side)) = still_shows t c.peer token side (meeting_of t token)
 
 -- a packet at the desk, and one that spells nothing at the main door
 without_packet : (s : GcSetup) (kind : ℕ) (body : List ℕ) (c : Connection) (t : Table) → read_msg kind body ≡ None
@@ -179,7 +218,7 @@ without_step s t conn kind body none live on =
     let w : IsWithout conn t (on_packet s kind body c.0 t).table =
     subst (λ (n : ℕ). IsWithout n t (on_packet s kind body c.0 t).table) own (without_packet s kind body c.0 t none) in
     subst (λ (u : Table). IsWithout conn t u) (sym step) (without_finished s e conn t (on_packet s kind body c.0 t).table
-        (sym (ap (λ (u : Table). u.over) step) ∙ on) w)
+    (sym (ap (λ (u : Table). u.over) step) ∙ on) w)
 
 -- the law, for a table
 own_dead : (conn : ℕ) (t u : Table) → IsWithout conn t u → table.is_live u conn ≡ false
@@ -206,5 +245,5 @@ bad_packet s es conn kind body none live on =
     let push = table_of-push s es e in
     let w : IsWithout conn t (table_of s (es ++ e ∷ [])) =
     subst (λ (u : Table). IsWithout conn t u) (sym push) (without_step s t conn kind body none live (sym (ap (λ (u : Table). u.over) push)
-        ∙ on)) in
+    ∙ on)) in
     (own_dead conn t (table_of s (es ++ e ∷ [])) w, λ other apart. other_kept conn other t (table_of s (es ++ e ∷ [])) apart w, w.servers)

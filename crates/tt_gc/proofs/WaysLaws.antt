@@ -178,7 +178,7 @@ word_hears s token Stun m t = refl
 word_hears s token Turn m t = refl
 word_hears s token AllFailed m t = refl
 
-word_table : (s : GcSetup) (w : word.Told) (m : Meeting) (t : Table) → (tells_word s w m t).table ≡ t
+pub word_table : (s : GcSetup) (w : word.Told) (m : Meeting) (t : Table) → (tells_word s w m t).table ≡ t
 word_table s Nothing m t = refl
 word_table s Direct m t = refl
 word_table s AskStun m t = refl

@@ -19,8 +19,9 @@ use Rattle.std.specs.Prelude.{
   if◌then◌else◌,
 }
 use Rattle.std.specs.Fmt.{decimal}
+use Rattle.std.specs.Prelude.{◌≡◌, false}
 use Rattle.tt_attempts.specs.Codes.{alphabet, words_behind, drawn_characters, drawn_code}
-use Rattle.tt_gc.specs.Table.{Table, drawn_by}
+use Rattle.tt_gc.specs.Table.{Table, Drawn, drawn_by, server_by}
 
 -- the character after this one in the alphabet; none after the last one
 abbrev pub follower : List ℕ → ℕ → Option ℕ
@@ -64,3 +65,10 @@ new_token t = drawn_characters 8 t.words ++ decimal (t.attempts + 1)
 
 abbrev pub behind_token : Table → Table
 behind_token t = record t { words = words_behind 8 t.words; attempts = t.attempts + 1 }
+
+-- this code was drawn with this secret, and no server has it
+pub record IsOwners (t : Table) (code secret : List ℕ) : Type 0 where
+  pub kept : Drawn
+  pub drawn : drawn_by t code ≡ Some kept
+  pub same : kept.secret ≡ secret
+  pub free : is_some (server_by t code) ≡ false

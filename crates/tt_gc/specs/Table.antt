@@ -1,5 +1,5 @@
 -- The coordinator's table: all that the rules speak of.
-use Rattle.std.specs.Prelude.{ℕ, Bool, false, not, ◌&&◌, ◌==◌, List, [], filter, find, length, map, Option, is_some, cond}
+use Rattle.std.specs.Prelude.{ℕ, ◌≤◌, count_by, Bool, false, not, ◌&&◌, ◌==◌, List, [], filter, find, length, map, Option, is_some, cond}
 use Rattle.std.specs.Str.{bytes_eq}
 use Rattle.tt_edge.specs.declared.event.Peer.{Peer}
 use Rattle.tt_coord.specs.declared.info.Info.{Info}
@@ -107,6 +107,14 @@ server_by t code = find (λ (v : Server). bytes_eq code v.code) t.servers
 
 abbrev pub drawn_by : Table → List ℕ → Option Drawn
 drawn_by t code = find (λ (d : Drawn). bytes_eq code d.code) t.drawn
+
+-- how many registered servers have a code
+abbrev pub holders : Table → List ℕ → ℕ
+holders t code = count_by (λ (v : Server). bytes_eq code v.code) t.servers
+
+-- no code was drawn twice
+abbrev pub NoneTwice : List Drawn → Type 0
+NoneTwice drawn = (code : List ℕ) → count_by (λ (d : Drawn). bytes_eq code d.code) drawn ≤ 1
 
 -- the table in which the server on this connection said this of its game
 abbrev pub with_info : ℕ → Info → Table → Table

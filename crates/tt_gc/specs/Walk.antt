@@ -1,7 +1,38 @@
 -- What holds of each small step, and of two where it holds of both, holds of every packet's rule: one walk through the rules,
 -- for every law. The lemmas stand here since the trait's laws rest on them.
-use Rattle.std.proofs.Common.{◌≡◌, ℕ, Bool, true, false, List, [], ◌∷◌, ◌++◌, Option, Some, None, refl}
-use Rattle.std.specs.Prelude.{filter, is_some, nat_le, ◌==◌, length}
+use Rattle.std.proofs.Common.{
+  ◌≡◌,
+  ℕ,
+  ◌+◌,
+  ◌≤◌,
+  Bool,
+  true,
+  false,
+  not,
+  ◌&&◌,
+  ◌||◌,
+  cond,
+  List,
+  [],
+  ◌∷◌,
+  ◌++◌,
+  map,
+  Option,
+  Some,
+  None,
+  refl,
+  sym,
+  ap,
+  ap₂,
+  ◌∙◌,
+  arith,
+  inl,
+  inr,
+}
+use Rattle.std.specs.Prelude.{◌⊎◌, count_by, filter, is_some, nat_le, ◌==◌, length}
+use Rattle.std.specs.Str.{bytes_eq}
+use Rattle.std.proofs.lemmas.Bool.{false≢true}
+use Rattle.std.proofs.lemmas.List.Sums.{sum_by-append}
 use Rattle.tt_edge.specs.declared.event.Peer.{Peer}
 use Rattle.tt_coord.specs.declared.info.Info.{Info}
 use Rattle.tt_coord.specs.declared.coord.CoordMsg.{CoordMsg}
@@ -40,6 +71,10 @@ use Rattle.tt_gc.specs.Table.{
   server_by,
   meeting_of,
   with_info,
+  holders,
+  is_servers,
+  server_by,
+  drawn_by,
   without_server,
   served_by,
   asked_by,
@@ -54,6 +89,8 @@ use Rattle.tt_gc.specs.PacketRules.{
   registers,
   registers_new,
   may_register,
+  may_return,
+  is_known,
   is_empty,
   on_register,
   on_update,
@@ -71,10 +108,33 @@ use Rattle.tt_gc.specs.PacketRules.{
 use Rattle.tt_gc.specs.Desk.{shows, on_stun, at_desk}
 use Rattle.tt_gc.specs.Ways.{word_in}
 
--- alike in all but servers, drawn codes, words, cost and ticks
+-- no code has more servers than before, and none was drawn
+pub record KeepsCodes (t u : Table) : Type 0 where
+  pub fewer : (code : List ℕ) → holders u code ≤ holders t code
+  pub drawn : u.drawn ≡ t.drawn
+
+-- a known code that isn't live has one server more
+pub record Returns (t u : Table) : Type 0 where
+  pub code : List ℕ
+  pub free : is_some (server_by t code) ≡ false
+  pub known : is_some (drawn_by t code) ≡ true
+  pub servers : (c : List ℕ) → holders u c ≡ holders t c + cond (bytes_eq c code) 1 0
+  pub drawn : u.drawn ≡ t.drawn
+
+-- a code that is drawn now has one server more
+pub record Draws (t u : Table) : Type 0 where
+  pub new : Drawn
+  pub servers : (c : List ℕ) → holders u c ≡ holders t c + cond (bytes_eq c new.code) 1 0
+  pub drawn : u.drawn ≡ t.drawn ++ new ∷ []
+
+abbrev pub Registers : Table → Table → Type 0
+Registers t u = KeepsCodes t u ⊎ (Returns t u ⊎ Draws t u)
+
+-- alike in all but servers, drawn codes, words, cost and ticks; and how servers and codes changed
 abbrev pub IsLike : Table → Table → Type 0
 IsLike t u =
     (u.connections ≡ t.connections) × (u.over ≡ t.over) × (u.meetings ≡ t.meetings) × (u.attempts ≡ t.attempts) × (u.openings ≡ t.openings)
+    × Registers t u
 
 -- the message tells no way, and no end of an attempt
 abbrev pub TellsNoWord : CoordMsg → Type 0
@@ -95,7 +155,37 @@ KeptAtBegin s P = (t : Table) (code : List ℕ) (server : Connection) (v : Serve
     → P t (begins_it s code (new_meeting s (new_token t) server v client) t)
 
 alike : (t : Table) → IsLike t t
-alike t = (refl, refl, refl, refl, refl)
+alike t = (refl, refl, refl, refl, refl, inl (record { fewer = λ code. omega arith; drawn = refl }))
+
+count_cons : (p : Server → Bool) (v : Server) (vs : List Server) → count_by p (v ∷ vs) ≡ cond (p v) 1 0 + count_by p vs
+count_cons p v vs = omega (arith, sum_by-append (λ (x : Server). cond (p x) 1 0) (v ∷ []) vs)
+
+count_push : (p : Server → Bool) (v : Server) (vs : List Server) → count_by p (vs ++ v ∷ []) ≡ count_by p vs + cond (p v) 1 0
+count_push p v vs = omega (arith, sum_by-append (λ (x : Server). cond (p x) 1 0) vs (v ∷ []))
+
+filter_fewer : (p q : Server → Bool) (vs : List Server) → count_by p (filter q vs) ≤ count_by p vs
+filter_fewer p q [] = omega arith
+filter_fewer p q (v ∷ vs) = by (q v) (filter_fewer p q vs)
+  where
+    by : (a : Bool) → count_by p (filter q vs) ≤ count_by p vs → count_by p (cond a (v ∷ filter q vs) (filter q vs)) ≤ count_by p (v ∷ vs)
+    by true rest = omega (arith, rest, count_cons p v (filter q vs), count_cons p v vs)
+    by false rest = omega (arith, rest, count_cons p v vs)
+
+same_code : (code : List ℕ) (info : Info) (v : Server) (a : Bool)
+    → bytes_eq code (cond a (record v { info = Some info }) v).code ≡ bytes_eq code v.code
+same_code code info v true = refl
+same_code code info v false = refl
+
+informed_same : (code : List ℕ) (conn : ℕ) (info : Info) (vs : List Server)
+    → count_by (λ (v : Server). bytes_eq code v.code) (map (λ v. cond (is_servers conn v) (record v { info = Some info }) v) vs)
+    ≡ count_by (λ (v : Server). bytes_eq code v.code) vs
+informed_same code conn info [] = refl
+informed_same code conn info (v ∷ vs) =
+    let p : Server → Bool = λ (v : Server). bytes_eq code v.code in
+    let w : Server = cond (is_servers conn v) (record v { info = Some info }) v in
+    count_cons p w (map (λ v. cond (is_servers conn v) (record v { info = Some info }) v) vs)
+    ∙ ap₂ (λ (b : Bool) (n : ℕ). cond b 1 0 + n) (same_code code info v (is_servers conn v)) (informed_same code conn info vs)
+    ∙ sym (count_cons p v vs)
 
 pub kept_given : {A : Type 0} (s : GcSetup) (P : Table → Deed → Type 0) (k : IsKept s P) (t : Table) (o : Option A) (rule : A → Table
     → Deed) → ((x : A) → P t (rule x t)) → P t (given o rule t)
@@ -133,6 +223,10 @@ kept_leaves s P k t conn =
       refl,
       refl,
       refl,
+      inl (record {
+        fewer = λ code. filter_fewer (λ (v : Server). bytes_eq code v.code) (λ v. not (is_servers conn v)) d2.table.servers;
+        drawn = refl;
+      }),
     )) in
     k.joins t d3 (server_gone s conn) p3 (kept_each s P k d3.table (served_by d3.table conn) (is_heard s ServerGone)
     (λ token u. k.hears u ServerGone token))
@@ -145,12 +239,79 @@ kept_ends s P k t conn code detail =
 
 -- ---- packets
 
-kept_registers : (s : GcSetup) (P : Table → Deed → Type 0) (k : IsKept s P) (t u : Table) → IsLike t u → (conn kind port : ℕ) (d : Drawn)
-    → P t (registers conn kind port d u)
-kept_registers s P k t u like conn kind port d =
-    let v : Table = record u { servers = u.servers ++ record { conn = conn; code = d.code; kind = kind; port = port; info = None } ∷ [] } in
+and_true_left : (a b : Bool) → a && b ≡ true → a ≡ true
+and_true_left true b is = refl
+and_true_left false b is = is
+
+and_true_right : (a b : Bool) → a && b ≡ true → b ≡ true
+and_true_right true b is = is
+and_true_right false b is = absurd (false≢true is)
+
+third_true : (a b c : Bool) → a && b && c ≡ true → c ≡ true
+third_true true true c is = is
+third_true true false c is = absurd (false≢true is)
+third_true false b c is = absurd (false≢true is)
+
+not_true : (a : Bool) → not a ≡ true → a ≡ false
+not_true true is = sym is
+not_true false is = refl
+
+abbrev registered : Table → ℕ → ℕ → ℕ → Drawn → Table
+registered u conn kind port d =
+    record u { servers = u.servers ++ record { conn = conn; code = d.code; kind = kind; port = port; info = None } ∷ [] }
+
+kept_registers : (s : GcSetup) (P : Table → Deed → Type 0) (k : IsKept s P) (t u : Table) (conn kind port : ℕ) (d : Drawn)
+    → IsLike t (registered u conn kind port d) → P t (registers conn kind port d u)
+kept_registers s P k t u conn kind port d like =
+    let v : Table = registered u conn kind port d in
     k.joins t (becomes v) (tells (conn ∷ []) (GcRegisterAck d.code d.secret 0)) (k.plain t v like) (k.tells v (conn ∷ [])
     (GcRegisterAck d.code d.secret 0) (λ token. refl))
+
+one_more : (t u : Table) (conn kind port : ℕ) (d : Drawn) → u.servers ≡ t.servers → (c : List ℕ)
+    → holders (registered u conn kind port d) c ≡ holders t c + cond (bytes_eq c d.code) 1 0
+one_more t u conn kind port d same c =
+    let p : Server → Bool = λ (v : Server). bytes_eq c v.code in
+    let v : Server = record { conn = conn; code = d.code; kind = kind; port = port; info = None } in
+    count_push p v u.servers ∙ ap (λ (vs : List Server). count_by p vs + cond (bytes_eq c d.code) 1 0) same
+
+-- a test that is made, and what holds where it is so
+kept_test : (P : Table → Deed → Type 0) (t : Table) (b : Bool) (rule other : Table → Deed) → (b ≡ true → P t (rule t)) → P t (other t)
+    → P t (either b rule other t)
+kept_test P t true rule other f g = f refl
+kept_test P t false rule other f g = g
+
+kept_else : (P : Table → Deed → Type 0) (t : Table) (b : Bool) (rule other : Table → Deed) → P t (rule t) → (b ≡ false → P t (other t))
+    → P t (either b rule other t)
+kept_else P t true rule other f g = f
+kept_else P t false rule other f g = g refl
+
+known_some : (secret : List ℕ) (o : Option Drawn) → is_known secret o ≡ true → is_some o ≡ true
+known_some secret None is = is
+known_some secret (Some d) is = refl
+
+returns_known : (t : Table) (conn kind port : ℕ) (code secret : List ℕ) → may_register t conn kind code secret ≡ true
+    → is_empty code ≡ false
+    → IsLike t (registered t conn kind port (record { code = code; secret = secret }))
+returns_known t conn kind port code secret may some =
+    let d : Drawn = record { code = code; secret = secret } in
+    let third : is_empty code || may_return t code secret ≡ true =
+    third_true (not (is_some (server_on t conn))) (nat_le kind 2) (is_empty code || may_return t code secret) may in
+    let may_so : may_return t code secret ≡ true = ap (λ (b : Bool). b || may_return t code secret) (sym some) ∙ third in (
+      refl,
+      refl,
+      refl,
+      refl,
+      refl,
+      inr (inl (record {
+        code = code;
+        free = not_true (is_some (server_by t code)) (and_true_right (is_known secret (drawn_by t code)) (not (is_some (server_by t code)))
+            may_so);
+        known = known_some secret (drawn_by t code) (and_true_left (is_known secret (drawn_by t code)) (not (is_some (server_by t code)))
+            may_so);
+        servers = one_more t t conn kind port d refl;
+        drawn = refl;
+      })),
+    )
 
 pub kept_register : (s : GcSetup) (P : Table → Deed → Type 0) (k : IsKept s P) (t : Table) (conn kind port : ℕ) (code secret : List ℕ)
     → P t (on_register s conn kind port code secret t)
@@ -158,20 +319,35 @@ kept_register s P k t conn kind port code secret =
     let known : Drawn = record { code = code; secret = secret } in
     let new : Drawn = record { code = new_code t; secret = new_secret t } in
     let taken = either (is_empty code) (registers_new conn kind port) (registers conn kind port known) in
+    let u : Table = record (behind_code t) { drawn = t.drawn ++ new ∷ [] } in
     kept_either P t (nat_le most_servers (length t.servers)) (ends s conn 0 []) (either (may_register t conn kind code secret) taken
     (ends s conn 1 []))
     (kept_ends s P k t conn 0 [])
-    (kept_either P t (may_register t conn kind code secret) taken (ends s conn 1 [])
-    (kept_either P t (is_empty code) (registers_new conn kind port) (registers conn kind port known)
-    (kept_registers s P k t (record (behind_code t) { drawn = t.drawn ++ new ∷ [] }) (refl, refl, refl, refl, refl) conn kind port new)
-    (kept_registers s P k t t (alike t) conn kind port known))
+    (kept_test P t (may_register t conn kind code secret) taken (ends s conn 1 [])
+    (λ may. kept_else P t (is_empty code) (registers_new conn kind port) (registers conn kind port known)
+    (kept_registers s P k t u conn kind port new (
+      refl,
+      refl,
+      refl,
+      refl,
+      refl,
+      inr (inr (record { new = new; servers = one_more t u conn kind port new refl; drawn = refl })),
+    ))
+    (λ some. kept_registers s P k t t conn kind port known (returns_known t conn kind port code secret may some)))
     (kept_ends s P k t conn 1 []))
 
 pub kept_update : (s : GcSetup) (P : Table → Deed → Type 0) (k : IsKept s P) (t : Table) (conn : ℕ) (info : Info)
     → P t (on_update s conn info t)
 kept_update s P k t conn info =
     kept_either P t (is_some (server_on t conn)) (λ t. becomes (with_info conn info t)) (ends s conn 0 [])
-    (k.plain t (with_info conn info t) (refl, refl, refl, refl, refl)) (kept_ends s P k t conn 0 [])
+    (k.plain t (with_info conn info t) (
+      refl,
+      refl,
+      refl,
+      refl,
+      refl,
+      inl (record { fewer = λ code. omega (arith, informed_same code conn info t.servers); drawn = refl }),
+    )) (kept_ends s P k t conn 0 [])
 
 kept_server : (s : GcSetup) (P : Table → Deed → Type 0) (k : IsKept s P) (conn : ℕ) (v : Server) (t : Table) → P t (tells_server conn v t)
 kept_server s P k conn v t =

@@ -8,13 +8,15 @@ ghost use Rattle.tt_attempts.specs.declared.attempt.Heard.{Heard};
 ghost use Rattle.tt_attempts.specs.declared.attempt.Heard.TheVariants.{Connected};
 ghost use Rattle.tt_attempts.specs.Runs.{told_in, applying};
 ghost use Rattle.tt_gc.specs.Ways.{words_for, ways, hearings, numbers, IsCaused};
-ghost use Rattle.tt_gc.specs.Table.{Table, Server, Meeting, is_servers, meeting_of};
+ghost use Rattle.tt_gc.specs.Table.{Table, Server, Meeting, is_servers, meeting_of, holders, NoneTwice};
 ghost use Rattle.tt_gc.specs.Deed.{Step, becomes};
+ghost use Rattle.tt_gc.specs.Ending.{ends};
+ghost use Rattle.tt_gc.specs.Codes.{IsOwners};
 ghost use Rattle.tt_gc.specs.Listing.{ListsServer, EndsListing};
 ghost use Rattle.tt_gc.specs.Events.{table_of};
 ghost use Rattle.tt_edge.specs.declared.event.Event.TheVariants.{Packet};
 ghost use Rattle.std.specs.List.{Contains};
-ghost use Rattle.tt_gc.specs.PacketRules.{read_msg, on_listing, may_fail, is_side, on_failed, on_result, on_connected};
+ghost use Rattle.tt_gc.specs.PacketRules.{is_empty, read_msg, on_register, on_listing, may_fail, is_side, on_failed, on_result, on_connected};
 ghost use Rattle.tt_gc.specs.Told.{sent, is_live, is_over, takes};
 
 /// The laws of a core, and of one that a server can be run over.
@@ -80,4 +82,18 @@ pub fn a_bad_packet_ends_its_own_connection()
 pub fn only_asked_servers_are_listed()
     ensures { (conn : ℕ) (revision : List ℕ) (t : Table) (step : Step) → Contains (on_listing conn revision t).told step
         → EndsListing step ⊎ ListsServer t.servers revision step }
+{}
+
+/// A code that is live belongs to one server, as long as no code was drawn twice. (That none is while codes are left isn't among
+/// the laws yet.)
+pub fn a_code_has_one_server()
+    ensures { (s : GcSetup) (es : List Event) (code : List ℕ) → NoneTwice (table_of s es).drawn → holders (table_of s es) code ≤ 1 }
+{}
+
+/// Whoever registers by a code has its secret: a registration with a code is taken only where that code was drawn with the secret
+/// that is given, and no server that lives has it.
+pub fn a_code_is_its_owners()
+    ensures { (s : GcSetup) (t : Table) (conn kind port : ℕ) (code secret : List ℕ) → is_empty code ≡ false
+        → (on_register s conn kind port code secret t ≡ ends s conn 0 [] t) ⊎ ((on_register s conn kind port code secret t ≡ ends s conn 1 [] t)
+        ⊎ IsOwners t code secret) }
 {}
