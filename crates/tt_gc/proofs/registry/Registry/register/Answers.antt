@@ -1,0 +1,18 @@
+use Rattle.std.proofs.Common.{rules, ◌≡◌, ap, ◌∙◌, false, map, ◌++◌, ◌∷◌, []}
+use Rattle.std.specs.Prelude.{find, is_some}
+use Rattle.std.specs.Str.{bytes_eq}
+use Rattle.indexmap.specs.IndexMap.{insert_entry}
+use Rattle.tt_gc.specs.Table.{Server}
+use Rattle.tt_gc.specs.Registry.{RegistryState, servers_of, server_at}
+use Rattle.tt_gc.proofs.RegistryLaws.{put}
+use Rattle.tt_gc.proofs.registry.Registry.register.Goals as goal
+
+pub returns-clause-servers : goal.returns-clause-servers
+returns-clause-servers c =
+    let entries : c.insert.new.self.entries ≡ insert_entry bytes_eq c.self.inside.servers.entries c.args.code c.args.served =
+    search rules in
+    let none : is_some (find (λ (v : Server). bytes_eq c.args.code v.code) (map server_at c.self.inside.servers.entries)) ≡ false =
+    ap (λ (r : RegistryState). is_some (find (λ (v : Server). bytes_eq c.args.code v.code) (servers_of r))) c.self.view_is
+    ∙ c.requires.not_live in
+    ap (map server_at) entries ∙ put c.args.code c.args.served c.self.inside.servers.entries none
+    ∙ ap (λ (r : RegistryState). servers_of r ++ server_at (c.args.code, c.args.served) ∷ []) c.self.view_is

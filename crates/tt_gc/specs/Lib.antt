@@ -1,0 +1,14 @@
+pub mod Table
+pub mod Deed
+pub mod Codes
+pub mod Meetings
+pub mod Ending
+pub mod PacketRules
+pub mod Desk
+pub mod Events
+pub mod Told
+pub mod Ways
+pub mod Listing
+pub mod Walk
+pub mod Laws
+pub mod Registry

@@ -1,0 +1,17 @@
+//! The coordinator core: servers are found by codes, and a client is brought to one way by way.
+//!
+//! What a list of events makes of a coordinator stands in specs/: the table (Table.antt), small steps that tell (Deed.antt),
+//! each packet's rule (PacketRules.antt), the STUN desk (Desk.antt), the rule of an event (Events.antt), and what each connection
+//! is told (Told.antt). `core_laws`, `ways_in_order` and `strangers_change_nothing` say what holds of every list; `tt_gc_rows`
+//! computes what small lists come to. The core itself is not built yet, but for its registry.
+#![tactic(auto)]
+
+mod laws;
+mod registry;
+mod setup;
+
+pub use laws::{
+    a_bad_packet_ends_its_own_connection, a_code_has_one_server, a_code_is_its_owners, core_laws,
+    only_asked_servers_are_listed, strangers_change_nothing, ways_in_order,
+};
+pub use setup::GcSetup;
