@@ -15,4 +15,4 @@ pub returns-in-Ok : goal.returns-in-Ok
 returns-in-Ok g c =
     let room = c.args.room.now in
     subst (All (IsReady room)) (sym c.in-Ok.ensures.items)
-        (All-push (IsReady room) c.in_ok-workers.workers.items c.in_ok-clock.clock c.in_ok-workers.ensures c.in_ok-clock.ensures)
+    (All-push (IsReady room) c.in_ok-workers.workers.items c.in_ok-clock.clock c.in_ok-workers.ensures c.in_ok-clock.ensures)
