@@ -49,8 +49,10 @@ pub struct Outcome {
     pub idle: u64,
     /// The same while beats were told and links asked.
     pub busy: u64,
-    /// The bytes that each link took.
+    /// The bytes of memory that each link took.
     pub bytes: u64,
+    /// The bytes of memory that the process held with all links.
+    pub held: u64,
 }
 
 /// Of a million of the time since, how much of a processor's.
@@ -102,7 +104,8 @@ where
     let since = now(rt);
     let mut streams = client::all(rt, alloc, place, task.links)?;
     let greeted = now(rt).saturating_sub(since);
-    let bytes = held(rt)?.saturating_sub(before) / u64::from(task.links.max(1));
+    let held = held(rt)?;
+    let bytes = held.saturating_sub(before) / u64::from(task.links.max(1));
     board.greet(task.links);
     let (since, used) = (now(rt), used_by(rt));
     let mut figures = Figures::new(alloc);
@@ -119,6 +122,7 @@ where
         idle,
         busy,
         bytes,
+        held,
     })
 }
 

@@ -162,9 +162,10 @@ fn tell<R: Print>(rt: &R, task: &Task, run: &Outcome) -> io::Result<()> {
     println!(rt; "{}, {} links:", name(task.way), task.links)?;
     println!(rt; "  from a beat to its byte: {beat} us at 50 of 100, {late_beat} us at 95")?;
     println!(rt; "  from a byte to its echo: {answer} us at 50 of 100, {late_answer} us at 95")?;
+    println!(rt; "  all greeted after {} us", run.greeted)?;
     println!(rt;
-        "  all greeted after {} us; {} bytes of memory a link",
-        run.greeted, run.bytes
+        "  bytes of memory: {} a link, {} in all",
+        run.bytes, run.held
     )?;
     println!(rt;
         "  millionths of a processor: {} with no link, {} with all",
