@@ -1,5 +1,26 @@
 -- What the server ordered itself is what was stamped of it, and then its own list.
-use Rattle.std.proofs.Common.{◌≡◌, ℕ, ◌+◌, List, [], ◌∷◌, ◌++◌, refl, ap, ap₂, sym, ◌∙◌, subst, true, false, Bool, append-nil, append_assoc, zero, suc}
+use Rattle.std.proofs.Common.{
+  ◌≡◌,
+  ℕ,
+  ◌+◌,
+  List,
+  [],
+  ◌∷◌,
+  ◌++◌,
+  refl,
+  ap,
+  ap₂,
+  sym,
+  ◌∙◌,
+  subst,
+  true,
+  false,
+  Bool,
+  append-nil,
+  append_assoc,
+  zero,
+  suc,
+}
 use Rattle.std.specs.Prelude.{◌==◌, ◌||◌, fold, length, drop, nat_le, nat_lt, map}
 use Rattle.tt_edge.specs.declared.event.Event.{Event}
 use Rattle.tt_edge.specs.declared.event.Event.TheVariants.{Open, Packet, Broken, Shut, Tick, Stop}

@@ -55,7 +55,23 @@ use Rattle.tt_log.specs.Desk.{admin_arrives, counted_aside, most_admins}
 use Rattle.tt_log.specs.Tick.{drawn, stamps, own_entry, entry_of}
 use Rattle.tt_log.specs.Admin.{Admin}
 use Rattle.tt_log.specs.Desk.{admin_hears}
-use Rattle.tt_log.specs.Events.{read_admin, arrives, counted_in, by_verdict, by_event, charged, closed, shut_down, stops, taken, takes, stepped, read_msg, heard, to_named}
+use Rattle.tt_log.specs.Events.{
+  read_admin,
+  arrives,
+  counted_in,
+  by_verdict,
+  by_event,
+  charged,
+  closed,
+  shut_down,
+  stops,
+  taken,
+  takes,
+  stepped,
+  read_msg,
+  heard,
+  to_named,
+}
 use Rattle.tt_log.specs.History.{table_of, journal_of, AreRising}
 use Rattle.tt_log.specs.Stamps.{accepted, accepted_by, accepted_from, accepted_of, commands_in, for_company, if_allowed, if_so, stamped_of}
 use Rattle.tt_log.proofs.Lists.{Among, NotIn, all-append, all-so, among-all}
