@@ -1,33 +1,6 @@
 -- A live code belongs to one server, as long as no code was drawn twice.
-use Rattle.std.proofs.Common.{
-  ◌≡◌,
-  ℕ,
-  ◌+◌,
-  ◌≤◌,
-  Bool,
-  true,
-  false,
-  not,
-  ◌&&◌,
-  ◌||◌,
-  cond,
-  length,
-  List,
-  [],
-  ◌∷◌,
-  ◌++◌,
-  Option,
-  Some,
-  None,
-  refl,
-  sym,
-  ap,
-  subst,
-  ◌∙◌,
-  arith,
-  inl,
-  inr,
-}
+use Rattle.std.proofs.Common.{◌≡◌, ℕ, ◌+◌, ◌≤◌, Bool, true, false, not, ◌&&◌, ◌||◌, cond, length, List, [], ◌∷◌, ◌++◌, Option, Some, None}
+use Rattle.std.proofs.Common.{refl, sym, ap, subst, ◌∙◌, arith, inl, inr}
 use Rattle.std.specs.Prelude.{◌⊎◌, count_by, eqb, find, fold, is_some, nat_le}
 use Rattle.std.specs.Str.{bytes_eq}
 use Rattle.std.proofs.lemmas.Bool.{true≢false, false≢true}
@@ -41,71 +14,20 @@ use Rattle.tt_edge.specs.declared.event.Event.TheVariants.{Open, Packet, Broken,
 use Rattle.tt_attempts.specs.Attempts.{from_direct}
 use Rattle.tt_attempts.specs.declared.attempt.Stage.{Stage}
 use Rattle.tt_gc.specs.declared.setup.GcSetup.{GcSetup}
-use Rattle.tt_gc.specs.Table.{
-  Table,
-  Connection,
-  Server,
-  Drawn,
-  Meeting,
-  first,
-  connection_of,
-  live_sides,
-  meeting_of,
-  server_on,
-  server_by,
-  drawn_by,
-  holders,
-  NoneTwice,
-}
+use Rattle.tt_gc.specs.Table.{Table, Connection, Server, Drawn, Meeting, first, connection_of, live_sides, meeting_of, server_on, server_by}
+use Rattle.tt_gc.specs.Table.{drawn_by, holders, NoneTwice}
 use Rattle.tt_gc.specs.Deed.{Deed, ◌▹◌, where_, either, given, becomes}
 use Rattle.tt_gc.specs.Codes.{new_token, behind_token, IsOwners}
 use Rattle.tt_gc.specs.Meetings.{is_over, hears_it, new_meeting, stands, begins_it}
 use Rattle.tt_gc.specs.Ending.{goes, leaves, ends}
-use Rattle.tt_gc.specs.PacketRules.{
-  most_servers,
-  registers,
-  registers_new,
-  is_known,
-  is_empty,
-  may_return,
-  may_register,
-  on_register,
-  read_msg,
-  heard,
-}
+use Rattle.tt_gc.specs.PacketRules.{most_servers, registers, registers_new, is_known, is_empty, may_return, may_register, on_register}
+use Rattle.tt_gc.specs.PacketRules.{read_msg, heard}
 use Rattle.tt_gc.specs.Desk.{most_sides, shows, read_stun, at_desk}
-use Rattle.tt_gc.specs.Events.{
-  arrives,
-  opened,
-  on_packet,
-  on_broken,
-  on_shut,
-  by_event,
-  charged,
-  is_stop,
-  last_tick,
-  shut_down,
-  closed,
-  counted,
-  deed,
-  stepped,
-  table_of,
-}
+use Rattle.tt_gc.specs.Events.{arrives, opened, on_packet, on_broken, on_shut, by_event, charged, is_stop, last_tick, shut_down, closed}
+use Rattle.tt_gc.specs.Events.{counted, deed, stepped, table_of}
 use Rattle.tt_gc.specs.Events as events
-use Rattle.tt_gc.specs.Walk.{
-  IsKept,
-  Registers,
-  Returns,
-  Draws,
-  IsLike,
-  kept_given,
-  kept_where,
-  kept_either,
-  kept_leaves,
-  kept_ends,
-  kept_heard,
-  kept_desk,
-}
+use Rattle.tt_gc.specs.Walk.{IsKept, Registers, Returns, Draws, IsLike, kept_given, kept_where, kept_either, kept_leaves, kept_ends}
+use Rattle.tt_gc.specs.Walk.{kept_heard, kept_desk}
 use Rattle.tt_gc.proofs.Finding.{find_behind}
 use Rattle.tt_gc.proofs.OneConnection.{IsStill, still, still_heard, still_shows}
 use Rattle.tt_gc.proofs.WaysLaws.{word_table}

@@ -1,28 +1,6 @@
 -- A packet that spells nothing ends its own connection, and no other.
-use Rattle.std.proofs.Common.{
-  ◌≡◌,
-  ℕ,
-  Bool,
-  true,
-  false,
-  not,
-  ◌&&◌,
-  ◌||◌,
-  cond,
-  List,
-  [],
-  ◌∷◌,
-  ◌++◌,
-  Option,
-  Some,
-  None,
-  refl,
-  sym,
-  ap,
-  ap₂,
-  subst,
-  ◌∙◌,
-}
+use Rattle.std.proofs.Common.{◌≡◌, ℕ, Bool, true, false, not, ◌&&◌, ◌||◌, cond, List, [], ◌∷◌, ◌++◌, Option, Some, None, refl, sym, ap, ap₂}
+use Rattle.std.proofs.Common.{subst, ◌∙◌}
 use Rattle.std.specs.Prelude.{eqb, filter, find, is_some, nat_le}
 use Rattle.std.proofs.lemmas.Bool.{eqb-true, and_right, ne_eqb, true≢false, false≢true}
 use Rattle.std.proofs.lemmas.List.{append-nil}
@@ -37,21 +15,8 @@ use Rattle.tt_attempts.specs.declared.attempt.Stage.{Stage}
 use Rattle.tt_attempts.specs.declared.attempt.Heard.{Heard}
 use Rattle.tt_attempts.specs.declared.attempt.Heard.TheVariants.{Connected, ServerGone}
 use Rattle.tt_gc.specs.declared.setup.GcSetup.{GcSetup}
-use Rattle.tt_gc.specs.Table.{
-  Table,
-  Connection,
-  Server,
-  Meeting,
-  is_on,
-  is_servers,
-  connection_of,
-  meeting_of,
-  without_meeting,
-  with_meeting,
-  without_server,
-  served_by,
-  asked_by,
-}
+use Rattle.tt_gc.specs.Table.{Table, Connection, Server, Meeting, is_on, is_servers, connection_of, meeting_of, without_meeting}
+use Rattle.tt_gc.specs.Table.{with_meeting, without_server, served_by, asked_by}
 use Rattle.tt_gc.specs.Table as table
 use Rattle.tt_gc.specs.Deed.{Deed, ◌▹◌, where_, either, given, each, becomes}
 use Rattle.tt_gc.specs.Meetings.{is_over, reaches, hears_it, is_heard}

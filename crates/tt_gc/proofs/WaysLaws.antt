@@ -1,40 +1,6 @@
 -- What a token's attempt is told is what tt_attempts says of all that it hears.
-use Rattle.std.proofs.Common.{
-  ◌≡◌,
-  ℕ,
-  zero,
-  suc,
-  ◌+◌,
-  ◌<◌,
-  ◌≤◌,
-  ◌^◌,
-  Bool,
-  true,
-  false,
-  not,
-  ◌||◌,
-  cond,
-  List,
-  [],
-  ◌∷◌,
-  ◌++◌,
-  map,
-  drop,
-  length,
-  Option,
-  Some,
-  None,
-  refl,
-  sym,
-  ap,
-  ap₂,
-  subst,
-  ◌∙◌,
-  append_assoc,
-  arith,
-  inl,
-  inr,
-}
+use Rattle.std.proofs.Common.{◌≡◌, ℕ, zero, suc, ◌+◌, ◌<◌, ◌≤◌, ◌^◌, Bool, true, false, not, ◌||◌, cond, List, [], ◌∷◌, ◌++◌, map, drop}
+use Rattle.std.proofs.Common.{length, Option, Some, None, refl, sym, ap, ap₂, subst, ◌∙◌, append_assoc, arith, inl, inr}
 use Rattle.std.specs.Prelude.{◌⊎◌, fold, eqb, filter, find, is_some, nat_le, option_map, replicate}
 use Rattle.std.specs.Str.{bytes_eq}
 use Rattle.std.specs.Fmt.{decimal}
@@ -48,25 +14,10 @@ use Rattle.tt_edge.specs.declared.event.Event.TheVariants.{Open, Packet, Broken,
 use Rattle.tt_edge.specs.declared.event.Door.{Door}
 use Rattle.tt_edge.specs.declared.event.Door.TheVariants.{Main, Side}
 use Rattle.tt_coord.specs.declared.coord.CoordMsg.{CoordMsg}
-use Rattle.tt_coord.specs.declared.coord.CoordMsg.TheVariants.{
-  GcError,
-  ServerRegister,
-  GcRegisterAck,
-  ServerUpdate,
-  ClientListing,
-  GcListing,
-  ClientConnect,
-  GcConnecting,
-  SercliConnectFailed,
-  GcConnectFailed,
-  ClientConnected,
-  GcDirectConnect,
-  GcStunRequest,
-  SercliStunResult,
-  GcStunConnect,
-  GcNewgrfLookup,
-  GcTurnConnect,
-}
+use Rattle.tt_coord.specs.declared.coord.CoordMsg.TheVariants.{GcError, ServerRegister, GcRegisterAck, ServerUpdate, ClientListing}
+use Rattle.tt_coord.specs.declared.coord.CoordMsg.TheVariants.{GcListing, ClientConnect, GcConnecting, SercliConnectFailed, GcConnectFailed}
+use Rattle.tt_coord.specs.declared.coord.CoordMsg.TheVariants.{ClientConnected, GcDirectConnect, GcStunRequest, SercliStunResult}
+use Rattle.tt_coord.specs.declared.coord.CoordMsg.TheVariants.{GcStunConnect, GcNewgrfLookup, GcTurnConnect}
 use Rattle.tt_attempts.specs.declared.attempt.Ways.{Ways}
 use Rattle.tt_attempts.specs.declared.attempt.Stage.{Stage}
 use Rattle.tt_attempts.specs.declared.attempt.Heard.{Heard}
@@ -80,73 +31,21 @@ use Rattle.tt_attempts.proofs.EndLaws.{connected_silent}
 use Rattle.tt_attempts.specs.declared.attempt.Heard.TheVariants.{Failed, StunResult, Connected}
 use Rattle.tt_attempts.proofs.RunLaws.{stage_in, told_append, stage_append}
 use Rattle.tt_gc.specs.declared.setup.GcSetup.{GcSetup}
-use Rattle.tt_gc.specs.Table.{
-  Table,
-  Connection,
-  Server,
-  Meeting,
-  first,
-  server_by,
-  is_for,
-  meeting_of,
-  without_meeting,
-  with_meeting,
-  connection_of,
-  live_sides,
-}
+use Rattle.tt_gc.specs.Table.{Table, Connection, Server, Meeting, first, server_by, is_for, meeting_of, without_meeting, with_meeting}
+use Rattle.tt_gc.specs.Table.{connection_of, live_sides}
 use Rattle.tt_gc.specs.Deed.{What, Step, Deed, begins, hears, ◌▹◌, where_, either, given, becomes, tells, notes}
 use Rattle.tt_gc.specs.Codes.{new_token, behind_token}
 use Rattle.tt_gc.specs.Meetings.{tells_word, is_over, reaches, hears_it, is_heard, new_meeting, stands, begins_it}
 use Rattle.tt_gc.specs.Ending.{goes, leaves, ends}
-use Rattle.tt_gc.specs.PacketRules.{
-  read_msg,
-  heard,
-  most_attempts,
-  by_code,
-  on_register,
-  on_update,
-  on_listing,
-  may_fail,
-  on_failed,
-  is_side,
-  on_result,
-  on_connected,
-  on_message,
-}
+use Rattle.tt_gc.specs.PacketRules.{read_msg, heard, most_attempts, by_code, on_register, on_update, on_listing, may_fail, on_failed}
+use Rattle.tt_gc.specs.PacketRules.{is_side, on_result, on_connected, on_message}
 use Rattle.tt_gc.specs.Desk.{most_sides, is_at_stun, with_note, shows, read_stun, at_desk}
-use Rattle.tt_gc.specs.Events.{
-  arrives,
-  opened,
-  on_packet,
-  on_broken,
-  on_shut,
-  by_event,
-  charged,
-  is_stop,
-  last_tick,
-  shut_down,
-  closed,
-  counted,
-  deed,
-  stepped,
-  table_of,
-}
+use Rattle.tt_gc.specs.Events.{arrives, opened, on_packet, on_broken, on_shut, by_event, charged, is_stop, last_tick, shut_down, closed}
+use Rattle.tt_gc.specs.Events.{counted, deed, stepped, table_of}
 use Rattle.tt_gc.specs.Events as events
 use Rattle.tt_gc.specs.Ways.{word_in, word_of, hears_of, of_steps, steps_from, words_for, hearings, numbered, numbers}
-use Rattle.tt_gc.specs.Walk.{
-  IsKept,
-  kept_given,
-  kept_where,
-  kept_either,
-  kept_leaves,
-  kept_ends,
-  kept_register,
-  kept_update,
-  kept_listing,
-  kept_said,
-  kept_heard,
-  kept_desk,
-}
+use Rattle.tt_gc.specs.Walk.{IsKept, kept_given, kept_where, kept_either, kept_leaves, kept_ends, kept_register, kept_update, kept_listing}
+use Rattle.tt_gc.specs.Walk.{kept_said, kept_heard, kept_desk}
 use Rattle.tt_gc.proofs.Finding.{unwrapped, found, find_filter_other, find_filter_same, find_map, find_changed, find_behind, find_new}
 
 -- ---- steps

@@ -1,35 +1,6 @@
 -- The laws that a core owes, for the coordinator's definitions.
-use Rattle.std.proofs.Common.{
-  ◌≡◌,
-  ℕ,
-  ◌+◌,
-  ◌<◌,
-  ◌≤◌,
-  Bool,
-  true,
-  false,
-  not,
-  ◌&&◌,
-  ◌||◌,
-  cond,
-  List,
-  [],
-  ◌∷◌,
-  ◌++◌,
-  map,
-  Option,
-  Some,
-  None,
-  refl,
-  sym,
-  ap,
-  ap₂,
-  ◌∙◌,
-  append_assoc,
-  arith,
-  inl,
-  inr,
-}
+use Rattle.std.proofs.Common.{◌≡◌, ℕ, ◌+◌, ◌<◌, ◌≤◌, Bool, true, false, not, ◌&&◌, ◌||◌, cond, List, [], ◌∷◌, ◌++◌, map, Option, Some, None}
+use Rattle.std.proofs.Common.{refl, sym, ap, ap₂, ◌∙◌, append_assoc, arith, inl, inr}
 use Rattle.std.specs.Prelude.{◌⊎◌, fold, eqb, filter, find, is_some, nat_le}
 use Rattle.std.proofs.lemmas.Bool.{and_left, ne_eqb, not_from_true, true≢false}
 use Rattle.std.proofs.lemmas.List.{append-nil}
@@ -42,33 +13,16 @@ use Rattle.tt_edge.specs.declared.event.Event.TheVariants.{Open, Packet, Broken,
 use Rattle.tt_edge.specs.Event.{is_open, is_taken, opens, event_cost}
 use Rattle.tt_edge.specs.Core.{GrowsTo, IsUnopened}
 use Rattle.tt_coord.specs.declared.coord.CoordMsg.{CoordMsg}
-use Rattle.tt_coord.specs.declared.coord.CoordMsg.TheVariants.{
-  GcConnecting,
-  GcConnectFailed,
-  GcDirectConnect,
-  GcStunRequest,
-  GcStunConnect,
-  GcTurnConnect,
-}
+use Rattle.tt_coord.specs.declared.coord.CoordMsg.TheVariants.{GcConnecting, GcConnectFailed, GcDirectConnect, GcStunRequest, GcStunConnect}
+use Rattle.tt_coord.specs.declared.coord.CoordMsg.TheVariants.{GcTurnConnect}
 use Rattle.tt_attempts.specs.Attempts.{from_direct, stepped as attempt_stepped}
 use Rattle.tt_attempts.specs.declared.attempt.Stage.{Stage}
 use Rattle.tt_attempts.specs.declared.attempt.Heard.{Heard}
 use Rattle.tt_attempts.specs.declared.attempt.Told as word
 use Rattle.tt_attempts.specs.declared.attempt.Told.TheVariants.{Nothing, Direct, AskStun, Stun, Turn, AllFailed}
 use Rattle.tt_gc.specs.declared.setup.GcSetup.{GcSetup}
-use Rattle.tt_gc.specs.Table.{
-  Table,
-  Connection,
-  Server,
-  Meeting,
-  first,
-  is_on,
-  connection_of,
-  live_sides,
-  meeting_of,
-  without_meeting,
-  with_meeting,
-}
+use Rattle.tt_gc.specs.Table.{Table, Connection, Server, Meeting, first, is_on, connection_of, live_sides, meeting_of, without_meeting}
+use Rattle.tt_gc.specs.Table.{with_meeting}
 use Rattle.tt_gc.specs.Table as table
 use Rattle.tt_gc.specs.Deed.{What, Step, Deed, begins, hears, ◌▹◌, where_, either, given, becomes, tells, notes}
 use Rattle.tt_gc.specs.Codes.{new_token, behind_token}
@@ -76,24 +30,8 @@ use Rattle.tt_gc.specs.Meetings.{host_text, shown, tells_word, is_over, reaches,
 use Rattle.tt_gc.specs.Ending.{goes, leaves, ends}
 use Rattle.tt_gc.specs.PacketRules.{read_msg, heard}
 use Rattle.tt_gc.specs.Desk.{most_sides, is_at_stun, with_note, read_stun, at_desk}
-use Rattle.tt_gc.specs.Events.{
-  arrives,
-  opened,
-  on_packet,
-  on_broken,
-  on_shut,
-  by_event,
-  charged,
-  is_stop,
-  last_tick,
-  shut_down,
-  closed,
-  names_live,
-  counted,
-  deed,
-  stepped,
-  table_of,
-}
+use Rattle.tt_gc.specs.Events.{arrives, opened, on_packet, on_broken, on_shut, by_event, charged, is_stop, last_tick, shut_down, closed}
+use Rattle.tt_gc.specs.Events.{names_live, counted, deed, stepped, table_of}
 use Rattle.tt_gc.specs.Events as events
 use Rattle.tt_gc.specs.Told.{copies, bytes_of, bytes_to, told, sent_from, sent, is_live, takes}
 use Rattle.tt_gc.specs.Told as book

@@ -2,14 +2,8 @@
 use Rattle.std.specs.Prelude.{ℕ, Bool, true, false, List, [], ◌∷◌, ◌++◌, Option, Some, None}
 use Rattle.std.specs.Fmt.{decimal}
 use Rattle.tt_edge.specs.declared.event.Peer.{Peer}
-use Rattle.tt_coord.specs.declared.coord.CoordMsg.TheVariants.{
-  GcConnecting,
-  GcConnectFailed,
-  GcDirectConnect,
-  GcStunRequest,
-  GcStunConnect,
-  GcTurnConnect,
-}
+use Rattle.tt_coord.specs.declared.coord.CoordMsg.TheVariants.{GcConnecting, GcConnectFailed, GcDirectConnect, GcStunRequest, GcStunConnect}
+use Rattle.tt_coord.specs.declared.coord.CoordMsg.TheVariants.{GcTurnConnect}
 use Rattle.tt_attempts.specs.Attempts.{from_direct, stepped}
 use Rattle.tt_attempts.specs.declared.attempt.Stage.{Stage}
 use Rattle.tt_attempts.specs.declared.attempt.Stage.TheVariants.{Fresh, TryingDirect, AwaitingStun, TryingStun, TryingTurn, Over}

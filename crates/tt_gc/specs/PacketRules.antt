@@ -1,25 +1,6 @@
 -- What each packet does that comes in at the main door.
-use Rattle.std.specs.Prelude.{
-  ℕ,
-  Bool,
-  true,
-  false,
-  not,
-  ◌&&◌,
-  ◌||◌,
-  ◌==◌,
-  nat_le,
-  List,
-  [],
-  ◌∷◌,
-  ◌++◌,
-  length,
-  filter,
-  Option,
-  Some,
-  None,
-  is_some,
-}
+use Rattle.std.specs.Prelude.{ℕ, Bool, true, false, not, ◌&&◌, ◌||◌, ◌==◌, nat_le, List, [], ◌∷◌, ◌++◌, length, filter, Option, Some, None}
+use Rattle.std.specs.Prelude.{is_some}
 use Rattle.std.specs.Str.{bytes_eq}
 use Rattle.std.specs.Result.{result_ok}
 use Rattle.tt_frame.specs.Unread.{whole}
@@ -27,40 +8,14 @@ use Rattle.tt_frame.specs.Tables.{read_by}
 use Rattle.tt_coord.specs.Coord.{coord_messages}
 use Rattle.tt_coord.specs.declared.info.Info.{Info}
 use Rattle.tt_coord.specs.declared.coord.CoordMsg.{CoordMsg}
-use Rattle.tt_coord.specs.declared.coord.CoordMsg.TheVariants.{
-  GcError,
-  ServerRegister,
-  GcRegisterAck,
-  ServerUpdate,
-  ClientListing,
-  GcListing,
-  ClientConnect,
-  GcConnecting,
-  SercliConnectFailed,
-  GcConnectFailed,
-  ClientConnected,
-  GcDirectConnect,
-  GcStunRequest,
-  SercliStunResult,
-  GcStunConnect,
-  GcNewgrfLookup,
-  GcTurnConnect,
-}
+use Rattle.tt_coord.specs.declared.coord.CoordMsg.TheVariants.{GcError, ServerRegister, GcRegisterAck, ServerUpdate, ClientListing}
+use Rattle.tt_coord.specs.declared.coord.CoordMsg.TheVariants.{GcListing, ClientConnect, GcConnecting, SercliConnectFailed, GcConnectFailed}
+use Rattle.tt_coord.specs.declared.coord.CoordMsg.TheVariants.{ClientConnected, GcDirectConnect, GcStunRequest, SercliStunResult}
+use Rattle.tt_coord.specs.declared.coord.CoordMsg.TheVariants.{GcStunConnect, GcNewgrfLookup, GcTurnConnect}
 use Rattle.tt_attempts.specs.declared.attempt.Heard.TheVariants.{Failed, StunResult, Connected}
 use Rattle.tt_gc.specs.declared.setup.GcSetup.{GcSetup}
-use Rattle.tt_gc.specs.Table.{
-  Table,
-  Connection,
-  Server,
-  Drawn,
-  Meeting,
-  connection_of,
-  server_on,
-  server_by,
-  drawn_by,
-  with_info,
-  meeting_of,
-}
+use Rattle.tt_gc.specs.Table.{Table, Connection, Server, Drawn, Meeting, connection_of, server_on, server_by, drawn_by, with_info}
+use Rattle.tt_gc.specs.Table.{meeting_of}
 use Rattle.tt_gc.specs.Deed.{Deed, ◌▹◌, where_, either, given, each, becomes, tells}
 use Rattle.tt_gc.specs.Codes.{new_code, new_secret, behind_code, new_token}
 use Rattle.tt_gc.specs.Meetings.{is_heard, new_meeting, begins_it}

@@ -1,34 +1,7 @@
 -- What holds of each small step, and of two where it holds of both, holds of every packet's rule: one walk through the rules,
 -- for every law. The lemmas stand here since the trait's laws rest on them.
-use Rattle.std.proofs.Common.{
-  ◌≡◌,
-  ℕ,
-  ◌+◌,
-  ◌≤◌,
-  Bool,
-  true,
-  false,
-  not,
-  ◌&&◌,
-  ◌||◌,
-  cond,
-  List,
-  [],
-  ◌∷◌,
-  ◌++◌,
-  map,
-  Option,
-  Some,
-  None,
-  refl,
-  sym,
-  ap,
-  ap₂,
-  ◌∙◌,
-  arith,
-  inl,
-  inr,
-}
+use Rattle.std.proofs.Common.{◌≡◌, ℕ, ◌+◌, ◌≤◌, Bool, true, false, not, ◌&&◌, ◌||◌, cond, List, [], ◌∷◌, ◌++◌, map, Option, Some, None}
+use Rattle.std.proofs.Common.{refl, sym, ap, ap₂, ◌∙◌, arith, inl, inr}
 use Rattle.std.specs.Prelude.{◌⊎◌, count_by, filter, is_some, nat_le, ◌==◌, length}
 use Rattle.std.specs.Str.{bytes_eq}
 use Rattle.std.proofs.lemmas.Bool.{false≢true}
@@ -36,75 +9,24 @@ use Rattle.std.proofs.lemmas.List.Sums.{sum_by-append}
 use Rattle.tt_edge.specs.declared.event.Peer.{Peer}
 use Rattle.tt_coord.specs.declared.info.Info.{Info}
 use Rattle.tt_coord.specs.declared.coord.CoordMsg.{CoordMsg}
-use Rattle.tt_coord.specs.declared.coord.CoordMsg.TheVariants.{
-  GcError,
-  ServerRegister,
-  GcRegisterAck,
-  ServerUpdate,
-  ClientListing,
-  GcListing,
-  ClientConnect,
-  GcConnecting,
-  SercliConnectFailed,
-  GcConnectFailed,
-  ClientConnected,
-  GcDirectConnect,
-  GcStunRequest,
-  SercliStunResult,
-  GcStunConnect,
-  GcNewgrfLookup,
-  GcTurnConnect,
-}
+use Rattle.tt_coord.specs.declared.coord.CoordMsg.TheVariants.{GcError, ServerRegister, GcRegisterAck, ServerUpdate, ClientListing}
+use Rattle.tt_coord.specs.declared.coord.CoordMsg.TheVariants.{GcListing, ClientConnect, GcConnecting, SercliConnectFailed, GcConnectFailed}
+use Rattle.tt_coord.specs.declared.coord.CoordMsg.TheVariants.{ClientConnected, GcDirectConnect, GcStunRequest, SercliStunResult}
+use Rattle.tt_coord.specs.declared.coord.CoordMsg.TheVariants.{GcStunConnect, GcNewgrfLookup, GcTurnConnect}
 use Rattle.tt_coord.specs.declared.stun.StunMsg.{StunMsg}
 use Rattle.tt_coord.specs.declared.stun.StunMsg.TheVariants.{SercliStun}
 use Rattle.tt_attempts.specs.declared.attempt.Heard.{Heard}
 use Rattle.tt_attempts.specs.declared.attempt.Heard.TheVariants.{Failed, StunResult, Connected, ServerGone}
 use Rattle.tt_gc.specs.declared.setup.GcSetup.{GcSetup}
-use Rattle.tt_gc.specs.Table.{
-  Table,
-  Connection,
-  Server,
-  Drawn,
-  Meeting,
-  connection_of,
-  server_on,
-  server_by,
-  meeting_of,
-  with_info,
-  holders,
-  is_servers,
-  server_by,
-  drawn_by,
-  without_server,
-  served_by,
-  asked_by,
-}
+use Rattle.tt_gc.specs.Table.{Table, Connection, Server, Drawn, Meeting, connection_of, server_on, server_by, meeting_of, with_info}
+use Rattle.tt_gc.specs.Table.{holders, is_servers, server_by, drawn_by, without_server, served_by, asked_by}
 use Rattle.tt_gc.specs.Deed.{Deed, ◌▹◌, where_, either, given, each, becomes, tells}
 use Rattle.tt_gc.specs.Codes.{new_token, new_code, new_secret, behind_code}
 use Rattle.tt_gc.specs.Meetings.{is_heard, new_meeting, begins_it}
 use Rattle.tt_gc.specs.Ending.{goes, client_gone, server_gone, leaves, ends}
-use Rattle.tt_gc.specs.PacketRules.{
-  most_servers,
-  most_attempts,
-  registers,
-  registers_new,
-  may_register,
-  may_return,
-  is_known,
-  is_empty,
-  on_register,
-  on_update,
-  is_listed,
-  listed_item,
-  tells_server,
-  on_listing,
-  by_code,
-  on_connect,
-  may_fail,
-  is_side,
-  on_message,
-  heard,
-}
+use Rattle.tt_gc.specs.PacketRules.{most_servers, most_attempts, registers, registers_new, may_register, may_return, is_known, is_empty}
+use Rattle.tt_gc.specs.PacketRules.{on_register, on_update, is_listed, listed_item, tells_server, on_listing, by_code, on_connect, may_fail}
+use Rattle.tt_gc.specs.PacketRules.{is_side, on_message, heard}
 use Rattle.tt_gc.specs.Desk.{shows, on_stun, at_desk}
 use Rattle.tt_gc.specs.Ways.{word_in}
 

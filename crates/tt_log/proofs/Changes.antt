@@ -4,25 +4,10 @@ use Rattle.std.specs.Prelude.{length, map, cond, ◌==◌}
 use Rattle.tt_edge.specs.declared.event.Event.{Event}
 use Rattle.tt_edge.specs.declared.event.Event.TheVariants.{Packet}
 use Rattle.tt_game.specs.declared.message.GameMsg.{GameMsg}
-use Rattle.tt_game.specs.declared.message.GameMsg.TheVariants.{
-  ClientJoin,
-  ClientAck,
-  ClientCommand,
-  ClientSetName,
-  ClientMove,
-  ServerNeedGamePassword,
-  ServerNeedCompanyPassword,
-  ServerWelcome,
-  ServerFrame,
-  ServerCommand,
-  ServerFull,
-  ServerMapBegin,
-  ServerMapSize,
-  ServerMapData,
-  ServerMapDone,
-  ServerSync,
-  ServerShutdown,
-}
+use Rattle.tt_game.specs.declared.message.GameMsg.TheVariants.{ClientJoin, ClientAck, ClientCommand, ClientSetName, ClientMove}
+use Rattle.tt_game.specs.declared.message.GameMsg.TheVariants.{ServerNeedGamePassword, ServerNeedCompanyPassword, ServerWelcome}
+use Rattle.tt_game.specs.declared.message.GameMsg.TheVariants.{ServerFrame, ServerCommand, ServerFull, ServerMapBegin, ServerMapSize}
+use Rattle.tt_game.specs.declared.message.GameMsg.TheVariants.{ServerMapData, ServerMapDone, ServerSync, ServerShutdown}
 use Rattle.tt_world.specs.declared.command.Command.{Command}
 use Rattle.tt_world.specs.Random.{next_random}
 use Rattle.tt_rules.specs.Commands.{command_of}

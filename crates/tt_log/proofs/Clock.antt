@@ -13,21 +13,8 @@ use Rattle.tt_log.specs.Desk.{admin_arrives, counted_aside, most_admins}
 use Rattle.tt_log.specs.Tick.{stamps, stamped, frame_runs_by, left_of, ticked}
 use Rattle.tt_log.specs.Events.{arrives, counted_in, by_event, charged, shut_down, taken, takes, names_live, stepped}
 use Rattle.tt_log.specs.History.{table_of}
-use Rattle.tt_log.proofs.Walk.{
-  stamping,
-  running,
-  Base,
-  Walk,
-  Doors,
-  Moves,
-  of-entries,
-  of-frames,
-  of-asks,
-  of-enters,
-  of-leaves,
-  of-follows,
-  of-still,
-}
+use Rattle.tt_log.proofs.Walk.{stamping, running, Base, Walk, Doors, Moves, of-entries, of-frames, of-asks, of-enters, of-leaves}
+use Rattle.tt_log.proofs.Walk.{of-follows, of-still}
 
 -- ---- what leaves the clock
 

@@ -1,26 +1,6 @@
 -- Reading is the inverse of spelling: for each form of a word, and then for each row of a table.
-use Rattle.std.proofs.Common.{
-  ◌≡◌,
-  ℕ,
-  ◌<◌,
-  List,
-  [],
-  ◌∷◌,
-  ◌++◌,
-  Bool,
-  true,
-  false,
-  cond,
-  Option,
-  Some,
-  None,
-  refl,
-  sym,
-  ap,
-  subst,
-  ◌∙◌,
-  arith,
-}
+use Rattle.std.proofs.Common.{◌≡◌, ℕ, ◌<◌, List, [], ◌∷◌, ◌++◌, Bool, true, false, cond, Option, Some, None, refl, sym, ap, subst, ◌∙◌}
+use Rattle.std.proofs.Common.{arith}
 use Rattle.std.specs.Prelude.{◌==◌}
 use Rattle.std.specs.Str.{bytes_eq}
 use Rattle.std.specs.Fmt.{decimal}
@@ -31,49 +11,14 @@ use Rattle.tt_lines.specs.Lines.{HasNo}
 use Rattle.tt_log.specs.Forms.{Form, number, text, hex, saved, key, Value, spelled, text_spelled, Fits, IsTextFrom}
 use Rattle.tt_lines.specs.Digits.{IsPiece}
 use Rattle.tt_log.specs.Saved.{IsSaved}
-use Rattle.tt_log.specs.Rows.{
-  ◌>>=◌,
-  front_word,
-  behind_word,
-  word_at,
-  rest_at,
-  number_in,
-  within,
-  hex_in,
-  text_in,
-  text_within,
-  saved_within,
-  number_at,
-  hex_at,
-  text_at,
-  saved_at,
-  value_at,
-  Row,
-  none,
-  end,
-  all,
-  ◌▸◌,
-  ended_at,
-  row_at,
-  Branch,
-  pick,
-}
+use Rattle.tt_log.specs.Rows.{◌>>=◌, front_word, behind_word, word_at, rest_at, number_in, within, hex_in, text_in, text_within}
+use Rattle.tt_log.specs.Rows.{saved_within, number_at, hex_at, text_at, saved_at, value_at, Row, none, end, all, ◌▸◌, ended_at, row_at}
+use Rattle.tt_log.specs.Rows.{Branch, pick}
 use Rattle.tt_lines.proofs.Breaks.{has_no-rest, has_no-cons, decimal_one}
 use Rattle.tt_lines.proofs.HexDigits.{lower_one}
 use Rattle.tt_log.proofs.SavedLaws.{saved_found, saved_back}
-use Rattle.tt_log.proofs.ValueLaws.{
-  if_some,
-  number_found,
-  number_back,
-  within_found,
-  within_back,
-  hex_found,
-  hex_back,
-  text_found,
-  text_back,
-  text_within_found,
-  text_within_back,
-}
+use Rattle.tt_log.proofs.ValueLaws.{if_some, number_found, number_back, within_found, within_back, hex_found, hex_back, text_found}
+use Rattle.tt_log.proofs.ValueLaws.{text_back, text_within_found, text_within_back}
 
 -- what may be left of a line: nothing, or a blank and more
 abbrev pub IsLeft : List ℕ → Type 0

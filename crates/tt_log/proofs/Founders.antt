@@ -1,45 +1,14 @@
 -- Which companies entries found follows from the live companies alone.
-use Rattle.std.proofs.Common.{
-  ◌≡◌,
-  ℕ,
-  ◌+◌,
-  ◌≤◌,
-  ◌<◌,
-  List,
-  [],
-  ◌∷◌,
-  ◌++◌,
-  refl,
-  ap,
-  ap₂,
-  sym,
-  ◌∙◌,
-  true,
-  false,
-  Bool,
-  Option,
-  Some,
-  None,
-  arith,
-  suc,
-}
+use Rattle.std.proofs.Common.{◌≡◌, ℕ, ◌+◌, ◌≤◌, ◌<◌, List, [], ◌∷◌, ◌++◌, refl, ap, ap₂, sym, ◌∙◌, true, false, Bool, Option, Some, None}
+use Rattle.std.proofs.Common.{arith, suc}
 use Rattle.std.specs.Prelude.{cond, not, map, length, nat_lt, is_some, is_none, option_map, slice_set}
 use Rattle.std.specs.List.{list_any, position_or_len}
 use Rattle.std.proofs.lemmas.Bool.{lt-ltb, le-ltb, ltb-true, ltb-false}
 use Rattle.std.proofs.lemmas.List.{map-set}
 use Rattle.std.proofs.Math.Seq.{map-set_same}
 use Rattle.tt_world.specs.declared.command.Code.{Code}
-use Rattle.tt_world.specs.declared.command.Code.TheVariants.{
-  IncreaseLoan,
-  DecreaseLoan,
-  Give,
-  PlaceSign,
-  RenameSign,
-  RenameCompany,
-  RenamePresident,
-  Pause,
-  NewCompany,
-}
+use Rattle.tt_world.specs.declared.command.Code.TheVariants.{IncreaseLoan, DecreaseLoan, Give, PlaceSign, RenameSign, RenameCompany}
+use Rattle.tt_world.specs.declared.command.Code.TheVariants.{RenamePresident, Pause, NewCompany}
 use Rattle.tt_world.specs.declared.command.Entry.{Entry}
 use Rattle.tt_world.specs.declared.company.Company.{Company}
 use Rattle.tt_world.specs.declared.effect.Why.{Why}

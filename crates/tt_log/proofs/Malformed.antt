@@ -1,30 +1,6 @@
 -- An event that ends a member with a code ends nobody else, but where the game is over by it.
-use Rattle.std.proofs.Common.{
-  ◌≡◌,
-  ◌⊎◌,
-  inl,
-  inr,
-  ℕ,
-  ◌+◌,
-  List,
-  [],
-  ◌∷◌,
-  ◌++◌,
-  refl,
-  ap,
-  ap₂,
-  sym,
-  ◌∙◌,
-  subst,
-  true,
-  false,
-  Bool,
-  Option,
-  Some,
-  None,
-  zero,
-  suc,
-}
+use Rattle.std.proofs.Common.{◌≡◌, ◌⊎◌, inl, inr, ℕ, ◌+◌, List, [], ◌∷◌, ◌++◌, refl, ap, ap₂, sym, ◌∙◌, subst, true, false, Bool, Option}
+use Rattle.std.proofs.Common.{Some, None, zero, suc}
 use Rattle.std.specs.Prelude.{◌==◌, drop, take, length, nat_lt, nat_le, map, find, cond, not, ◌&&◌, ◌||◌, position, is_some}
 use Rattle.std.specs.List.{AllByRecursion, list_any}
 use Rattle.std.proofs.lemmas.Bool.{eqb-true, eq-eqb}
@@ -45,43 +21,15 @@ use Rattle.tt_log.specs.Deed.{Said, game, Deed, ◌▹◌, where_, where_some}
 use Rattle.tt_log.specs.Queue.{moved_up, left_place, leaves_queue, begins, begins_for, begins_where, downloading}
 use Rattle.tt_log.specs.Ending.{Failing, tells_farewell, leaves, ends}
 use Rattle.tt_log.specs.Desk.{admin_hears}
-use Rattle.tt_log.specs.Events.{
-  read_msg,
-  read_admin,
-  heard,
-  to_named,
-  by_verdict,
-  by_event,
-  charged,
-  stops,
-  closed,
-  shut_down,
-  taken,
-  takes,
-  deed,
-  stepped,
-  last_frame,
-}
+use Rattle.tt_log.specs.Events.{read_msg, read_admin, heard, to_named, by_verdict, by_event, charged, stops, closed, shut_down, taken}
+use Rattle.tt_log.specs.Events.{takes, deed, stepped, last_frame}
 use Rattle.tt_log.specs.History.{table_of}
 use Rattle.tt_log.specs.Tellings.{Filling, Telling, telling, filled, said_by, filling}
 use Rattle.tt_log.specs.Told.{kept_if, told_to, told}
 use Rattle.tt_log.specs.Endings.{EndsWith, IsEcho, StaysButForQueue, IsSameGame}
 use Rattle.tt_log.proofs.Lists.{IsOther, NotIn, all-append, any-not, all-of-filter}
-use Rattle.tt_log.proofs.Crew.{
-  On,
-  put,
-  put-conns,
-  conns,
-  admin_conns,
-  live-conns,
-  live-admins,
-  found-on,
-  on-found,
-  find-put-here,
-  find-put-other,
-  find-others,
-  none-left,
-}
+use Rattle.tt_log.proofs.Crew.{On, put, put-conns, conns, admin_conns, live-conns, live-admins, found-on, on-found, find-put-here}
+use Rattle.tt_log.proofs.Crew.{find-put-other, find-others, none-left}
 use Rattle.tt_log.proofs.Changes.{step, turned, moved}
 use Rattle.tt_log.proofs.Walk.{Base, Moves, of-leaves, of-leaves-queue}
 use Rattle.tt_log.proofs.Clock.{SameClock, KeepsClock, same-base, same-moves, over-is-empty}

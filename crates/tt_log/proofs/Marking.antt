@@ -24,29 +24,8 @@ use Rattle.tt_log.specs.History.{table_of}
 use Rattle.tt_log.specs.Marks.{IsMarked}
 use Rattle.tt_log.proofs.Lists.{all-append, all-filter, all-map, all-so, among-all}
 use Rattle.tt_log.proofs.Crew.{On, put-all}
-use Rattle.tt_log.proofs.Changes.{
-  Change,
-  wants_password,
-  is_let_in,
-  gets_token,
-  gets_frame,
-  answers,
-  plays,
-  commands,
-  has_name,
-  goes_to,
-  founds,
-  gets_pieces,
-  has_all,
-  Asks,
-  May,
-  turned,
-  moved,
-  Move,
-  queues,
-  begins_map,
-  loads,
-}
+use Rattle.tt_log.proofs.Changes.{Change, wants_password, is_let_in, gets_token, gets_frame, answers, plays, commands, has_name, goes_to}
+use Rattle.tt_log.proofs.Changes.{founds, gets_pieces, has_all, Asks, May, turned, moved, Move, queues, begins_map, loads}
 use Rattle.tt_log.proofs.Walk.{MayMove, Base, Walk, Doors, Closing, Moves, Ticks, running, of-asks, of-enters, of-leaves, of-deed}
 use Rattle.tt_log.proofs.Clock.{from-all}
 

@@ -1,26 +1,6 @@
 -- What the server ordered itself is what was stamped of it, and then its own list.
-use Rattle.std.proofs.Common.{
-  ◌≡◌,
-  ℕ,
-  ◌+◌,
-  List,
-  [],
-  ◌∷◌,
-  ◌++◌,
-  refl,
-  ap,
-  ap₂,
-  sym,
-  ◌∙◌,
-  subst,
-  true,
-  false,
-  Bool,
-  append-nil,
-  append_assoc,
-  zero,
-  suc,
-}
+use Rattle.std.proofs.Common.{◌≡◌, ℕ, ◌+◌, List, [], ◌∷◌, ◌++◌, refl, ap, ap₂, sym, ◌∙◌, subst, true, false, Bool, append-nil, append_assoc}
+use Rattle.std.proofs.Common.{zero, suc}
 use Rattle.std.specs.Prelude.{◌==◌, ◌||◌, fold, length, drop, nat_le, nat_lt, map}
 use Rattle.tt_edge.specs.declared.event.Event.{Event}
 use Rattle.tt_edge.specs.declared.event.Event.TheVariants.{Open, Packet, Broken, Shut, Tick, Stop}
@@ -36,21 +16,8 @@ use Rattle.tt_log.specs.Tick.{stamps, own_entry, stamped, frame_runs_by, left_of
 use Rattle.tt_log.specs.Events.{arrives, counted_in, by_event, charged, shut_down, stops, taken, takes, stepped, last_frame}
 use Rattle.tt_log.specs.History.{table_of, journal_of}
 use Rattle.tt_log.specs.Stamps.{ordered, ordered_by, ordered_from, owned, stamped_of}
-use Rattle.tt_log.proofs.Walk.{
-  Base,
-  Walk,
-  Doors,
-  Moves,
-  running,
-  stamping,
-  of-asks,
-  of-enters,
-  of-leaves,
-  of-still,
-  of-entries,
-  of-frames,
-  of-follows,
-}
+use Rattle.tt_log.proofs.Walk.{Base, Walk, Doors, Moves, running, stamping, of-asks, of-enters, of-leaves, of-still, of-entries, of-frames}
+use Rattle.tt_log.proofs.Walk.{of-follows}
 use Rattle.tt_log.proofs.Clock.{Ticked, ticked-is, event-same, taken-run}
 use Rattle.tt_log.proofs.Ordered.{Ordered, is-ordered, step-ordered}
 use Rattle.tt_log.proofs.Stamping.{stamped-append, drawing, drawing-none, drop-front, rising-none}

@@ -1,32 +1,6 @@
 -- How far a connection has come: it only comes further, and stands once in the queue just while it waits or downloads.
-use Rattle.std.proofs.Common.{
-  ◌≡◌,
-  ◌⊎◌,
-  inl,
-  inr,
-  ap₂,
-  ℕ,
-  ◌+◌,
-  ◌≤◌,
-  ◌<◌,
-  List,
-  [],
-  ◌∷◌,
-  ◌++◌,
-  refl,
-  ap,
-  sym,
-  ◌∙◌,
-  true,
-  false,
-  Bool,
-  Option,
-  Some,
-  None,
-  arith,
-  zero,
-  suc,
-}
+use Rattle.std.proofs.Common.{◌≡◌, ◌⊎◌, inl, inr, ap₂, ℕ, ◌+◌, ◌≤◌, ◌<◌, List, [], ◌∷◌, ◌++◌, refl, ap, sym, ◌∙◌, true, false, Bool, Option}
+use Rattle.std.proofs.Common.{Some, None, arith, zero, suc}
 use Rattle.std.specs.Prelude.{◌==◌, drop, take, length, nat_lt, map, cond, not, ◌&&◌, ◌||◌}
 use Rattle.std.specs.List.{AllByRecursion, list_any, position_or_len}
 use Rattle.std.proofs.lemmas.Bool.{eqb-true, eqb-false, ltb-false}

@@ -23,60 +23,12 @@ use Rattle.tt_log.specs.Tick.{drawn}
 use Rattle.tt_log.specs.Events.{by_event, arrives, counted_in, charged, closed, stops, shut_down, taken, takes, deed, last_frame}
 use Rattle.tt_log.proofs.Lists.{NotIn, Within, all-append, all-map, among-all, any-not}
 use Rattle.tt_log.proofs.Crew.{conns}
-use Rattle.tt_log.proofs.Changes.{
-  step,
-  Change,
-  wants_password,
-  is_let_in,
-  gets_token,
-  gets_frame,
-  answers,
-  plays,
-  commands,
-  has_name,
-  goes_to,
-  founds,
-  gets_pieces,
-  has_all,
-  Asks,
-  May,
-  turned,
-  steps_with,
-  IsTalk,
-  turned-conn,
-}
+use Rattle.tt_log.proofs.Changes.{step, Change, wants_password, is_let_in, gets_token, gets_frame, answers, plays, commands, has_name}
+use Rattle.tt_log.proofs.Changes.{goes_to, founds, gets_pieces, has_all, Asks, May, turned, steps_with, IsTalk, turned-conn}
 use Rattle.tt_log.proofs.Ordered.{map-same}
-use Rattle.tt_log.proofs.Phases.{
-  Phase,
-  Early,
-  Queued,
-  InGame,
-  fits,
-  Suits,
-  Place,
-  Holds,
-  Has,
-  is_command,
-  Quiet,
-  AllQuiet,
-  Goes,
-  GoesBy,
-  later-self,
-  later-then,
-  while-all,
-  while-then,
-  then-goes,
-  where-goes,
-  place-live,
-  put-holds,
-  early-stays,
-  queued-stays,
-  playing-stays,
-  later-end,
-  asks-by,
-  enters-by,
-  leaves-by,
-}
+use Rattle.tt_log.proofs.Phases.{Phase, Early, Queued, InGame, fits, Suits, Place, Holds, Has, is_command, Quiet, AllQuiet, Goes, GoesBy}
+use Rattle.tt_log.proofs.Phases.{later-self, later-then, while-all, while-then, then-goes, where-goes, place-live, put-holds, early-stays}
+use Rattle.tt_log.proofs.Phases.{queued-stays, playing-stays, later-end, asks-by, enters-by, leaves-by}
 use Rattle.tt_log.proofs.Walk.{running, Base, Walk, Ticks, Closing, of-event, of-ticked}
 
 -- ---- what is told is quiet

@@ -1,32 +1,6 @@
 -- Behind a member's end what was stamped of it stays the front of what was accepted of it.
-use Rattle.std.proofs.Common.{
-  ◌≡◌,
-  inl,
-  inr,
-  ℕ,
-  ◌+◌,
-  ◌≤◌,
-  ◌<◌,
-  List,
-  [],
-  ◌∷◌,
-  ◌++◌,
-  refl,
-  ap,
-  ap₂,
-  sym,
-  ◌∙◌,
-  subst,
-  true,
-  false,
-  Bool,
-  Option,
-  Some,
-  None,
-  arith,
-  append-nil,
-  append_assoc,
-}
+use Rattle.std.proofs.Common.{◌≡◌, inl, inr, ℕ, ◌+◌, ◌≤◌, ◌<◌, List, [], ◌∷◌, ◌++◌, refl, ap, ap₂, sym, ◌∙◌, subst, true, false, Bool}
+use Rattle.std.proofs.Common.{Option, Some, None, arith, append-nil, append_assoc}
 use Rattle.std.specs.Prelude.{◌==◌, fold, length, take, drop, nat_le, map, find, cond, not}
 use Rattle.std.specs.List.{AllByRecursion}
 use Rattle.std.proofs.lemmas.Bool.{eqb-true}
@@ -51,23 +25,8 @@ use Rattle.tt_log.proofs.Changes.{turned, turned-conn, turned-client, moved, mov
 use Rattle.tt_log.proofs.Walk.{Base, Walk, Moves, running, of-asks, of-enters, of-leaves, of-deed}
 use Rattle.tt_log.proofs.Clock.{Ticked, ticked-is, event-same, taken-run}
 use Rattle.tt_log.proofs.Ordered.{Ordered, is-ordered, step-ordered}
-use Rattle.tt_log.proofs.Stamping.{
-  Kept,
-  are-kept,
-  step-kept,
-  among-put,
-  among-filter,
-  among-drawn,
-  among-last,
-  stamped-append,
-  stamped-none,
-  own-other,
-  drawing,
-  drawing-none,
-  stamped-own,
-  take-then-drop,
-  number-above,
-}
+use Rattle.tt_log.proofs.Stamping.{Kept, are-kept, step-kept, among-put, among-filter, among-drawn, among-last, stamped-append}
+use Rattle.tt_log.proofs.Stamping.{stamped-none, own-other, drawing, drawing-none, stamped-own, take-then-drop, number-above}
 
 -- ---- a client number is that of one connection
 

@@ -1,37 +1,6 @@
 -- The text of a script spells it, and what the bytes spell can be printed.
-use Rattle.std.proofs.Common.{
-  ◌≡◌,
-  Result,
-  Ok,
-  Err,
-  ℕ,
-  suc,
-  ◌<◌,
-  ◌≤◌,
-  List,
-  [],
-  ◌∷◌,
-  ◌++◌,
-  length,
-  take,
-  map,
-  Bool,
-  true,
-  false,
-  not,
-  cond,
-  ◌⊎◌,
-  inl,
-  inr,
-  refl,
-  sym,
-  ap,
-  ap₂,
-  subst,
-  ◌∙◌,
-  append_assoc,
-  arith,
-}
+use Rattle.std.proofs.Common.{◌≡◌, Result, Ok, Err, ℕ, suc, ◌<◌, ◌≤◌, List, [], ◌∷◌, ◌++◌, length, take, map, Bool, true, false, not, cond}
+use Rattle.std.proofs.Common.{◌⊎◌, inl, inr, refl, sym, ap, ap₂, subst, ◌∙◌, append_assoc, arith}
 use Rattle.std.specs.Prelude.{◌==◌, sum_by, fold, filter, IfOk}
 use Rattle.std.specs.List.{AllByRecursion, flat_map, list_all}
 use Rattle.std.proofs.lemmas.Bool.{eqb-true}
@@ -42,23 +11,8 @@ use Rattle.std.proofs.lemmas.Grind.{flat_map-append}
 use Rattle.tt_frame.proofs.TextLaws.{is_text-from_IsText, length_of_text}
 use Rattle.tt_lines.specs.Lines.{HasNo, lines_of}
 use Rattle.tt_log.specs.declared.script.bad.ScriptBad.{ScriptBad}
-use Rattle.tt_log.specs.Forms.{
-  number,
-  text,
-  hex,
-  saved,
-  key,
-  IsTextFrom,
-  Fits,
-  Word,
-  named,
-  word,
-  rest,
-  word_text,
-  WordFits,
-  behind_blanks,
-  parted,
-}
+use Rattle.tt_log.specs.Forms.{number, text, hex, saved, key, IsTextFrom, Fits, Word, named, word, rest, word_text, WordFits, behind_blanks}
+use Rattle.tt_log.specs.Forms.{parted}
 use Rattle.tt_log.specs.Settings.{setting_words, place_of, with_setting, settings_of, is_plain}
 use Rattle.tt_log.specs.Orders.{words_by}
 use Rattle.tt_log.specs.Lines.{line_words, IsLine, openings_of}
@@ -74,77 +28,19 @@ use Rattle.tt_log.proofs.ScriptLaws.{small_place}
 use Rattle.tt_log.proofs.FormLaws.{text_one, number_one}
 use Rattle.tt_lines.proofs.LineLaws.{lines-within}
 use Rattle.tt_log.specs.declared.script.line.Line1.{Line1}
-use Rattle.tt_log.specs.declared.script.line.Line1.TheVariants.{
-  Open,
-  Side,
-  Bytes,
-  Shut,
-  Tick,
-  Stop,
-  Join,
-  Up,
-  Down,
-  Run,
-  Pump,
-  Do,
-  Forge,
-  Expect,
-}
+use Rattle.tt_log.specs.declared.script.line.Line1.TheVariants.{Open, Side, Bytes, Shut, Tick, Stop, Join, Up, Down, Run, Pump, Do, Forge}
+use Rattle.tt_log.specs.declared.script.line.Line1.TheVariants.{Expect}
 use Rattle.tt_log.specs.declared.script.setting.Setting.{Setting}
-use Rattle.tt_log.specs.declared.script.setting.Setting.TheVariants.{
-  Seed,
-  FrameFreq,
-  SyncFreq,
-  Clients,
-  Init,
-  PassLimit,
-  Download,
-  Join as JoinLimit,
-  Lag,
-  Cost,
-  Pw,
-  Admin,
-}
+use Rattle.tt_log.specs.declared.script.setting.Setting.TheVariants.{Seed, FrameFreq, SyncFreq, Clients, Init, PassLimit, Download}
+use Rattle.tt_log.specs.declared.script.setting.Setting.TheVariants.{Join as JoinLimit, Lag, Cost, Pw, Admin}
 use Rattle.tt_log.specs.declared.script.step.Step.{Step}
 use Rattle.tt_log.specs.declared.script.step.Step.TheVariants.{Set, Saved, Line}
 use Rattle.tt_world.specs.Setup.{plain, Fits as FitsSetup}
 use Rattle.tt_world.specs.declared.setup.Setup.{Setup}
 use Rattle.tt_world.specs.declared.command.Code.{Code}
-use Rattle.tt_world.specs.declared.command.Code.TheVariants.{
-  IncreaseLoan,
-  DecreaseLoan,
-  Give,
-  PlaceSign,
-  RenameSign,
-  RenameCompany,
-  RenamePresident,
-  Pause,
-  NewCompany,
-}
-
--- ---- lists
-
-all_append : {A : Type 0} (P : A → Type 0) (xs ys : List A) → AllByRecursion P xs → AllByRecursion P ys → AllByRecursion P (xs ++ ys)
-all_append P [] ys all more = more
-all_append P (x ∷ xs) ys all more = (all.0, all_append P xs ys all.1 more)
-
-all_map : {A B : Type 0} (f : A → B) (P : B → Type 0) (Q : A → Type 0) → ((x : A) → Q x → P (f x)) → (xs : List A) → AllByRecursion Q xs
-    → AllByRecursion P (map f xs)
-all_map f P Q each [] all = tt
-all_map f P Q each (x ∷ xs) all = (each x all.0, all_map f P Q each xs all.1)
-
-filter_by : {A : Type 0} (P : A → Type 0) (x : A) (kept : List A) (t : Bool) → P x → AllByRecursion P kept
-    → AllByRecursion P (cond t (x ∷ kept) kept)
-filter_by P x kept true one all = (one, all)
-filter_by P x kept false one all = all
-
-all_filter : {A : Type 0} (P : A → Type 0) (p : A → Bool) (xs : List A) → AllByRecursion P xs → AllByRecursion P (filter p xs)
-all_filter P p [] all = tt
-all_filter P p (x ∷ xs) all = filter_by P x (filter p xs) (p x) all.0 (all_filter P p xs all.1)
-
-all_each : {A : Type 0} (P Q : A → Type 0) → ((x : A) → P x → Q x) → (xs : List A) → AllByRecursion P xs → AllByRecursion Q xs
-all_each P Q each [] all = tt
-all_each P Q each (x ∷ xs) all = (each x all.0, all_each P Q each xs all.1)
+use Rattle.tt_world.specs.declared.command.Code.TheVariants.{IncreaseLoan, DecreaseLoan, Give, PlaceSign, RenameSign, RenameCompany}
+use Rattle.tt_world.specs.declared.command.Code.TheVariants.{RenamePresident, Pause, NewCompany}
+use Rattle.tt_log.proofs.PrintLists.{all_append, all_map, all_filter}
 
 -- ---- the text
 

@@ -2,36 +2,15 @@
 use Rattle.std.proofs.Common.{◌≡◌, ℕ, List, [], ◌∷◌, refl, ap, ap₂, sym, ◌∙◌, true, false, Bool, Option, Some}
 use Rattle.std.specs.Prelude.{fold, if◌then◌else◌}
 use Rattle.tt_game.specs.declared.message.GameMsg.{GameMsg}
-use Rattle.tt_game.specs.declared.message.GameMsg.TheVariants.{
-  ServerFull,
-  ServerBanned,
-  ServerError,
-  ServerWelcome,
-  ServerClientInfo,
-  ServerMove,
-}
+use Rattle.tt_game.specs.declared.message.GameMsg.TheVariants.{ServerFull, ServerBanned, ServerError, ServerWelcome, ServerClientInfo}
+use Rattle.tt_game.specs.declared.message.GameMsg.TheVariants.{ServerMove}
 use Rattle.tt_world.specs.declared.command.Entry.{Entry}
 use Rattle.tt_world.specs.World.{WorldState}
 use Rattle.tt_lockstep.specs.Told.{Told}
 use Rattle.tt_lockstep.specs.Shown as lockstep
 use Rattle.tt_log.specs.Origin.{Origin, game_of}
-use Rattle.tt_log.specs.Shown.{
-  Place,
-  Item,
-  things_of,
-  items_in,
-  things_in,
-  Shown,
-  nothing_shown,
-  goes_on,
-  learns,
-  end_by,
-  phase_by,
-  with_item,
-  behind,
-  unless_over,
-  shown,
-}
+use Rattle.tt_log.specs.Shown.{Place, Item, things_of, items_in, things_in, Shown, nothing_shown, goes_on, learns, end_by, phase_by}
+use Rattle.tt_log.specs.Shown.{with_item, behind, unless_over, shown}
 
 -- whether lockstep goes on
 abbrev is_going : lockstep.Shown WorldState Entry → Bool

@@ -1,35 +1,6 @@
 -- What was stamped of each client, and what waits, is what was accepted of it.
-use Rattle.std.proofs.Common.{
-  ◌≡◌,
-  ◌⊎◌,
-  inl,
-  inr,
-  ℕ,
-  ◌+◌,
-  ◌≤◌,
-  ◌<◌,
-  List,
-  [],
-  ◌∷◌,
-  ◌++◌,
-  refl,
-  ap,
-  ap₂,
-  sym,
-  ◌∙◌,
-  subst,
-  true,
-  false,
-  Bool,
-  Option,
-  Some,
-  None,
-  arith,
-  zero,
-  suc,
-  append-nil,
-  append_assoc,
-}
+use Rattle.std.proofs.Common.{◌≡◌, ◌⊎◌, inl, inr, ℕ, ◌+◌, ◌≤◌, ◌<◌, List, [], ◌∷◌, ◌++◌, refl, ap, ap₂, sym, ◌∙◌, subst, true, false, Bool}
+use Rattle.std.proofs.Common.{Option, Some, None, arith, zero, suc, append-nil, append_assoc}
 use Rattle.std.specs.Prelude.{◌==◌, ◌||◌, ◌&&◌, fold, length, take, drop, nat_le, map, flat_map, filter, cond, not, is_some}
 use Rattle.std.specs.List.{AllByRecursion}
 use Rattle.std.proofs.lemmas.Bool.{eq-eqb, eqb-true, ne_eqb}
@@ -55,67 +26,18 @@ use Rattle.tt_log.specs.Desk.{admin_arrives, counted_aside, most_admins}
 use Rattle.tt_log.specs.Tick.{drawn, stamps, own_entry, entry_of}
 use Rattle.tt_log.specs.Admin.{Admin}
 use Rattle.tt_log.specs.Desk.{admin_hears}
-use Rattle.tt_log.specs.Events.{
-  read_admin,
-  arrives,
-  counted_in,
-  by_verdict,
-  by_event,
-  charged,
-  closed,
-  shut_down,
-  stops,
-  taken,
-  takes,
-  stepped,
-  read_msg,
-  heard,
-  to_named,
-}
+use Rattle.tt_log.specs.Events.{read_admin, arrives, counted_in, by_verdict, by_event, charged, closed, shut_down, stops, taken, takes}
+use Rattle.tt_log.specs.Events.{stepped, read_msg, heard, to_named}
 use Rattle.tt_log.specs.History.{table_of, journal_of, AreRising}
 use Rattle.tt_log.specs.Stamps.{accepted, accepted_by, accepted_from, accepted_of, commands_in, for_company, if_allowed, if_so, stamped_of}
 use Rattle.tt_log.proofs.Lists.{Among, NotIn, all-append, all-so, among-all}
 use Rattle.tt_log.proofs.Crew.{On, put, on-found, found-on, conns}
-use Rattle.tt_log.proofs.Changes.{
-  Says,
-  By,
-  Change,
-  wants_password,
-  is_let_in,
-  gets_token,
-  gets_frame,
-  answers,
-  plays,
-  commands,
-  has_name,
-  goes_to,
-  founds,
-  gets_pieces,
-  has_all,
-  turned,
-  turned-conn,
-  turned-client,
-  moved,
-  moved-conn,
-  moved-client,
-  Move,
-  queues,
-  begins_map,
-  loads,
-}
+use Rattle.tt_log.proofs.Changes.{Says, By, Change, wants_password, is_let_in, gets_token, gets_frame, answers, plays, commands, has_name}
+use Rattle.tt_log.proofs.Changes.{goes_to, founds, gets_pieces, has_all, turned, turned-conn, turned-client, moved, moved-conn}
+use Rattle.tt_log.proofs.Changes.{moved-client, Move, queues, begins_map, loads}
 use Rattle.tt_log.proofs.Walk.{Base, Walk, Doors, Closing, Moves, Ticks, running, of-asks, of-enters, of-leaves, of-deed, of-ends}
-use Rattle.tt_log.proofs.Ordered.{
-  Ordered,
-  is-ordered,
-  step-ordered,
-  order-base,
-  order-moves,
-  order-walk,
-  order-doors,
-  order-ticks,
-  order-closing,
-  rising-not,
-}
+use Rattle.tt_log.proofs.Ordered.{Ordered, is-ordered, step-ordered, order-base, order-moves, order-walk, order-doors, order-ticks}
+use Rattle.tt_log.proofs.Ordered.{order-closing, rising-not}
 
 -- ---- entries of a sender
 

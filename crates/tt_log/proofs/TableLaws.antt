@@ -16,51 +16,16 @@ use Rattle.tt_log.specs.Reading.{settings, orders, order, lines, step_at, sets}
 use Rattle.tt_lines.proofs.Breaks.{has_no-cons, has_no-test}
 use Rattle.tt_log.proofs.FormLaws.{IsLeft, Each, sound, pick_sound, go, rest_found}
 use Rattle.tt_log.specs.declared.script.line.Line1.{Line1}
-use Rattle.tt_log.specs.declared.script.line.Line1.TheVariants.{
-  Open,
-  Side,
-  Bytes,
-  Shut,
-  Tick,
-  Stop,
-  Join,
-  Up,
-  Down,
-  Run,
-  Pump,
-  Do,
-  Forge,
-  Expect,
-}
+use Rattle.tt_log.specs.declared.script.line.Line1.TheVariants.{Open, Side, Bytes, Shut, Tick, Stop, Join, Up, Down, Run, Pump, Do, Forge}
+use Rattle.tt_log.specs.declared.script.line.Line1.TheVariants.{Expect}
 use Rattle.tt_log.specs.declared.script.setting.Setting.{Setting}
-use Rattle.tt_log.specs.declared.script.setting.Setting.TheVariants.{
-  Seed,
-  FrameFreq,
-  SyncFreq,
-  Clients,
-  Init,
-  PassLimit,
-  Download,
-  Join as JoinLimit,
-  Lag,
-  Cost,
-  Pw,
-  Admin,
-}
+use Rattle.tt_log.specs.declared.script.setting.Setting.TheVariants.{Seed, FrameFreq, SyncFreq, Clients, Init, PassLimit, Download}
+use Rattle.tt_log.specs.declared.script.setting.Setting.TheVariants.{Join as JoinLimit, Lag, Cost, Pw, Admin}
 use Rattle.tt_log.specs.declared.script.step.Step.{Step}
 use Rattle.tt_log.specs.declared.script.step.Step.TheVariants.{Set, Saved, Line}
 use Rattle.tt_world.specs.declared.command.Code.{Code}
-use Rattle.tt_world.specs.declared.command.Code.TheVariants.{
-  IncreaseLoan,
-  DecreaseLoan,
-  Give,
-  PlaceSign,
-  RenameSign,
-  RenameCompany,
-  RenamePresident,
-  Pause,
-  NewCompany,
-}
+use Rattle.tt_world.specs.declared.command.Code.TheVariants.{IncreaseLoan, DecreaseLoan, Give, PlaceSign, RenameSign, RenameCompany}
+use Rattle.tt_world.specs.declared.command.Code.TheVariants.{RenamePresident, Pause, NewCompany}
 
 -- ---- what is read is a line, and its text was read
 

@@ -5,18 +5,8 @@ use Rattle.std.specs.List.{list_any}
 use Rattle.std.proofs.lemmas.Bool.{eq-eqb}
 use Rattle.tt_edge.specs.declared.event.Event.{Event}
 use Rattle.tt_rules.specs.declared.status.Status.{Status}
-use Rattle.tt_rules.specs.declared.status.Status.TheVariants.{
-  Inactive,
-  NewgrfsCheck,
-  AuthGame,
-  AuthCompany,
-  Authorized,
-  MapWait,
-  Map,
-  DoneMap,
-  PreActive,
-  Active,
-}
+use Rattle.tt_rules.specs.declared.status.Status.TheVariants.{Inactive, NewgrfsCheck, AuthGame, AuthCompany, Authorized, MapWait, Map}
+use Rattle.tt_rules.specs.declared.status.Status.TheVariants.{DoneMap, PreActive, Active}
 use Rattle.tt_rules.specs.Statuses.{rank, is_at}
 use Rattle.tt_log.specs.Origin.{Origin}
 use Rattle.tt_log.specs.Member.{Member, is_loading}

@@ -1,31 +1,7 @@
 -- The one walk over the rules: a property of what a rule does (of the table before it, what it tells, and the table behind it)
 -- that holds of each part that rules are made of, and joins, holds of every event.
-use Rattle.std.proofs.Common.{
-  ◌≡◌,
-  inl,
-  inr,
-  ℕ,
-  ◌+◌,
-  ◌≤◌,
-  List,
-  [],
-  ◌∷◌,
-  ◌++◌,
-  refl,
-  ap,
-  sym,
-  ◌∙◌,
-  subst,
-  true,
-  false,
-  Bool,
-  Option,
-  Some,
-  None,
-  arith,
-  zero,
-  suc,
-}
+use Rattle.std.proofs.Common.{◌≡◌, inl, inr, ℕ, ◌+◌, ◌≤◌, List, [], ◌∷◌, ◌++◌, refl, ap, sym, ◌∙◌, subst, true, false, Bool, Option, Some}
+use Rattle.std.proofs.Common.{None, arith, zero, suc}
 use Rattle.std.specs.Prelude.{position, ◌*◌, ◌==◌, drop, take, length, nat_lt, nat_le, map, find, filter, cond, ◌%◌, not, ◌&&◌, ◌||◌}
 use Rattle.std.proofs.lemmas.Bool.{eqb-true, leb-true}
 use Rattle.tt_edge.specs.declared.event.Door.TheVariants.{Main, Side}
@@ -33,26 +9,10 @@ use Rattle.tt_edge.specs.declared.event.Event.{Event}
 use Rattle.tt_edge.specs.declared.event.Event.TheVariants.{Open, Packet, Broken, Shut, Tick, Stop}
 use Rattle.tt_edge.specs.Event.{is_tick, is_open, event_cost}
 use Rattle.tt_game.specs.declared.message.GameMsg.{GameMsg}
-use Rattle.tt_game.specs.declared.message.GameMsg.TheVariants.{
-  ClientJoin,
-  ClientGameInfo,
-  ClientGamePassword,
-  ClientCompanyPassword,
-  ClientGetmap,
-  ClientMapOk,
-  ClientAck,
-  ClientCommand,
-  ClientChat,
-  ClientSetName,
-  ClientSetPassword,
-  ClientMove,
-  ClientError,
-  ClientQuit,
-  ServerError,
-  ServerJoin,
-  ServerWait,
-  ServerChat,
-}
+use Rattle.tt_game.specs.declared.message.GameMsg.TheVariants.{ClientJoin, ClientGameInfo, ClientGamePassword, ClientCompanyPassword}
+use Rattle.tt_game.specs.declared.message.GameMsg.TheVariants.{ClientGetmap, ClientMapOk, ClientAck, ClientCommand, ClientChat}
+use Rattle.tt_game.specs.declared.message.GameMsg.TheVariants.{ClientSetName, ClientSetPassword, ClientMove, ClientError, ClientQuit}
+use Rattle.tt_game.specs.declared.message.GameMsg.TheVariants.{ServerError, ServerJoin, ServerWait, ServerChat}
 use Rattle.tt_admin.specs.declared.message.AdminMsg.{AdminMsg}
 use Rattle.tt_admin.specs.declared.message.AdminMsg.TheVariants as admins
 use Rattle.tt_world.specs.declared.command.Command.{Command}
@@ -68,23 +28,8 @@ use Rattle.tt_log.specs.declared.deed.What.TheVariants.{Msg, ToAdmin, MapBegin, 
 use Rattle.tt_log.specs.Origin.{Origin, at_frame}
 use Rattle.tt_log.specs.Admin.{Admin, is_automatic, client_updates, chat_updates, command_updates}
 use Rattle.tt_log.specs.Member.{Member, is_in, is_playing, is_welcomed}
-use Rattle.tt_log.specs.Table.{
-  Table,
-  member_of,
-  admin_of,
-  is_admin_on,
-  with_member,
-  without_member,
-  digest_of,
-  with_digest,
-  now_in,
-  playing,
-  welcomed,
-  living_in,
-  downloader,
-  first_loading,
-  if_loading,
-}
+use Rattle.tt_log.specs.Table.{Table, member_of, admin_of, is_admin_on, with_member, without_member, digest_of, with_digest, now_in}
+use Rattle.tt_log.specs.Table.{playing, welcomed, living_in, downloader, first_loading, if_loading}
 use Rattle.tt_log.specs.Deed.{Deed, ◌▹◌, where_, where_some, tells, tells_what, tells_each, tells_playing}
 use Rattle.tt_log.specs.Watching.{watching, sees_stamp, sees_frame}
 use Rattle.tt_log.specs.Names.{given_name}
@@ -92,109 +37,20 @@ use Rattle.tt_log.specs.Frames.{tells_fresh, tells_frame_by, tells_frame, frames
 use Rattle.tt_log.specs.Queue.{asks, begins, begins_for, begins_where, waits, moved_up, left_place, leaves_queue}
 use Rattle.tt_log.specs.Judged.{judged, founder}
 use Rattle.tt_log.specs.Ending.{Farewell, Quitting, Failing, tells_farewell, leaves, ends}
-use Rattle.tt_log.specs.PacketRules.{
-  client_info,
-  welcomes,
-  company_step_by,
-  password_step_by,
-  enters,
-  becomes_active,
-  asks_company,
-  new_company,
-  acknowledged,
-  acknowledges,
-  has_caught_up,
-  closed_token,
-  chats,
-  is_in_scope,
-  renames,
-  moves,
-  does,
-}
-use Rattle.tt_log.specs.Desk.{
-  admin_opens,
-  admin_leaves,
-  admin_ends,
-  admin_limited,
-  each_admin_limited,
-  admins_limited,
-  admins_told,
-  is_slow,
-}
-use Rattle.tt_log.specs.Tick.{
-  stamps,
-  drawn,
-  tells_entries,
-  stamped,
-  frame_runs_by,
-  frame_runs,
-  foundings,
-  all_moved,
-  founders_moved,
-  synced,
-  next_pieces,
-  finishes_map,
-  mapped,
-  left_of,
-  late,
-  limited,
-  each_limited,
-  timed,
-  frame_follows,
-  ticked,
-}
-use Rattle.tt_log.specs.Events.{
-  read_msg,
-  opened,
-  by_verdict,
-  heard,
-  to_named,
-  on_conn,
-  by_event,
-  charged,
-  stops,
-  closed,
-  shut_down,
-  taken,
-  takes,
-  deed,
-  last_frame,
-}
+use Rattle.tt_log.specs.PacketRules.{client_info, welcomes, company_step_by, password_step_by, enters, becomes_active, asks_company}
+use Rattle.tt_log.specs.PacketRules.{new_company, acknowledged, acknowledges, has_caught_up, closed_token, chats, is_in_scope, renames}
+use Rattle.tt_log.specs.PacketRules.{moves, does}
+use Rattle.tt_log.specs.Desk.{admin_opens, admin_leaves, admin_ends, admin_limited, each_admin_limited, admins_limited, admins_told}
+use Rattle.tt_log.specs.Desk.{is_slow}
+use Rattle.tt_log.specs.Tick.{stamps, drawn, tells_entries, stamped, frame_runs_by, frame_runs, foundings, all_moved, founders_moved}
+use Rattle.tt_log.specs.Tick.{synced, next_pieces, finishes_map, mapped, left_of, late, limited, each_limited, timed, frame_follows, ticked}
+use Rattle.tt_log.specs.Events.{read_msg, opened, by_verdict, heard, to_named, on_conn, by_event, charged, stops, closed, shut_down, taken}
+use Rattle.tt_log.specs.Events.{takes, deed, last_frame}
 use Rattle.tt_log.proofs.Lists.{Among, Within, NotIn, IsOther, found-among, map-filter-not, all-of-filter, all-filter}
 use Rattle.tt_log.proofs.Crew.{On, OnAdmin, on-found, found-on, put-among, admin_conns}
-use Rattle.tt_log.proofs.Changes.{
-  step,
-  Allows,
-  allows,
-  Says,
-  By,
-  Change,
-  wants_password,
-  is_let_in,
-  gets_token,
-  gets_frame,
-  answers,
-  plays,
-  commands,
-  has_name,
-  goes_to,
-  founds,
-  gets_pieces,
-  has_all,
-  Move,
-  queues,
-  begins_map,
-  loads,
-  Asks,
-  May,
-  turned,
-  moved,
-  turned_in,
-  steps_with,
-  IsTalk,
-  IsNews,
-  turned-conn,
-}
+use Rattle.tt_log.proofs.Changes.{step, Allows, allows, Says, By, Change, wants_password, is_let_in, gets_token, gets_frame, answers, plays}
+use Rattle.tt_log.proofs.Changes.{commands, has_name, goes_to, founds, gets_pieces, has_all, Move, queues, begins_map, loads, Asks, May}
+use Rattle.tt_log.proofs.Changes.{turned, moved, turned_in, steps_with, IsTalk, IsNews, turned-conn}
 
 -- ---- the tables of a tick
 

@@ -1,25 +1,6 @@
 -- What each event does.
-use Rattle.std.specs.Prelude.{
-  ℕ,
-  ◌+◌,
-  Bool,
-  true,
-  false,
-  not,
-  ◌&&◌,
-  ◌||◌,
-  ◌==◌,
-  nat_le,
-  List,
-  [],
-  ◌∷◌,
-  ◌++◌,
-  map,
-  length,
-  Option,
-  Some,
-  None,
-}
+use Rattle.std.specs.Prelude.{ℕ, ◌+◌, Bool, true, false, not, ◌&&◌, ◌||◌, ◌==◌, nat_le, List, [], ◌∷◌, ◌++◌, map, length, Option, Some}
+use Rattle.std.specs.Prelude.{None}
 use Rattle.tt_edge.specs.declared.event.Door.TheVariants.{Main, Side}
 use Rattle.tt_edge.specs.declared.event.Event.{Event}
 use Rattle.tt_edge.specs.declared.event.Event.TheVariants.{Open, Packet, Broken, Shut, Tick, Stop}

@@ -7,13 +7,8 @@
 use Rattle.std.specs.Prelude.{ℕ, Bool, true, false, not, ◌&&◌, ◌||◌, ◌==◌, List, [], ◌∷◌, Option, Some, None, bytes_eq}
 use Rattle.std.specs.List.{list_any}
 use Rattle.tt_game.specs.declared.message.GameMsg.{GameMsg}
-use Rattle.tt_game.specs.declared.message.GameMsg.TheVariants.{
-  ClientJoin,
-  ClientGamePassword,
-  ClientCompanyPassword,
-  ClientSetName,
-  ClientMove,
-}
+use Rattle.tt_game.specs.declared.message.GameMsg.TheVariants.{ClientJoin, ClientGamePassword, ClientCompanyPassword, ClientSetName}
+use Rattle.tt_game.specs.declared.message.GameMsg.TheVariants.{ClientMove}
 use Rattle.tt_rules.specs.declared.status.Verdict.{Verdict}
 use Rattle.tt_rules.specs.declared.status.Verdict.TheVariants.{Allowed, Ends}
 use Rattle.tt_rules.specs.Codes.{illegal_packet, wrong_revision, name_in_use, wrong_password, company_mismatch, invalid_client_name}

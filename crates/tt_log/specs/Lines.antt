@@ -4,22 +4,8 @@ use Rattle.std.specs.List.{AllByRecursion}
 use Rattle.tt_log.specs.Forms.{Form, Word, word, named, rest, number, text, hex, WordFits}
 use Rattle.tt_log.specs.Orders.{order_words, IsOrder}
 use Rattle.tt_log.specs.declared.script.line.Line1.{Line1}
-use Rattle.tt_log.specs.declared.script.line.Line1.TheVariants.{
-  Open,
-  Side,
-  Bytes,
-  Shut,
-  Tick,
-  Stop,
-  Join,
-  Up,
-  Down,
-  Run,
-  Pump,
-  Do,
-  Forge,
-  Expect,
-}
+use Rattle.tt_log.specs.declared.script.line.Line1.TheVariants.{Open, Side, Bytes, Shut, Tick, Stop, Join, Up, Down, Run, Pump, Do, Forge}
+use Rattle.tt_log.specs.declared.script.line.Line1.TheVariants.{Expect}
 
 -- any number of 32 bits
 abbrev pub any : Form

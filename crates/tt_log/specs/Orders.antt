@@ -2,17 +2,8 @@
 use Rattle.std.specs.Prelude.{◌≡◌, ℕ, List, [], ◌∷◌, codes}
 use Rattle.tt_log.specs.Forms.{Word, word, named, number, text}
 use Rattle.tt_world.specs.declared.command.Code.{Code}
-use Rattle.tt_world.specs.declared.command.Code.TheVariants.{
-  IncreaseLoan,
-  DecreaseLoan,
-  Give,
-  PlaceSign,
-  RenameSign,
-  RenameCompany,
-  RenamePresident,
-  Pause,
-  NewCompany,
-}
+use Rattle.tt_world.specs.declared.command.Code.TheVariants.{IncreaseLoan, DecreaseLoan, Give, PlaceSign, RenameSign, RenameCompany}
+use Rattle.tt_world.specs.declared.command.Code.TheVariants.{RenamePresident, Pause, NewCompany}
 use Rattle.tt_world.specs.declared.command.Command.{Command}
 
 -- the words of a command of that code

@@ -1,52 +1,13 @@
 -- What each packet does that is allowed.
-use Rattle.std.specs.Prelude.{
-  ℕ,
-  ◌+◌,
-  min,
-  Bool,
-  not,
-  ◌&&◌,
-  ◌||◌,
-  ◌==◌,
-  nat_le,
-  cond,
-  List,
-  [],
-  ◌∷◌,
-  ◌++◌,
-  map,
-  filter,
-  length,
-  Option,
-  Some,
-  None,
-}
+use Rattle.std.specs.Prelude.{ℕ, ◌+◌, min, Bool, not, ◌&&◌, ◌||◌, ◌==◌, nat_le, cond, List, [], ◌∷◌, ◌++◌, map, filter, length, Option}
+use Rattle.std.specs.Prelude.{Some, None}
 use Rattle.tt_game.specs.declared.message.GameMsg.{GameMsg}
-use Rattle.tt_game.specs.declared.message.GameMsg.TheVariants.{
-  ClientJoin,
-  ClientGameInfo,
-  ClientGamePassword,
-  ClientCompanyPassword,
-  ClientGetmap,
-  ClientMapOk,
-  ClientAck,
-  ClientCommand,
-  ClientChat,
-  ClientSetName,
-  ClientSetPassword,
-  ClientMove,
-  ClientError,
-  ClientQuit,
-  ServerGameInfo,
-  ServerNeedGamePassword,
-  ServerNeedCompanyPassword,
-  ServerWelcome,
-  ServerJoin,
-  ServerCommand,
-  ServerChat,
-  ServerClientInfo,
-  ServerMove,
-}
+use Rattle.tt_game.specs.declared.message.GameMsg.TheVariants.{ClientJoin, ClientGameInfo, ClientGamePassword, ClientCompanyPassword}
+use Rattle.tt_game.specs.declared.message.GameMsg.TheVariants.{ClientGetmap, ClientMapOk, ClientAck, ClientCommand, ClientChat}
+use Rattle.tt_game.specs.declared.message.GameMsg.TheVariants.{ClientSetName, ClientSetPassword, ClientMove, ClientError, ClientQuit}
+use Rattle.tt_game.specs.declared.message.GameMsg.TheVariants.{ServerGameInfo, ServerNeedGamePassword, ServerNeedCompanyPassword}
+use Rattle.tt_game.specs.declared.message.GameMsg.TheVariants.{ServerWelcome, ServerJoin, ServerCommand, ServerChat, ServerClientInfo}
+use Rattle.tt_game.specs.declared.message.GameMsg.TheVariants.{ServerMove}
 use Rattle.tt_world.specs.declared.command.Code.TheVariants.{NewCompany}
 use Rattle.tt_world.specs.declared.command.Command.{Command}
 use Rattle.tt_world.specs.declared.command.Entry.{Entry}

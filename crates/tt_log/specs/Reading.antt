@@ -3,48 +3,15 @@ use Rattle.std.specs.Prelude.{ℕ, List, [], ◌∷◌, codes, Option}
 use Rattle.tt_log.specs.Forms.{number, text, hex, saved, key}
 use Rattle.tt_log.specs.Lines.{any}
 use Rattle.tt_log.specs.Rows.{Row, Branch, ◌▸◌, end, all, row, pick, row_at}
-use Rattle.tt_log.specs.declared.script.line.Line1.TheVariants.{
-  Open,
-  Side,
-  Bytes,
-  Shut,
-  Tick,
-  Stop,
-  Join,
-  Up,
-  Down,
-  Run,
-  Pump,
-  Do,
-  Forge,
-  Expect,
-}
-use Rattle.tt_log.specs.declared.script.setting.Setting.TheVariants.{
-  Seed,
-  FrameFreq,
-  SyncFreq,
-  Clients,
-  Init,
-  PassLimit,
-  Download,
-  Join as JoinLimit,
-  Lag,
-  Cost,
-  Pw,
-  Admin,
-}
+use Rattle.tt_log.specs.declared.script.line.Line1.TheVariants.{Open, Side, Bytes, Shut, Tick, Stop, Join, Up, Down, Run, Pump, Do, Forge}
+use Rattle.tt_log.specs.declared.script.line.Line1.TheVariants.{Expect}
+use Rattle.tt_log.specs.declared.script.setting.Setting.TheVariants.{Seed, FrameFreq, SyncFreq, Clients, Init, PassLimit, Download}
+use Rattle.tt_log.specs.declared.script.setting.Setting.TheVariants.{Join as JoinLimit, Lag, Cost, Pw, Admin}
 use Rattle.tt_log.specs.declared.script.step.Step.{Step}
 use Rattle.tt_log.specs.declared.script.step.Step.TheVariants.{Set, Saved, Line}
 use Rattle.tt_world.specs.declared.command.Code.{Code}
-use Rattle.tt_world.specs.declared.command.Code.TheVariants.{
-  IncreaseLoan,
-  DecreaseLoan,
-  Give,
-  PlaceSign,
-  RenameSign,
-  RenameCompany,
-  RenamePresident,
-}
+use Rattle.tt_world.specs.declared.command.Code.TheVariants.{IncreaseLoan, DecreaseLoan, Give, PlaceSign, RenameSign, RenameCompany}
+use Rattle.tt_world.specs.declared.command.Code.TheVariants.{RenamePresident}
 
 -- behind `set`
 abbrev pub settings : List (Branch Step)

@@ -1,29 +1,7 @@
 -- How a line is read, word by word: its value, or nothing where a word isn't there. That this reading is the inverse of
 -- the tables, the laws of the crate say.
-use Rattle.std.specs.Prelude.{
-  ◌≡◌,
-  ℕ,
-  ◌^◌,
-  List,
-  [],
-  ◌∷◌,
-  codes,
-  length,
-  cond,
-  Bool,
-  false,
-  ◌&&◌,
-  ◌==◌,
-  nat_le,
-  nat_lt,
-  if◌then◌else◌,
-  Option,
-  Some,
-  None,
-  Result,
-  Ok,
-  Err,
-}
+use Rattle.std.specs.Prelude.{◌≡◌, ℕ, ◌^◌, List, [], ◌∷◌, codes, length, cond, Bool, false, ◌&&◌, ◌==◌, nat_le, nat_lt, if◌then◌else◌}
+use Rattle.std.specs.Prelude.{Option, Some, None, Result, Ok, Err}
 use Rattle.std.specs.Str.{bytes_eq}
 use Rattle.std.specs.Str.Parse.{digits_value}
 use Rattle.std.specs.Fmt.{decimal}

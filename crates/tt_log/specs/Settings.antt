@@ -2,20 +2,8 @@
 use Rattle.std.specs.Prelude.{ℕ, List, [], ◌∷◌, codes, length, Bool, ◌==◌}
 use Rattle.tt_log.specs.Forms.{Word, word, named, number, text}
 use Rattle.tt_log.specs.declared.script.setting.Setting.{Setting}
-use Rattle.tt_log.specs.declared.script.setting.Setting.TheVariants.{
-  Seed,
-  FrameFreq,
-  SyncFreq,
-  Clients,
-  Init,
-  PassLimit,
-  Download,
-  Join,
-  Lag,
-  Cost,
-  Pw,
-  Admin,
-}
+use Rattle.tt_log.specs.declared.script.setting.Setting.TheVariants.{Seed, FrameFreq, SyncFreq, Clients, Init, PassLimit, Download, Join}
+use Rattle.tt_log.specs.declared.script.setting.Setting.TheVariants.{Lag, Cost, Pw, Admin}
 use Rattle.tt_world.specs.Setup.{plain}
 use Rattle.tt_world.specs.declared.setup.Setup.{Setup}
 

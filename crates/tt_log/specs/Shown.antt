@@ -1,25 +1,6 @@
 -- What a stream shows a client: which message it permits where, and what is made of it. Both ends stand on this one table.
-use Rattle.std.specs.Prelude.{
-  ℕ,
-  ◌+◌,
-  Bool,
-  true,
-  false,
-  not,
-  ◌==◌,
-  nat_le,
-  cond,
-  if◌then◌else◌,
-  List,
-  [],
-  ◌∷◌,
-  ◌++◌,
-  fold,
-  length,
-  Option,
-  Some,
-  None,
-}
+use Rattle.std.specs.Prelude.{ℕ, ◌+◌, Bool, true, false, not, ◌==◌, nat_le, cond, if◌then◌else◌, List, [], ◌∷◌, ◌++◌, fold, length, Option}
+use Rattle.std.specs.Prelude.{Some, None}
 use Rattle.std.specs.Result.{result_ok}
 use Rattle.tt_frame.specs.Packet.{Packet, size_of}
 use Rattle.tt_frame.specs.Stream.{End, rest_of, bad_size}
@@ -29,31 +10,11 @@ use Rattle.tt_lockstep.specs.Told.{Told}
 use Rattle.tt_lockstep.specs.Dialog.{Dialog}
 use Rattle.tt_lockstep.specs.Shown as lockstep
 use Rattle.tt_game.specs.declared.message.GameMsg.{GameMsg}
-use Rattle.tt_game.specs.declared.message.GameMsg.TheVariants.{
-  ServerFull,
-  ServerBanned,
-  ServerError,
-  ServerGameInfo,
-  ServerCheckNewgrfs,
-  ServerNeedGamePassword,
-  ServerNeedCompanyPassword,
-  ServerWelcome,
-  ServerWait,
-  ServerMapBegin,
-  ServerMapSize,
-  ServerMapData,
-  ServerMapDone,
-  ServerJoin,
-  ServerFrame,
-  ServerSync,
-  ServerCommand,
-  ServerChat,
-  ServerClientInfo,
-  ServerMove,
-  ServerErrorQuit,
-  ServerQuit,
-  ServerShutdown,
-}
+use Rattle.tt_game.specs.declared.message.GameMsg.TheVariants.{ServerFull, ServerBanned, ServerError, ServerGameInfo, ServerCheckNewgrfs}
+use Rattle.tt_game.specs.declared.message.GameMsg.TheVariants.{ServerNeedGamePassword, ServerNeedCompanyPassword, ServerWelcome, ServerWait}
+use Rattle.tt_game.specs.declared.message.GameMsg.TheVariants.{ServerMapBegin, ServerMapSize, ServerMapData, ServerMapDone, ServerJoin}
+use Rattle.tt_game.specs.declared.message.GameMsg.TheVariants.{ServerFrame, ServerSync, ServerCommand, ServerChat, ServerClientInfo}
+use Rattle.tt_game.specs.declared.message.GameMsg.TheVariants.{ServerMove, ServerErrorQuit, ServerQuit, ServerShutdown}
 use Rattle.tt_world.specs.declared.command.Command.{Command}
 use Rattle.tt_world.specs.declared.command.Entry.{Entry}
 use Rattle.tt_world.specs.World.{WorldState}

@@ -1,26 +1,6 @@
 -- The server's table: all that the rules speak of, but for the world and bytes.
-use Rattle.std.specs.Prelude.{
-  ℕ,
-  Bool,
-  false,
-  not,
-  ◌==◌,
-  ◌||◌,
-  cond,
-  List,
-  [],
-  ◌∷◌,
-  ◌++◌,
-  map,
-  filter,
-  find,
-  length,
-  Option,
-  Some,
-  None,
-  is_some,
-  option_map,
-}
+use Rattle.std.specs.Prelude.{ℕ, Bool, false, not, ◌==◌, ◌||◌, cond, List, [], ◌∷◌, ◌++◌, map, filter, find, length, Option, Some, None}
+use Rattle.std.specs.Prelude.{is_some, option_map}
 use Rattle.tt_world.specs.declared.command.Command.{Command}
 use Rattle.tt_world.specs.declared.command.Entry.{Entry}
 use Rattle.tt_world.specs.World.{WorldState}

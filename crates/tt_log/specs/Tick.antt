@@ -1,34 +1,6 @@
 -- A tick: nine steps in order.
-use Rattle.std.specs.Prelude.{
-  ℕ,
-  zero,
-  suc,
-  ◌+◌,
-  ◌-◌,
-  ◌*◌,
-  ◌%◌,
-  Bool,
-  true,
-  false,
-  not,
-  ◌&&◌,
-  ◌||◌,
-  ◌==◌,
-  nat_lt,
-  List,
-  [],
-  ◌∷◌,
-  ◌++◌,
-  map,
-  flat_map,
-  find,
-  length,
-  take,
-  drop,
-  Option,
-  Some,
-  None,
-}
+use Rattle.std.specs.Prelude.{ℕ, zero, suc, ◌+◌, ◌-◌, ◌*◌, ◌%◌, Bool, true, false, not, ◌&&◌, ◌||◌, ◌==◌, nat_lt, List, [], ◌∷◌, ◌++◌, map}
+use Rattle.std.specs.Prelude.{flat_map, find, length, take, drop, Option, Some, None}
 use Rattle.tt_world.specs.declared.command.Code.{Code}
 use Rattle.tt_world.specs.declared.command.Code.TheVariants.{NewCompany}
 use Rattle.tt_world.specs.declared.command.Command.{Command}
@@ -36,18 +8,8 @@ use Rattle.tt_world.specs.declared.command.Entry.{Entry}
 use Rattle.tt_world.specs.declared.setup.Setup.{Setup}
 use Rattle.tt_map.specs.Layout.{map_of}
 use Rattle.tt_rules.specs.declared.status.Status.{Status}
-use Rattle.tt_rules.specs.declared.status.Status.TheVariants.{
-  Inactive,
-  NewgrfsCheck,
-  AuthGame,
-  AuthCompany,
-  Authorized,
-  MapWait,
-  Map,
-  DoneMap,
-  PreActive,
-  Active,
-}
+use Rattle.tt_rules.specs.declared.status.Status.TheVariants.{Inactive, NewgrfsCheck, AuthGame, AuthCompany, Authorized, MapWait, Map}
+use Rattle.tt_rules.specs.declared.status.Status.TheVariants.{DoneMap, PreActive, Active}
 use Rattle.tt_rules.specs.Codes.{timeout_password, timeout_computer, timeout_map, timeout_join}
 use Rattle.tt_rules.specs.Companies.{least_free, founded}
 use Rattle.tt_rules.specs.Verdict.{spectator}

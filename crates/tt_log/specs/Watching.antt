@@ -2,15 +2,8 @@
 -- A reader who wants the players alone needs none of this: each of these rules tells admins something, and changes nothing.
 use Rattle.std.specs.Prelude.{ℕ, List, map, filter}
 use Rattle.tt_admin.specs.declared.message.AdminMsg.{AdminMsg}
-use Rattle.tt_admin.specs.declared.message.AdminMsg.TheVariants.{
-  ServerClientJoin,
-  ServerClientInfo,
-  ServerClientUpdate,
-  ServerClientQuit,
-  ServerClientError,
-  ServerChat,
-  ServerCmdLogging,
-}
+use Rattle.tt_admin.specs.declared.message.AdminMsg.TheVariants.{ServerClientJoin, ServerClientInfo, ServerClientUpdate, ServerClientQuit}
+use Rattle.tt_admin.specs.declared.message.AdminMsg.TheVariants.{ServerClientError, ServerChat, ServerCmdLogging}
 use Rattle.tt_world.specs.declared.command.Entry.{Entry}
 use Rattle.tt_rules.specs.Commands.{number_of}
 use Rattle.tt_log.specs.declared.deed.What.TheVariants.{ToAdmin}

@@ -1,27 +1,6 @@
 -- What a call of the program comes to, from its parts.
-use Rattle.std.proofs.Common.{
-  ◌≡◌,
-  ◌⊎◌,
-  ℕ,
-  zero,
-  suc,
-  ◌≤◌,
-  List,
-  [],
-  ◌∷◌,
-  length,
-  take,
-  Option,
-  Some,
-  None,
-  IfSome,
-  inl,
-  inr,
-  sym,
-  ap,
-  subst,
-  ◌∙◌,
-}
+use Rattle.std.proofs.Common.{◌≡◌, ◌⊎◌, ℕ, zero, suc, ◌≤◌, List, [], ◌∷◌, length, take, Option, Some, None, IfSome, inl, inr, sym, ap}
+use Rattle.std.proofs.Common.{subst, ◌∙◌}
 use Rattle.std.specs.List.{AllByRecursion}
 use Rattle.std.proofs.lemmas.List.{take-map}
 use Rattle.std.specs.Io.KnownBytes.{Appends}
@@ -29,20 +8,8 @@ use Rattle.tt_lines.specs.Lines.{lines_of, IsFirstBad}
 use Rattle.tt_edge.specs.Sink.{AppendsPart}
 use Rattle.tt_replay.specs.declared.form.Form.{Form}
 use Rattle.tt_replay.specs.declared.form.Form.TheVariants.{Run, Check, Show}
-use Rattle.tt_replay.specs.Statuses.{
-  form_of,
-  input_limit,
-  IsOfForm,
-  IsAnswer,
-  Answers,
-  IsWritten,
-  IsPartlyWritten,
-  IsRefused,
-  IsDiffering,
-  IsOther,
-  bad_line_text,
-  differs_text,
-}
+use Rattle.tt_replay.specs.Statuses.{form_of, input_limit, IsOfForm, IsAnswer, Answers, IsWritten, IsPartlyWritten, IsRefused, IsDiffering}
+use Rattle.tt_replay.specs.Statuses.{IsOther, bad_line_text, differs_text}
 use Rattle.tt_show.specs.ListLines.{ListLine}
 use Rattle.tt_show.specs.Lists as lists
 use Rattle.tt_show.specs.Lists.{IsList, line_text}

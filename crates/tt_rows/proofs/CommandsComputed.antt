@@ -10,19 +10,8 @@ use Rattle.md5.specs.Md5.{block_words, rounds, compress, hash_after, digest_byte
 use Rattle.hex.specs.Hex.{encode_with}
 use Rattle.tt_world.specs.Commands.{new_id, new_name}
 use Rattle.tt_rows.specs.Games.{ComesTo}
-use Rattle.tt_rows.specs.CommandsGames.{
-  seventeen_commands,
-  company_and_loan,
-  other_company,
-  sixteen_wait,
-  two_founders,
-  gift_and_sign,
-  three_stamped_in_two_ticks,
-  ahead_of_time,
-  sync_told,
-  own_codes,
-  a_day,
-}
+use Rattle.tt_rows.specs.CommandsGames.{seventeen_commands, company_and_loan, other_company, sixteen_wait, two_founders, gift_and_sign}
+use Rattle.tt_rows.specs.CommandsGames.{three_stamped_in_two_ticks, ahead_of_time, sync_told, own_codes, a_day}
 
 pub computed_0 : ComesTo seventeen_commands
     × ComesTo company_and_loan

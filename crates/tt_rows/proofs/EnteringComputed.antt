@@ -10,15 +10,8 @@ use Rattle.md5.specs.Md5.{block_words, rounds, compress, hash_after, digest_byte
 use Rattle.hex.specs.Hex.{encode_with}
 use Rattle.tt_world.specs.Commands.{new_id, new_name}
 use Rattle.tt_rows.specs.Games.{ComesTo}
-use Rattle.tt_rows.specs.EnteringGames.{
-  counts_of_a_game,
-  three_want_one_name,
-  an_unnamed_one_has_no_name,
-  a_waiting_one_leaves,
-  no_number_is_free,
-  both_passwords,
-  shut_with_a_code,
-}
+use Rattle.tt_rows.specs.EnteringGames.{counts_of_a_game, three_want_one_name, an_unnamed_one_has_no_name, a_waiting_one_leaves}
+use Rattle.tt_rows.specs.EnteringGames.{no_number_is_free, both_passwords, shut_with_a_code}
 
 pub computed : ComesTo counts_of_a_game
     × ComesTo three_want_one_name

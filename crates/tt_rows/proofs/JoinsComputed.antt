@@ -10,20 +10,8 @@ use Rattle.md5.specs.Md5.{block_words, rounds, compress, hash_after, digest_byte
 use Rattle.hex.specs.Hex.{encode_with}
 use Rattle.tt_world.specs.Commands.{new_id, new_name}
 use Rattle.tt_rows.specs.Games.{ComesTo}
-use Rattle.tt_rows.specs.JoinsGames.{
-  two_joins_one_broken,
-  empty_name,
-  same_name,
-  whole_join,
-  next_downloads,
-  first_leaves,
-  asked_for_password,
-  right_password,
-  wrong_password,
-  full,
-  servers_packets,
-  wrong_times,
-}
+use Rattle.tt_rows.specs.JoinsGames.{two_joins_one_broken, empty_name, same_name, whole_join, next_downloads, first_leaves}
+use Rattle.tt_rows.specs.JoinsGames.{asked_for_password, right_password, wrong_password, full, servers_packets, wrong_times}
 
 pub computed_0 : ComesTo two_joins_one_broken
     × ComesTo empty_name

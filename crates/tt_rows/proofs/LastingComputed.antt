@@ -10,13 +10,8 @@ use Rattle.md5.specs.Md5.{block_words, rounds, compress, hash_after, digest_byte
 use Rattle.hex.specs.Hex.{encode_with}
 use Rattle.tt_world.specs.Commands.{new_id, new_name}
 use Rattle.tt_rows.specs.Games.{ComesTo}
-use Rattle.tt_rows.specs.LastingGames.{
-  acknowledged_twice,
-  company_password_in_time,
-  catches_up_in_time,
-  acknowledging_is_no_joining,
-  ticks_cost_nothing,
-}
+use Rattle.tt_rows.specs.LastingGames.{acknowledged_twice, company_password_in_time, catches_up_in_time, acknowledging_is_no_joining}
+use Rattle.tt_rows.specs.LastingGames.{ticks_cost_nothing}
 
 pub computed : ComesTo acknowledged_twice
     × ComesTo company_password_in_time

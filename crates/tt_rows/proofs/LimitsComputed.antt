@@ -10,16 +10,8 @@ use Rattle.md5.specs.Md5.{block_words, rounds, compress, hash_after, digest_byte
 use Rattle.hex.specs.Hex.{encode_with}
 use Rattle.tt_world.specs.Commands.{new_id, new_name}
 use Rattle.tt_rows.specs.Games.{ComesTo}
-use Rattle.tt_rows.specs.LimitsGames.{
-  quiet_for_100_ticks,
-  late_behind_101_ticks,
-  limits_of_time,
-  limits_of_map,
-  lags,
-  acknowledged_in_time,
-  bad_ack,
-  late_acknowledgements,
-}
+use Rattle.tt_rows.specs.LimitsGames.{quiet_for_100_ticks, late_behind_101_ticks, limits_of_time, limits_of_map, lags, acknowledged_in_time}
+use Rattle.tt_rows.specs.LimitsGames.{bad_ack, late_acknowledgements}
 
 pub computed_0 : ComesTo quiet_for_100_ticks
     × ComesTo late_behind_101_ticks

@@ -10,16 +10,8 @@ use Rattle.md5.specs.Md5.{block_words, rounds, compress, hash_after, digest_byte
 use Rattle.hex.specs.Hex.{encode_with}
 use Rattle.tt_world.specs.Commands.{new_id, new_name}
 use Rattle.tt_rows.specs.Games.{ComesTo}
-use Rattle.tt_rows.specs.PlayingGames.{
-  moves_and_digests,
-  sync_each_frame,
-  stamps_in_order,
-  stamped_as_accepted,
-  sixteen_may_wait,
-  no_company_to_lock,
-  chats_of_companies,
-  told_before_active,
-}
+use Rattle.tt_rows.specs.PlayingGames.{moves_and_digests, sync_each_frame, stamps_in_order, stamped_as_accepted, sixteen_may_wait}
+use Rattle.tt_rows.specs.PlayingGames.{no_company_to_lock, chats_of_companies, told_before_active}
 
 pub computed : ComesTo moves_and_digests
     × ComesTo sync_each_frame

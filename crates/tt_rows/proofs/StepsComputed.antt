@@ -10,25 +10,10 @@ use Rattle.md5.specs.Md5.{block_words, rounds, compress, hash_after, digest_byte
 use Rattle.hex.specs.Hex.{encode_with}
 use Rattle.tt_world.specs.Commands.{new_id, new_name}
 use Rattle.tt_rows.specs.Games.{ComesTo}
-use Rattle.tt_rows.specs.StepsGames.{
-  welcomed_and_quiet,
-  told_of_the_game,
-  another_revision,
-  another_grf_version,
-  no_such_company,
-  files_unasked,
-  broken_behind_the_welcome,
-  shut_untold,
-  name_too_long_with_a_number,
-  name_with_a_number,
-  map_asked_for_twice,
-  map_loaded_before_it_came,
-  joins_twice,
-  quits_at_once,
-  name_judged_before_company,
-  stranger_ends_unheard,
-  chat_in_the_game,
-}
+use Rattle.tt_rows.specs.StepsGames.{welcomed_and_quiet, told_of_the_game, another_revision, another_grf_version, no_such_company}
+use Rattle.tt_rows.specs.StepsGames.{files_unasked, broken_behind_the_welcome, shut_untold, name_too_long_with_a_number, name_with_a_number}
+use Rattle.tt_rows.specs.StepsGames.{map_asked_for_twice, map_loaded_before_it_came, joins_twice, quits_at_once, name_judged_before_company}
+use Rattle.tt_rows.specs.StepsGames.{stranger_ends_unheard, chat_in_the_game}
 
 pub computed_0 : ComesTo welcomed_and_quiet
     × ComesTo told_of_the_game

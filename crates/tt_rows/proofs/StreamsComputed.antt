@@ -10,48 +10,13 @@ use lib.Utf8.{encode}
 use Rattle.md5.specs.Md5.{block_words, rounds, compress, hash_after, digest_bytes, md5}
 use Rattle.hex.specs.Hex.{encode_with}
 use Rattle.tt_world.specs.Commands.{new_id, new_name}
-use Rattle.tt_map.specs.Reading.{
-  bytes_here,
-  byte_here,
-  number_here,
-  signed_here,
-  name_here,
-  company_here,
-  places_here,
-  sign_here,
-  signs_here,
-  game_in,
-  words_in,
-  companies_in,
-  signs_in,
-  nothing_in,
-  body_here,
-  part_here,
-  map_in,
-}
+use Rattle.tt_map.specs.Reading.{bytes_here, byte_here, number_here, signed_here, name_here, company_here, places_here, sign_here}
+use Rattle.tt_map.specs.Reading.{signs_here, game_in, words_in, companies_in, signs_in, nothing_in, body_here, part_here, map_in}
 use Rattle.tt_rows.specs.ShownGames.{seen_in}
-use Rattle.tt_rows.specs.StreamsGames.{
-  Shows,
-  game_password_without_id,
-  company_password_without_id,
-  no_files,
-  a_file,
-  greatest_map,
-  too_great_a_map,
-  data_past_the_size,
-  done_before_the_size,
-  no_map,
-  full_in_the_game,
-  wait_in_the_game,
-  unknown_code,
-  frame_above_the_permitted,
-  command_at_the_permitted_frame,
-  command_below_the_last,
-  command_at_the_last,
-  anothers_name,
-  syncs_in,
-  two_words,
-}
+use Rattle.tt_rows.specs.StreamsGames.{Shows, game_password_without_id, company_password_without_id, no_files, a_file, greatest_map}
+use Rattle.tt_rows.specs.StreamsGames.{too_great_a_map, data_past_the_size, done_before_the_size, no_map, full_in_the_game}
+use Rattle.tt_rows.specs.StreamsGames.{wait_in_the_game, unknown_code, frame_above_the_permitted, command_at_the_permitted_frame}
+use Rattle.tt_rows.specs.StreamsGames.{command_below_the_last, command_at_the_last, anothers_name, syncs_in, two_words}
 
 pub computed : Shows game_password_without_id
     × Shows company_password_without_id

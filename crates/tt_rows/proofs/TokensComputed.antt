@@ -10,16 +10,8 @@ use Rattle.md5.specs.Md5.{block_words, rounds, compress, hash_after, digest_byte
 use Rattle.hex.specs.Hex.{encode_with}
 use Rattle.tt_world.specs.Commands.{new_id, new_name}
 use Rattle.tt_rows.specs.Games.{ComesTo}
-use Rattle.tt_rows.specs.TokensGames.{
-  given_back,
-  another_token,
-  twice_given_back,
-  none_given_back,
-  late_given_back,
-  wrong_frame_first,
-  open_for_long,
-  open_for_the_lag,
-}
+use Rattle.tt_rows.specs.TokensGames.{given_back, another_token, twice_given_back, none_given_back, late_given_back, wrong_frame_first}
+use Rattle.tt_rows.specs.TokensGames.{open_for_long, open_for_the_lag}
 
 pub computed : ComesTo given_back
     × ComesTo another_token

@@ -1,43 +1,14 @@
 -- Commands, companies and frames: lists of events, and what a game is made from that is not plain.
 use Rattle.tt_rows.specs.Games.{Game}
-use Rattle.tt_world.specs.declared.command.Code.TheVariants.{
-  IncreaseLoan,
-  DecreaseLoan,
-  Give,
-  PlaceSign,
-  RenameSign,
-  RenameCompany,
-  RenamePresident,
-  NewCompany,
-}
+use Rattle.tt_world.specs.declared.command.Code.TheVariants.{IncreaseLoan, DecreaseLoan, Give, PlaceSign, RenameSign, RenameCompany}
+use Rattle.tt_world.specs.declared.command.Code.TheVariants.{RenamePresident, NewCompany}
 use Rattle.std.specs.Prelude.{List, [], ◌∷◌, ◌++◌, replicate, codes, true, false}
 use Rattle.tt_edge.specs.declared.event.Event.{Event}
 use Rattle.tt_edge.specs.declared.event.Event.TheVariants.{Tick}
 use Rattle.tt_world.specs.Setup.{plain}
 use Rattle.tt_log.specs.Origin.{Origin}
-use Rattle.tt_rows.specs.Words.{
-  made_from,
-  opens,
-  ann,
-  bob,
-  cid,
-  spectates,
-  founds,
-  asks_for_map,
-  has_loaded,
-  acknowledges,
-  borrows,
-  repays,
-  gives,
-  places_sign,
-  renames_sign,
-  renames_company,
-  renames_president,
-  orders,
-  hex,
-  plain_game,
-  entry,
-}
+use Rattle.tt_rows.specs.Words.{made_from, opens, ann, bob, cid, spectates, founds, asks_for_map, has_loaded, acknowledges, borrows, repays}
+use Rattle.tt_rows.specs.Words.{gives, places_sign, renames_sign, renames_company, renames_president, orders, hex, plain_game, entry}
 
 -- Seventeen commands for a company that is none: the first one ends it.
 abbrev pub seventeen_commands : Game

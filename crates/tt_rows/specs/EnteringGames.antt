@@ -2,28 +2,9 @@
 use Rattle.std.specs.Prelude.{List, [], ◌∷◌, ◌++◌, true, false, codes}
 use Rattle.tt_edge.specs.declared.event.Event.TheVariants.{Shut, Tick}
 use Rattle.tt_world.specs.Setup.{plain}
-use Rattle.tt_rows.specs.Words.{
-  plain_game,
-  made_from,
-  with_companies,
-  hex,
-  opens,
-  ann,
-  bob,
-  cid,
-  dan,
-  joins,
-  spectates,
-  founds,
-  asks_what_game,
-  gives_password,
-  gives_company_password,
-  asks_for_map,
-  has_loaded,
-  acknowledges,
-  locks_company,
-  quits,
-}
+use Rattle.tt_rows.specs.Words.{plain_game, made_from, with_companies, hex, opens, ann, bob, cid, dan, joins, spectates, founds}
+use Rattle.tt_rows.specs.Words.{asks_what_game, gives_password, gives_company_password, asks_for_map, has_loaded, acknowledges}
+use Rattle.tt_rows.specs.Words.{locks_company, quits}
 use Rattle.tt_rows.specs.Games.{Game}
 
 -- GAME_INFO counts the welcomed members and the live companies, tells the frame and not the permitted one, and that there is a password.

@@ -5,21 +5,8 @@ use Rattle.tt_edge.specs.declared.event.Event.{Event}
 use Rattle.tt_edge.specs.declared.event.Event.TheVariants.{Broken, Shut, Tick}
 use Rattle.tt_world.specs.Setup.{plain}
 use Rattle.tt_log.specs.Origin.{Origin}
-use Rattle.tt_rows.specs.Words.{
-  made_from,
-  opens,
-  ann,
-  bob,
-  joins,
-  spectates,
-  asks_what_game,
-  gives_password,
-  asks_for_map,
-  has_loaded,
-  says,
-  hex,
-  plain_game,
-}
+use Rattle.tt_rows.specs.Words.{made_from, opens, ann, bob, joins, spectates, asks_what_game, gives_password, asks_for_map, has_loaded}
+use Rattle.tt_rows.specs.Words.{says, hex, plain_game}
 
 -- A bad size ends its own connection alone.
 abbrev pub two_joins_one_broken : Game

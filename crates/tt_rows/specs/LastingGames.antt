@@ -2,22 +2,8 @@
 use Rattle.std.specs.Prelude.{List, [], ◌∷◌, ◌++◌, true, false, replicate, codes}
 use Rattle.tt_edge.specs.declared.event.Event.TheVariants.{Tick}
 use Rattle.tt_world.specs.Setup.{plain}
-use Rattle.tt_rows.specs.Words.{
-  plain_game,
-  made_from,
-  with_companies,
-  hex,
-  opens,
-  ann,
-  bob,
-  cid,
-  joins,
-  spectates,
-  asks_for_map,
-  has_loaded,
-  acknowledges,
-  locks_company,
-}
+use Rattle.tt_rows.specs.Words.{plain_game, made_from, with_companies, hex, opens, ann, bob, cid, joins, spectates, asks_for_map}
+use Rattle.tt_rows.specs.Words.{has_loaded, acknowledges, locks_company}
 use Rattle.tt_rows.specs.Games.{Game}
 
 -- The frame of the map counts as acknowledged, and one frame may be acknowledged again.

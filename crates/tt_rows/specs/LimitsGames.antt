@@ -5,22 +5,8 @@ use Rattle.tt_edge.specs.declared.event.Event.{Event}
 use Rattle.tt_edge.specs.declared.event.Event.TheVariants.{Tick}
 use Rattle.tt_world.specs.Setup.{plain}
 use Rattle.tt_log.specs.Origin.{Origin}
-use Rattle.tt_rows.specs.Words.{
-  made_from,
-  opens,
-  ann,
-  bob,
-  cid,
-  dan,
-  spectates,
-  asks_for_map,
-  has_loaded,
-  acknowledges,
-  gives_back,
-  chats_to,
-  hex,
-  plain_game,
-}
+use Rattle.tt_rows.specs.Words.{made_from, opens, ann, bob, cid, dan, spectates, asks_for_map, has_loaded, acknowledges, gives_back}
+use Rattle.tt_rows.specs.Words.{chats_to, hex, plain_game}
 
 -- A connection that says nothing may stay for 100 ticks.
 abbrev pub quiet_for_100_ticks : Game

@@ -7,22 +7,8 @@ use Rattle.tt_world.specs.declared.command.Code.TheVariants.{RenameSign}
 use Rattle.tt_world.specs.declared.setup.Setup.{Setup}
 use Rattle.tt_world.specs.declared.sign.Sign.{Sign}
 use Rattle.tt_log.specs.Origin.{Origin}
-use Rattle.tt_rows.specs.Words.{
-  ann,
-  bob,
-  acknowledges,
-  asks_for_map,
-  company,
-  entry,
-  has_loaded,
-  hex,
-  joins,
-  opens,
-  renames_sign,
-  sign,
-  spectates,
-  world,
-}
+use Rattle.tt_rows.specs.Words.{ann, bob, acknowledges, asks_for_map, company, entry, has_loaded, hex, joins, opens, renames_sign, sign}
+use Rattle.tt_rows.specs.Words.{spectates, world}
 use Rattle.tt_rows.specs.Games.{Game}
 
 -- so many signs of company 0 from an id on, each with a text of so many bytes

@@ -3,27 +3,8 @@ use Rattle.std.specs.Prelude.{List, [], ◌∷◌, ◌++◌, true, false, codes}
 use Rattle.tt_edge.specs.declared.event.Event.TheVariants.{Tick}
 use Rattle.tt_world.specs.Setup.{plain}
 use Rattle.tt_world.specs.declared.command.Code.TheVariants.{IncreaseLoan, NewCompany}
-use Rattle.tt_rows.specs.Words.{
-  plain_game,
-  made_from,
-  with_companies,
-  hex,
-  entry,
-  opens,
-  ann,
-  bob,
-  cid,
-  joins,
-  spectates,
-  founds,
-  asks_for_map,
-  has_loaded,
-  acknowledges,
-  borrows,
-  chats_to,
-  moves_to,
-  locks_company,
-}
+use Rattle.tt_rows.specs.Words.{plain_game, made_from, with_companies, hex, entry, opens, ann, bob, cid, joins, spectates, founds}
+use Rattle.tt_rows.specs.Words.{asks_for_map, has_loaded, acknowledges, borrows, chats_to, moves_to, locks_company}
 use Rattle.tt_rows.specs.Games.{Game}
 
 -- A digest opens a locked company alone, and an open one needs none; one may move to its own company.

@@ -6,25 +6,8 @@ use Rattle.tt_edge.specs.declared.event.Event.TheVariants.{Broken, Shut, Tick}
 use Rattle.tt_world.specs.Setup.{plain}
 use Rattle.tt_world.specs.declared.sign.Sign.{Sign}
 use Rattle.tt_log.specs.Origin.{Origin}
-use Rattle.tt_rows.specs.Words.{
-  company,
-  sign,
-  world,
-  opens,
-  ann,
-  bob,
-  joins,
-  spectates,
-  asks_what_game,
-  asks_for_map,
-  has_loaded,
-  acknowledges,
-  chats_to,
-  quits,
-  says,
-  hex,
-  plain_game,
-}
+use Rattle.tt_rows.specs.Words.{company, sign, world, opens, ann, bob, joins, spectates, asks_what_game, asks_for_map, has_loaded}
+use Rattle.tt_rows.specs.Words.{acknowledges, chats_to, quits, says, hex, plain_game}
 
 -- A welcomed member that never asks for the map ends behind 101 ticks.
 abbrev pub welcomed_and_quiet : Game

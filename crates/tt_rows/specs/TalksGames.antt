@@ -6,30 +6,9 @@ use Rattle.tt_edge.specs.declared.event.Event.{Event}
 use Rattle.tt_edge.specs.declared.event.Event.TheVariants.{Tick, Stop}
 use Rattle.tt_world.specs.Setup.{plain}
 use Rattle.tt_log.specs.Origin.{Origin}
-use Rattle.tt_rows.specs.Words.{
-  made_from,
-  opens,
-  ann,
-  bob,
-  cid,
-  dan,
-  joins,
-  spectates,
-  founds,
-  gives_company_password,
-  asks_for_map,
-  has_loaded,
-  acknowledges,
-  chats_to,
-  wants_name,
-  locks_company,
-  moves_to,
-  tells_error,
-  quits,
-  hex,
-  plain_game,
-  entry,
-}
+use Rattle.tt_rows.specs.Words.{made_from, opens, ann, bob, cid, dan, joins, spectates, founds, gives_company_password, asks_for_map}
+use Rattle.tt_rows.specs.Words.{has_loaded, acknowledges, chats_to, wants_name, locks_company, moves_to, tells_error, quits, hex}
+use Rattle.tt_rows.specs.Words.{plain_game, entry}
 
 -- Chats in the three scopes.
 abbrev pub chats : Game

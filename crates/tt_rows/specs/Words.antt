@@ -1,33 +1,6 @@
 -- The words in which games are told.
-use Rattle.std.specs.Prelude.{
-  ℕ,
-  zero,
-  suc,
-  pos,
-  decimal,
-  ◌+◌,
-  ◌-◌,
-  ◌*◌,
-  Bool,
-  true,
-  false,
-  nat_lt,
-  List,
-  [],
-  ◌∷◌,
-  ◌++◌,
-  codes,
-  drop,
-  flat_map,
-  slice_index,
-  slice_set,
-  replicate,
-  Option,
-  Some,
-  None,
-  option_map,
-  ℤ,
-}
+use Rattle.std.specs.Prelude.{ℕ, zero, suc, pos, decimal, ◌+◌, ◌-◌, ◌*◌, Bool, true, false, nat_lt, List, [], ◌∷◌, ◌++◌, codes, drop}
+use Rattle.std.specs.Prelude.{flat_map, slice_index, slice_set, replicate, Option, Some, None, option_map, ℤ}
 use Rattle.std.specs.Int.{w16, w32, to_le_bytes}
 use Rattle.tt_edge.specs.declared.event.Door.TheVariants.{Main}
 use Rattle.tt_edge.specs.declared.event.Event.{Event}

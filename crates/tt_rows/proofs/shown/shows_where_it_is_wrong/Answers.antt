@@ -10,25 +10,8 @@ use lib.Utf8.{encode}
 use Rattle.md5.specs.Md5.{block_words, rounds, compress, hash_after, digest_bytes, md5}
 use Rattle.hex.specs.Hex.{encode_with}
 use Rattle.tt_world.specs.Commands.{new_id, new_name}
-use Rattle.tt_map.specs.Reading.{
-  bytes_here,
-  byte_here,
-  number_here,
-  signed_here,
-  name_here,
-  company_here,
-  places_here,
-  sign_here,
-  signs_here,
-  game_in,
-  words_in,
-  companies_in,
-  signs_in,
-  nothing_in,
-  body_here,
-  part_here,
-  map_in,
-}
+use Rattle.tt_map.specs.Reading.{bytes_here, byte_here, number_here, signed_here, name_here, company_here, places_here, sign_here}
+use Rattle.tt_map.specs.Reading.{signs_here, game_in, words_in, companies_in, signs_in, nothing_in, body_here, part_here, map_in}
 use Rattle.tt_rows.proofs.shown.shows_where_it_is_wrong.Goals as goal
 
 pub returns-clause-message : goal.returns-clause-message
