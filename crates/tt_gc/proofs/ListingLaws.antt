@@ -1,9 +1,7 @@
 -- Who is listed: public servers of the revision that is asked for alone.
-use Rattle.std.proofs.Common.{◌≡◌, ℕ, zero, suc, ◌<◌, Bool, true, false, ◌&&◌, cond, List, [], ◌∷◌, ◌++◌, Option, Some, None, refl, sym, ap}
-use Rattle.std.proofs.Common.{◌∙◌, inl, inr, arith}
+use Rattle.std.proofs.Common.{◌≡◌, ℕ, suc, Bool, true, false, ◌&&◌, cond, List, [], ◌∷◌, Option, Some, None, refl, sym, ap, inl, inr, arith}
 use Rattle.std.specs.Prelude.{◌⊎◌, eqb, filter}
 use Rattle.std.specs.List.{Contains}
-use Rattle.std.specs.Str.{bytes_eq}
 use Rattle.std.proofs.lemmas.Slice.Eq.{bytes_eq-Decides}
 use Rattle.std.proofs.lemmas.Bool.{eqb-true, false≢true}
 use Rattle.std.proofs.lemmas.List.Elements.{Contains-append_cases, Contains-push_cases}
@@ -11,7 +9,7 @@ use Rattle.tt_coord.specs.declared.info.Info.{Info}
 use Rattle.tt_coord.specs.declared.coord.CoordMsg.{CoordMsg}
 use Rattle.tt_coord.specs.declared.coord.CoordMsg.TheVariants.{GcListing}
 use Rattle.tt_gc.specs.Table.{Table, Server, is_live}
-use Rattle.tt_gc.specs.Deed.{Step, Deed, msg, ◌▹◌, given, each, tells}
+use Rattle.tt_gc.specs.Deed.{Step, Deed, msg, given, each, tells}
 use Rattle.tt_gc.specs.PacketRules.{has_revision, is_listed, listed_item, tells_server, on_listing}
 use Rattle.tt_gc.specs.Listing.{ListsServer, EndsListing}
 

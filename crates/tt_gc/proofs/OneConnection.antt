@@ -3,11 +3,9 @@ use Rattle.std.proofs.Common.{◌≡◌, ℕ, Bool, true, false, not, ◌&&◌, 
 use Rattle.std.proofs.Common.{subst, ◌∙◌}
 use Rattle.std.specs.Prelude.{eqb, filter, find, is_some, nat_le}
 use Rattle.std.proofs.lemmas.Bool.{eqb-true, and_right, ne_eqb, true≢false, false≢true}
-use Rattle.std.proofs.lemmas.List.{append-nil}
 use Rattle.tt_edge.specs.declared.event.Peer.{Peer}
 use Rattle.tt_edge.specs.declared.event.Event.{Event}
 use Rattle.tt_edge.specs.declared.event.Event.TheVariants.{Packet}
-use Rattle.tt_edge.specs.Event.{event_cost}
 use Rattle.tt_coord.specs.declared.stun.StunMsg.{StunMsg}
 use Rattle.tt_coord.specs.declared.stun.StunMsg.TheVariants.{SercliStun}
 use Rattle.tt_attempts.specs.Attempts.{stepped as attempt_stepped}
@@ -20,14 +18,14 @@ use Rattle.tt_gc.specs.Table.{with_meeting, without_server, served_by, asked_by}
 use Rattle.tt_gc.specs.Table as table
 use Rattle.tt_gc.specs.Deed.{Deed, ◌▹◌, where_, either, given, each, becomes}
 use Rattle.tt_gc.specs.Meetings.{is_over, reaches, hears_it, is_heard}
-use Rattle.tt_gc.specs.Ending.{goes, client_gone, server_gone, leaves, ends}
+use Rattle.tt_gc.specs.Ending.{goes, client_gone, server_gone, leaves}
 use Rattle.tt_gc.specs.PacketRules.{read_msg, heard}
-use Rattle.tt_gc.specs.Desk.{is_at_stun, with_note, shows, read_stun, on_stun, at_desk}
+use Rattle.tt_gc.specs.Desk.{is_at_stun, with_note, read_stun, on_stun, at_desk}
 use Rattle.tt_gc.specs.Events.{on_packet, by_event, charged, shut_down, closed, is_stop, last_tick, stepped, table_of}
 use Rattle.tt_gc.specs.Told.{is_live}
 use Rattle.tt_gc.specs.Told as book
 use Rattle.tt_gc.specs.Laws.{table_of-push}
-use Rattle.tt_gc.proofs.Finding.{unwrapped, found, find_filter_other, find_filter_same}
+use Rattle.tt_gc.proofs.Finding.{found, find_filter_other, find_filter_same}
 use Rattle.tt_gc.proofs.WaysLaws.{it_table}
 
 -- the same connections and servers, and as much over

@@ -1,13 +1,12 @@
 -- What a token's attempt is told is what tt_attempts says of all that it hears.
-use Rattle.std.proofs.Common.{◌≡◌, ℕ, zero, suc, ◌+◌, ◌<◌, ◌≤◌, ◌^◌, Bool, true, false, not, ◌||◌, cond, List, [], ◌∷◌, ◌++◌, map, drop}
-use Rattle.std.proofs.Common.{length, Option, Some, None, refl, sym, ap, ap₂, subst, ◌∙◌, append_assoc, arith, inl, inr}
-use Rattle.std.specs.Prelude.{◌⊎◌, fold, eqb, filter, find, is_some, nat_le, option_map, replicate}
+use Rattle.std.proofs.Common.{◌≡◌, ℕ, ◌+◌, ◌<◌, ◌≤◌, ◌^◌, Bool, true, false, ◌||◌, cond, List, [], ◌∷◌, ◌++◌, drop, length, Option, Some, None, refl, sym, ap, ap₂, subst, ◌∙◌, append_assoc, arith, inl, inr}
+use Rattle.std.specs.Prelude.{◌⊎◌, fold, eqb, find, is_some, nat_le, option_map}
 use Rattle.std.specs.Str.{bytes_eq}
 use Rattle.std.specs.Fmt.{decimal}
 use Rattle.std.proofs.lemmas.Fmt.{decimal_injective}
 use Rattle.std.proofs.lemmas.Slice.Eq.{bytes_eq-Decides}
-use Rattle.std.proofs.lemmas.Bool.{true≢false, false≢true}
-use Rattle.std.proofs.lemmas.List.{append-nil, length-append}
+use Rattle.std.proofs.lemmas.Bool.{true≢false}
+use Rattle.std.proofs.lemmas.List.{append-nil}
 use Rattle.tt_edge.specs.declared.event.Peer.{Peer}
 use Rattle.tt_edge.specs.declared.event.Event.{Event}
 use Rattle.tt_edge.specs.declared.event.Event.TheVariants.{Open, Packet, Broken, Shut, Tick, Stop}
@@ -25,9 +24,7 @@ use Rattle.tt_attempts.specs.declared.attempt.Told as word
 use Rattle.tt_attempts.specs.declared.attempt.Told.TheVariants.{Nothing, Direct, AskStun, Stun, Turn, AllFailed}
 use Rattle.tt_attempts.specs.Attempts as attempts
 use Rattle.tt_attempts.specs.Attempts.{AttemptState, from_direct, stepped as attempt_stepped}
-use Rattle.tt_attempts.specs.Runs.{told_in, answers, ways_in, applying}
-use Rattle.tt_attempts.proofs.OrderLaws.{in_order}
-use Rattle.tt_attempts.proofs.EndLaws.{connected_silent}
+use Rattle.tt_attempts.specs.Runs.{told_in, answers}
 use Rattle.tt_attempts.specs.declared.attempt.Heard.TheVariants.{Failed, StunResult, Connected}
 use Rattle.tt_attempts.proofs.RunLaws.{stage_in, told_append, stage_append}
 use Rattle.tt_gc.specs.declared.setup.GcSetup.{GcSetup}

@@ -1,5 +1,5 @@
 -- What a step of a listing tells.
-use Rattle.std.specs.Prelude.{◌≡◌, ◌⊎◌, ℕ, List, [], ◌∷◌, Some}
+use Rattle.std.specs.Prelude.{◌≡◌, ℕ, List, [], ◌∷◌, Some}
 use Rattle.std.specs.List.{Contains}
 use Rattle.tt_coord.specs.declared.info.Info.{Info}
 use Rattle.tt_coord.specs.declared.coord.CoordMsg.TheVariants.{GcListing}

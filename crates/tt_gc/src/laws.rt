@@ -64,6 +64,10 @@ pub fn strangers_change_nothing()
     // So does all that is said about a token of no open attempt.
     ensures unknown { (s : GcSetup) (t : Table) (conn : ℕ) (token : List ℕ) (tracking : ℕ) → meeting_of t token ≡ None
         → on_failed s conn token tracking t ≡ becomes t }
+    ensures unknown_result { (s : GcSetup) (t : Table) (conn : ℕ) (token : List ℕ) (side : ℕ) (ok : Bool) → meeting_of t token ≡ None
+        → on_result s conn token side ok t ≡ becomes t }
+    ensures unknown_connected { (s : GcSetup) (t : Table) (conn : ℕ) (token : List ℕ) → meeting_of t token ≡ None
+        → on_connected s conn token t ≡ becomes t }
 {}
 
 /// A packet that spells nothing ends its own connection, and no other, whatever was said on it before; and so does any packet at

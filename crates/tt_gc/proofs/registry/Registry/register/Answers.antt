@@ -1,4 +1,4 @@
-use Rattle.std.proofs.Common.{rules, ◌≡◌, ap, ◌∙◌, false, map, ◌++◌, ◌∷◌, []}
+use Rattle.std.proofs.Common.{rules, refl, ◌≡◌, ap, ◌∙◌, false, map, ◌++◌, ◌∷◌, []}
 use Rattle.std.specs.Prelude.{find, is_some}
 use Rattle.std.specs.Str.{bytes_eq}
 use Rattle.indexmap.specs.IndexMap.{insert_entry}
@@ -14,5 +14,6 @@ returns-clause-servers c =
     let none : is_some (find (λ (v : Server). bytes_eq c.args.code v.code) (map server_at c.self.inside.servers.entries)) ≡ false =
     ap (λ (r : RegistryState). is_some (find (λ (v : Server). bytes_eq c.args.code v.code) (servers_of r))) c.self.view_is
     ∙ c.requires.not_live in
-    ap (map server_at) entries ∙ put c.args.code c.args.served c.self.inside.servers.entries none
+    ap (map server_at) entries
+    ∙ put server_at c.args.code (λ (v : Server). bytes_eq c.args.code v.code) (λ e. refl) c.args.served c.self.inside.servers.entries none
     ∙ ap (λ (r : RegistryState). servers_of r ++ server_at (c.args.code, c.args.served) ∷ []) c.self.view_is

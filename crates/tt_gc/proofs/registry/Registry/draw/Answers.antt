@@ -1,0 +1,19 @@
+use Rattle.std.proofs.Common.{rules, refl, ◌≡◌, ap, ◌∙◌, false, map, ◌++◌, ◌∷◌, []}
+use Rattle.std.specs.Prelude.{find, is_some}
+use Rattle.std.specs.Str.{bytes_eq}
+use Rattle.indexmap.specs.IndexMap.{insert_entry}
+use Rattle.tt_gc.specs.Table.{Drawn}
+use Rattle.tt_gc.specs.Registry.{RegistryState, drawn_of, drawn_at}
+use Rattle.tt_gc.proofs.RegistryLaws.{put}
+use Rattle.tt_gc.proofs.registry.Registry.draw.Goals as goal
+
+pub returns-clause-drawn : goal.returns-clause-drawn
+returns-clause-drawn c =
+    let entries : c.insert.new.self.entries ≡ insert_entry bytes_eq c.self.inside.drawn.entries c.args.code c.args.secret =
+    search rules in
+    let none : is_some (find (λ (d : Drawn). bytes_eq c.args.code d.code) (map drawn_at c.self.inside.drawn.entries)) ≡ false =
+    ap (λ (r : RegistryState). is_some (find (λ (d : Drawn). bytes_eq c.args.code d.code) (drawn_of r))) c.self.view_is
+    ∙ c.requires.not_drawn in
+    ap (map drawn_at) entries
+    ∙ put drawn_at c.args.code (λ (d : Drawn). bytes_eq c.args.code d.code) (λ e. refl) c.args.secret c.self.inside.drawn.entries none
+    ∙ ap (λ (r : RegistryState). drawn_of r ++ drawn_at (c.args.code, c.args.secret) ∷ []) c.self.view_is
