@@ -13,22 +13,8 @@ use Rattle.tt_edge.specs.declared.event.Event.{Event}
 use Rattle.tt_edge.specs.declared.event.Event.TheVariants.{Open, Packet, Broken, Shut, Tick, Stop}
 use Rattle.tt_attempts.specs.Attempts.{from_direct}
 use Rattle.tt_gc.specs.declared.setup.GcSetup.{GcSetup}
-use Rattle.tt_gc.specs.Table.{
-  Table,
-  Connection,
-  Server,
-  Drawn,
-  Meeting,
-  first,
-  connection_of,
-  live_sides,
-  meeting_of,
-  server_on,
-  server_by,
-  drawn_by,
-  holders,
-  NoneTwice,
-}
+use Rattle.tt_gc.specs.Table.{Table, Connection, Server, Drawn, Meeting, first, connection_of, live_sides, meeting_of, server_on, server_by}
+use Rattle.tt_gc.specs.Table.{drawn_by, holders, NoneTwice}
 use Rattle.tt_gc.specs.Deed.{Deed, ◌▹◌, either, given, becomes}
 use Rattle.tt_gc.specs.Codes.{new_token, behind_token, IsOwners}
 use Rattle.tt_gc.specs.Meetings.{is_over, hears_it, new_meeting, stands, begins_it}
@@ -39,7 +25,8 @@ use Rattle.tt_gc.specs.Desk.{most_sides, shows, read_stun, at_desk}
 use Rattle.tt_gc.specs.Events.{arrives, opened, on_packet, on_broken, on_shut, by_event, charged, is_stop, last_tick, shut_down, closed}
 use Rattle.tt_gc.specs.Events.{counted, deed, stepped, table_of}
 use Rattle.tt_gc.specs.Events as events
-use Rattle.tt_gc.specs.Walk.{IsKept, Registers, Returns, Draws, kept_given, kept_where, kept_either, kept_leaves, kept_ends, kept_heard, kept_desk}
+use Rattle.tt_gc.specs.Walk.{IsKept, Registers, Returns, Draws, kept_given, kept_where, kept_either, kept_leaves, kept_ends, kept_heard}
+use Rattle.tt_gc.specs.Walk.{kept_desk}
 use Rattle.tt_gc.proofs.Finding.{find_behind}
 use Rattle.tt_gc.proofs.OneConnection.{IsStill, still_heard, still_shows}
 use Rattle.tt_gc.proofs.WaysLaws.{word_table}
