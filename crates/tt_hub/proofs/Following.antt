@@ -1,6 +1,31 @@
 -- What a hub keeps goes on with its events.
-use Rattle.std.proofs.Common.{◌≡◌, ◌≢◌, ℕ, suc, ◌+◌, ◌<◌, ◌≤◌, Bool, true, false, not, ◌&&◌, cond, List, [], ◌∷◌, ◌++◌, Some, None, refl}
-use Rattle.std.proofs.Common.{sym, ap, ◌∙◌, arith, inr}
+use Rattle.std.proofs.Common.{
+  ◌≡◌,
+  ◌≢◌,
+  ℕ,
+  suc,
+  ◌+◌,
+  ◌<◌,
+  ◌≤◌,
+  Bool,
+  true,
+  false,
+  not,
+  ◌&&◌,
+  cond,
+  List,
+  [],
+  ◌∷◌,
+  ◌++◌,
+  Some,
+  None,
+  refl,
+  sym,
+  ap,
+  ◌∙◌,
+  arith,
+  inr,
+}
 use Rattle.std.specs.Prelude.{count_by, eqb, ltb, length, Result, Ok, Err, OnOk, is_err}
 use Rattle.std.proofs.lemmas.Bool.{and_parts, eqb-true, eqb-false, true≢false, false≢true}
 use Rattle.std.proofs.lemmas.List.Sums.{sum_by-append}
