@@ -27,8 +27,8 @@ pub fn joins(alloc: Global, count: u32) -> Result<Vec<u8>, OutOfMemory> {
 /// command, a chat, a member, a digest and a piece of a map.
 const MIXED: [&[u8]; 9] = [
     JOIN,
-    b"\x07\0\x17\x4a\0\0\0",
-    b"\x0b\0\x15\x01\0\0\0\x01\0\0\0",
+    b"\x08\0\x17\x4a\0\0\0\0",
+    b"\x0c\0\x15\x01\0\0\0\x01\0\0\0\xff",
     b"\x0b\0\x16\x64\0\0\0\x38\xd4\xbf\x7a",
     b"\x14\0\x19\0\0\0\x10\x27\0\0\0\0\x08\0\0\0\x02\0\0\0",
     b"\x0e\0\x1b\x03\0\0\0\0Hello\0",
