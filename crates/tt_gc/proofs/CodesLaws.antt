@@ -91,7 +91,19 @@ use Rattle.tt_gc.specs.Events.{
   table_of,
 }
 use Rattle.tt_gc.specs.Events as events
-use Rattle.tt_gc.specs.Walk.{IsKept, Registers, Returns, Draws, kept_given, kept_where, kept_either, kept_leaves, kept_ends, kept_heard, kept_desk}
+use Rattle.tt_gc.specs.Walk.{
+  IsKept,
+  Registers,
+  Returns,
+  Draws,
+  kept_given,
+  kept_where,
+  kept_either,
+  kept_leaves,
+  kept_ends,
+  kept_heard,
+  kept_desk,
+}
 use Rattle.tt_gc.proofs.Finding.{find_behind}
 use Rattle.tt_gc.proofs.OneConnection.{IsStill, still_heard, still_shows}
 use Rattle.tt_gc.proofs.WaysLaws.{word_table}

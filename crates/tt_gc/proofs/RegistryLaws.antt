@@ -32,7 +32,8 @@ pub put : {V B : Type 0} (at : List ℕ × V → B) (key : List ℕ) (p : B → 
     → is_some (find p (map at es)) ≡ false → map at (insert_entry bytes_eq es key v) ≡ map at es ++ at (key, v) ∷ []
 put at key p own v [] none = refl
 put {V = V} {B = B} at key p own v (e ∷ es) none =
-    by (bytes_eq key e.0) (ap (λ (b : Bool). is_some (cond b (Some (at e)) (find p (map at es)))) (sym (own e)) ∙ none) (put at key p own v es)
+    by (bytes_eq key e.0) (ap (λ (b : Bool). is_some (cond b (Some (at e)) (find p (map at es)))) (sym (own e))
+    ∙ none) (put at key p own v es)
   where
     by : (b : Bool) → is_some (cond b (Some (at e)) (find p (map at es))) ≡ false
         → (is_some (find p (map at es)) ≡ false → map at (insert_entry bytes_eq es key v) ≡ map at es ++ at (key, v) ∷ [])

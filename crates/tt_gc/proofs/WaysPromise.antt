@@ -1,5 +1,27 @@
 -- The promise on ways: in order, each after the failure of the one before, and the end at most once.
-use Rattle.std.proofs.Common.{◌≡◌, ℕ, zero, suc, ◌<◌, ◌^◌, true, List, [], ◌∷◌, ◌++◌, length, refl, sym, ap, ap₂, ◌∙◌, append_assoc, arith, inl, inr}
+use Rattle.std.proofs.Common.{
+  ◌≡◌,
+  ℕ,
+  zero,
+  suc,
+  ◌<◌,
+  ◌^◌,
+  true,
+  List,
+  [],
+  ◌∷◌,
+  ◌++◌,
+  length,
+  refl,
+  sym,
+  ap,
+  ap₂,
+  ◌∙◌,
+  append_assoc,
+  arith,
+  inl,
+  inr,
+}
 use Rattle.std.specs.Prelude.{◌⊎◌, filter, replicate}
 use Rattle.std.proofs.lemmas.List.{append-nil, length-append}
 use Rattle.tt_edge.specs.declared.event.Event.{Event}
