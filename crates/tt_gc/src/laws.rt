@@ -1,5 +1,6 @@
 //! What holds of every list of events. These functions do nothing: their contracts are the laws.
-ghost use Rattle.std.specs.Prelude.{◌||◌, ◌+◌, cond, nat_le, ◌≡◌, filter, not, ◌<◌, ◌≤◌, ◌^◌, ◌⊎◌, ◌==◌, Bool, Some, None, length, ℕ, true, false, List, [], ◌∷◌, ◌++◌};
+ghost use Rattle.std.specs.Prelude.{◌||◌, ◌+◌, cond, nat_le, ◌≡◌, filter, not, ◌<◌, ◌≤◌, ◌^◌, ◌⊎◌};
+ghost use Rattle.std.specs.Prelude.{◌==◌, Bool, Some, None, length, ℕ, true, false, List, [], ◌∷◌, ◌++◌};
 ghost use Rattle.tt_edge.specs.declared.event.Event.{Event};
 ghost use Rattle.tt_edge.specs.Event.{opens, is_taken, is_tick, event_cost};
 ghost use Rattle.tt_edge.specs.Core.{GrowsTo, IsUnopened};
@@ -16,7 +17,8 @@ ghost use Rattle.tt_gc.specs.Listing.{ListsServer, EndsListing};
 ghost use Rattle.tt_gc.specs.Events.{table_of, is_stop, last_tick};
 ghost use Rattle.tt_edge.specs.declared.event.Event.TheVariants.{Packet};
 ghost use Rattle.std.specs.List.{Contains};
-ghost use Rattle.tt_gc.specs.PacketRules.{is_empty, read_msg, on_register, on_listing, may_fail, is_side, on_failed, on_result, on_connected};
+ghost use Rattle.tt_gc.specs.PacketRules.{is_empty, read_msg, on_register, on_listing};
+ghost use Rattle.tt_gc.specs.PacketRules.{may_fail, is_side, on_failed, on_result, on_connected};
 ghost use Rattle.tt_gc.specs.Told.{sent, is_live, is_over, takes};
 
 /// The laws of a core, and of one that a server can be run over.
@@ -98,8 +100,8 @@ pub fn a_code_has_one_server()
 /// that is given, and no server that lives has it.
 pub fn a_code_is_its_owners()
     ensures { (s : GcSetup) (t : Table) (conn kind port : ℕ) (code secret : List ℕ) → is_empty code ≡ false
-        → (on_register s conn kind port code secret t ≡ ends s conn 0 [] t) ⊎ ((on_register s conn kind port code secret t ≡ ends s conn 1 [] t)
-        ⊎ IsOwners t code secret) }
+        → (on_register s conn kind port code secret t ≡ ends s conn 0 [] t)
+        ⊎ ((on_register s conn kind port code secret t ≡ ends s conn 1 [] t) ⊎ IsOwners t code secret) }
 {}
 
 /// After an event that is taken all is over exactly where it is a stop, where the cost of the events reaches the limit by it, or where
