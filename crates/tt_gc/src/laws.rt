@@ -30,6 +30,8 @@ pub fn core_laws()
         → (is_live s es conn ≡ false) × (sent s es conn ≡ []) }
     ensures over { (s : GcSetup) (es : List Event) (e : Event) (conn : ℕ) → is_over s es ≡ true
         → (is_live s es conn ≡ false) × (is_over s (es ++ e ∷ []) ≡ true) }
+    // The table counts every opening, taken or not.
+    ensures openings { (s : GcSetup) (es : List Event) → (table_of s es).openings ≡ opens es }
     ensures taken { (s : GcSetup) (es : List Event) (e : Event) → takes s es e ≡ is_taken (is_live s es) e }
 {}
 
