@@ -33,16 +33,20 @@ pub record IsStill (t u : Table) : Type 0 where
   pub connections : u.connections ≡ t.connections
   pub servers : u.servers ≡ t.servers
   pub drawn : u.drawn ≡ t.drawn
+  pub cost : u.cost ≡ t.cost
+  pub ticks : u.ticks ≡ t.ticks
   pub over : u.over ≡ t.over
 
 pub still : (t : Table) → IsStill t t
-still t = record { connections = refl; servers = refl; drawn = refl; over = refl }
+still t = record { connections = refl; servers = refl; drawn = refl; cost = refl; ticks = refl; over = refl }
 
 still_on : (t u v : Table) → IsStill t u → IsStill u v → IsStill t v
 still_on t u v one two = record {
   connections = two.connections ∙ one.connections;
   servers = two.servers ∙ one.servers;
   drawn = two.drawn ∙ one.drawn;
+  cost = two.cost ∙ one.cost;
+  ticks = two.ticks ∙ one.ticks;
   over = two.over ∙ one.over;
 }
 
@@ -52,8 +56,8 @@ still_reaches stage token t = by (is_over stage)
     by : (b : Bool)
         → IsStill t (either b (λ t. becomes (without_meeting token t))
         (λ t. becomes (with_meeting token (λ m. record m { state = record m.state { stage = stage } }) t)) t).table
-    by true = record { connections = refl; servers = refl; drawn = refl; over = refl }
-    by false = record { connections = refl; servers = refl; drawn = refl; over = refl }
+    by true = record { connections = refl; servers = refl; drawn = refl; cost = refl; ticks = refl; over = refl }
+    by false = record { connections = refl; servers = refl; drawn = refl; cost = refl; ticks = refl; over = refl }
 
 pub still_heard : (s : GcSetup) (h : Heard) (t : Table) (o : Option Meeting) → IsStill t (given o (hears_it s h) t).table
 still_heard s h t None = still t
@@ -65,6 +69,8 @@ still_heard s h t (Some m) =
       connections = ap (λ (u : Table). u.connections) is ∙ r.connections;
       servers = ap (λ (u : Table). u.servers) is ∙ r.servers;
       drawn = ap (λ (u : Table). u.drawn) is ∙ r.drawn;
+      cost = ap (λ (u : Table). u.cost) is ∙ r.cost;
+      ticks = ap (λ (u : Table). u.ticks) is ∙ r.ticks;
       over = ap (λ (u : Table). u.over) is ∙ r.over;
     }
 
@@ -118,7 +124,7 @@ still_shows t peer token side None = still t
 still_shows t peer token side (Some m) = by (is_at_stun m.state.stage)
   where
     by : (b : Bool) → IsStill t (where_ b (λ t. becomes (with_meeting token (with_note side peer) t)) t).table
-    by true = record { connections = refl; servers = refl; drawn = refl; over = refl }
+    by true = record { connections = refl; servers = refl; drawn = refl; cost = refl; ticks = refl; over = refl }
     by false = still t
 
 still_stun : (t : Table) (c : Connection) (o : Option StunMsg) → IsStill t (given o (on_stun c.peer) t).table

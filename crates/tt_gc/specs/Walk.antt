@@ -52,11 +52,11 @@ pub record Draws (t u : Table) : Type 0 where
 abbrev pub Registers : Table → Table → Type 0
 Registers t u = KeepsCodes t u ⊎ (Returns t u ⊎ Draws t u)
 
--- alike in all but servers, drawn codes, words, cost and ticks; and how servers and codes changed
+-- alike in all but servers, drawn codes and words; and how servers and codes changed
 abbrev pub IsLike : Table → Table → Type 0
 IsLike t u =
     (u.connections ≡ t.connections) × (u.over ≡ t.over) × (u.meetings ≡ t.meetings) × (u.attempts ≡ t.attempts) × (u.openings ≡ t.openings)
-    × Registers t u
+    × Registers t u × (u.cost ≡ t.cost) × (u.ticks ≡ t.ticks)
 
 -- the message tells no way, and no end of an attempt
 abbrev pub TellsNoWord : CoordMsg → Type 0
@@ -77,7 +77,7 @@ KeptAtBegin s P = (t : Table) (code : List ℕ) (server : Connection) (v : Serve
     → P t (begins_it s code (new_meeting s (new_token t) server v client) t)
 
 alike : (t : Table) → IsLike t t
-alike t = (refl, refl, refl, refl, refl, inl (record { fewer = λ code. omega arith; drawn = refl }))
+alike t = (refl, refl, refl, refl, refl, inl (record { fewer = λ code. omega arith; drawn = refl }), refl, refl)
 
 count_cons : (p : Server → Bool) (v : Server) (vs : List Server) → count_by p (v ∷ vs) ≡ cond (p v) 1 0 + count_by p vs
 count_cons p v vs = omega (arith, sum_by-append (λ (x : Server). cond (p x) 1 0) (v ∷ []) vs)
@@ -149,6 +149,8 @@ kept_leaves s P k t conn =
         fewer = λ code. filter_fewer (λ (v : Server). bytes_eq code v.code) (λ v. not (is_servers conn v)) d2.table.servers;
         drawn = refl;
       }),
+      refl,
+      refl,
     )) in
     k.joins t d3 (server_gone s conn) p3 (kept_each s P k d3.table (served_by d3.table conn) (is_heard s ServerGone)
     (λ token u. k.hears u ServerGone token))
@@ -233,6 +235,8 @@ returns_known t conn kind port code secret may some =
         servers = one_more t t conn kind port d refl;
         drawn = refl;
       })),
+      refl,
+      refl,
     )
 
 pub kept_register : (s : GcSetup) (P : Table → Deed → Type 0) (k : IsKept s P) (t : Table) (conn kind port : ℕ) (code secret : List ℕ)
@@ -254,6 +258,8 @@ kept_register s P k t conn kind port code secret =
       refl,
       refl,
       inr (inr (record { new = new; servers = one_more t u conn kind port new refl; drawn = refl })),
+      refl,
+      refl,
     ))
     (λ some. kept_registers s P k t t conn kind port known (returns_known t conn kind port code secret may some)))
     (kept_ends s P k t conn 1 []))
@@ -269,6 +275,8 @@ kept_update s P k t conn info =
       refl,
       refl,
       inl (record { fewer = λ code. omega (arith, informed_same code conn info t.servers); drawn = refl }),
+      refl,
+      refl,
     )) (kept_ends s P k t conn 0 [])
 
 kept_server : (s : GcSetup) (P : Table → Deed → Type 0) (k : IsKept s P) (conn : ℕ) (v : Server) (t : Table) → P t (tells_server conn v t)

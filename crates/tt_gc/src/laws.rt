@@ -1,7 +1,8 @@
 //! What holds of every list of events. These functions do nothing: their contracts are the laws.
-ghost use Rattle.std.specs.Prelude.{◌≡◌, filter, not, ◌<◌, ◌≤◌, ◌^◌, ◌⊎◌, ◌==◌, Bool, Some, None, length, ℕ, true, false, List, [], ◌∷◌, ◌++◌};
+ghost use Rattle.std.specs.Prelude.{◌||◌, ◌+◌, cond, nat_le, ◌≡◌, filter, not, ◌<◌, ◌≤◌, ◌^◌, ◌⊎◌};
+ghost use Rattle.std.specs.Prelude.{◌==◌, Bool, Some, None, length, ℕ, true, false, List, [], ◌∷◌, ◌++◌};
 ghost use Rattle.tt_edge.specs.declared.event.Event.{Event};
-ghost use Rattle.tt_edge.specs.Event.{opens, is_taken};
+ghost use Rattle.tt_edge.specs.Event.{opens, is_taken, is_tick, event_cost};
 ghost use Rattle.tt_edge.specs.Core.{GrowsTo, IsUnopened};
 ghost use Rattle.tt_gc.specs.declared.setup.GcSetup.{GcSetup};
 ghost use Rattle.tt_attempts.specs.declared.attempt.Heard.{Heard};
@@ -13,10 +14,11 @@ ghost use Rattle.tt_gc.specs.Deed.{Step, becomes};
 ghost use Rattle.tt_gc.specs.Ending.{ends};
 ghost use Rattle.tt_gc.specs.Codes.{IsOwners};
 ghost use Rattle.tt_gc.specs.Listing.{ListsServer, EndsListing};
-ghost use Rattle.tt_gc.specs.Events.{table_of};
+ghost use Rattle.tt_gc.specs.Events.{table_of, is_stop, last_tick};
 ghost use Rattle.tt_edge.specs.declared.event.Event.TheVariants.{Packet};
 ghost use Rattle.std.specs.List.{Contains};
-ghost use Rattle.tt_gc.specs.PacketRules.{is_empty, read_msg, on_register, on_listing, may_fail, is_side, on_failed, on_result, on_connected};
+ghost use Rattle.tt_gc.specs.PacketRules.{is_empty, read_msg, on_register, on_listing};
+ghost use Rattle.tt_gc.specs.PacketRules.{may_fail, is_side, on_failed, on_result, on_connected};
 ghost use Rattle.tt_gc.specs.Told.{sent, is_live, is_over, takes};
 
 /// The laws of a core, and of one that a server can be run over.
@@ -28,6 +30,8 @@ pub fn core_laws()
         → (is_live s es conn ≡ false) × (sent s es conn ≡ []) }
     ensures over { (s : GcSetup) (es : List Event) (e : Event) (conn : ℕ) → is_over s es ≡ true
         → (is_live s es conn ≡ false) × (is_over s (es ++ e ∷ []) ≡ true) }
+    // The table counts every opening, taken or not.
+    ensures openings { (s : GcSetup) (es : List Event) → (table_of s es).openings ≡ opens es }
     ensures taken { (s : GcSetup) (es : List Event) (e : Event) → takes s es e ≡ is_taken (is_live s es) e }
 {}
 
@@ -98,6 +102,14 @@ pub fn a_code_has_one_server()
 /// that is given, and no server that lives has it.
 pub fn a_code_is_its_owners()
     ensures { (s : GcSetup) (t : Table) (conn kind port : ℕ) (code secret : List ℕ) → is_empty code ≡ false
-        → (on_register s conn kind port code secret t ≡ ends s conn 0 [] t) ⊎ ((on_register s conn kind port code secret t ≡ ends s conn 1 [] t)
-        ⊎ IsOwners t code secret) }
+        → (on_register s conn kind port code secret t ≡ ends s conn 0 [] t)
+        ⊎ ((on_register s conn kind port code secret t ≡ ends s conn 1 [] t) ⊎ IsOwners t code secret) }
+{}
+
+/// After an event that is taken all is over exactly where it is a stop, where the cost of the events reaches the limit by it, or where
+/// it is the last tick.
+pub fn all_is_over_exactly_then()
+    ensures { (s : GcSetup) (es : List Event) (e : Event) → is_over s es ≡ false → takes s es e ≡ true
+        → is_over s (es ++ e ∷ []) ≡ is_stop e || nat_le s.cost ((table_of s es).cost + event_cost e)
+        || (((table_of s es).ticks + cond (is_tick e) 1 0) == last_tick) }
 {}

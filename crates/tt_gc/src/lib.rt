@@ -11,7 +11,8 @@ mod registry;
 mod setup;
 
 pub use laws::{
-    a_bad_packet_ends_its_own_connection, a_code_has_one_server, a_code_is_its_owners, core_laws,
-    only_asked_servers_are_listed, strangers_change_nothing, ways_in_order,
+    a_bad_packet_ends_its_own_connection, a_code_has_one_server, a_code_is_its_owners,
+    all_is_over_exactly_then, core_laws, only_asked_servers_are_listed, strangers_change_nothing,
+    ways_in_order,
 };
 pub use setup::GcSetup;

@@ -1,4 +1,4 @@
-use Rattle.tt_gc.specs.Laws.{sent_grows, ended_stays, unopened, over_is_last, takes_live}
+use Rattle.tt_gc.specs.Laws.{sent_grows, ended_stays, unopened, over_is_last, takes_live, openings_of}
 use Rattle.tt_gc.proofs.laws.core_laws.Goals as goal
 
 pub returns-clause-grows : goal.returns-clause-grows
@@ -15,3 +15,6 @@ returns-clause-over c = over_is_last
 
 pub returns-clause-taken : goal.returns-clause-taken
 returns-clause-taken c = λ s es e. takes_live s es e
+
+pub returns-clause-openings : goal.returns-clause-openings
+returns-clause-openings c = openings_of
