@@ -14,23 +14,8 @@ use Rattle.tt_gc.specs.Meetings.{is_over, hears_it, new_meeting, stands, begins_
 use Rattle.tt_gc.specs.Ending.{goes, leaves, ends}
 use Rattle.tt_gc.specs.PacketRules.{read_msg, heard}
 use Rattle.tt_gc.specs.Desk.{most_sides, shows, read_stun, at_desk}
-use Rattle.tt_gc.specs.Events.{
-  arrives,
-  opened,
-  on_packet,
-  on_broken,
-  on_shut,
-  by_event,
-  charged,
-  is_stop,
-  last_tick,
-  shut_down,
-  closed,
-  names_live,
-  counted,
-  stepped,
-  table_of,
-}
+use Rattle.tt_gc.specs.Events.{arrives, opened, on_packet, on_broken, on_shut, by_event, charged, is_stop, last_tick, shut_down, closed}
+use Rattle.tt_gc.specs.Events.{names_live, counted, stepped, table_of}
 use Rattle.tt_gc.specs.Events as events
 use Rattle.tt_gc.specs.Told as book
 use Rattle.tt_gc.specs.Laws.{table_of-push}
