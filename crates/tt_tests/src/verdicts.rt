@@ -2,7 +2,7 @@
 ghost use Rattle.std.specs.Prelude.{◌≤◌};
 
 use std::test::*;
-use tt_frame::{Digest, Line, Text, UpTo};
+use tt_frame::{Digest, LongText, Text, UpTo};
 use tt_game::GameMsg;
 use tt_rules::{Live, Standing, Status, Verdict, verdict};
 
@@ -28,6 +28,7 @@ fn standing(status: Status) -> Standing {
         waiting: 0,
         acked: 10,
         told: 20,
+        token: 7,
     }
 }
 
@@ -72,12 +73,18 @@ fn joining(digest: Digest) -> [(GameMsg, &'static [usize]); 8] {
         (GameMsg::ClientCompanyPassword { digest }, &[3]),
         (GameMsg::ClientGetmap, &[4]),
         (GameMsg::ClientMapOk, &[7]),
-        (GameMsg::ClientAck { frame: 15 }, &[8, 9]),
+        (
+            GameMsg::ClientAck {
+                frame: 15,
+                token: 7,
+            },
+            &[8, 9],
+        ),
     ]
 }
 
 /// Packets of those that play, ends, and packets of the server.
-fn playing() -> [(GameMsg, &'static [usize]); 9] {
+fn playing(chat: LongText<899>) -> [(GameMsg, &'static [usize]); 9] {
     let command = GameMsg::ClientCommand {
         company: 0,
         code: 0,
@@ -91,7 +98,7 @@ fn playing() -> [(GameMsg, &'static [usize]); 9] {
             GameMsg::ClientChat {
                 scope: zero(),
                 to: 0,
-                text: chat(),
+                text: chat,
             },
             &[9],
         ),
@@ -112,14 +119,6 @@ fn playing() -> [(GameMsg, &'static [usize]); 9] {
         (GameMsg::ServerShutdown, &[]),
         (GameMsg::ServerWait { number: 1 }, &[]),
     ]
-}
-
-/// What is chatted.
-fn chat() -> Line {
-    match Line::new(b"Hi") {
-        Some(line) => line,
-        None => unreachable!(),
-    }
 }
 
 /// Whether the verdicts on a packet are those that the places say.
@@ -144,7 +143,8 @@ fn each_status_permits_its_packets(rt: HostRuntime) -> Result<(), Fail> {
     for (msg, places) in joining(digest) {
         assert!(rt; is_permitted_at(&msg, places));
     }
-    for (msg, places) in playing() {
+    let chat = LongText::new(rt.alloc(), b"Hi")?.ok_or("a text")?;
+    for (msg, places) in playing(chat) {
         assert!(rt; is_permitted_at(&msg, places));
     }
     Ok(())
