@@ -1,12 +1,9 @@
-//! Each message of each family there and back, cut, lengthened and with each field past its range; and the texts of them all.
+//! Texts, fields and framing, each message of a game there and back, and the words of packets of every family.
 //!
-//! This crate has tests alone, over the public calls of the crates of messages.
+//! This crate has tests alone, over public calls, so that a change of a library proves the library alone; the other families of
+//! messages have their tests in `tt_tests_families`.
 #![tactic(auto)]
 
-#[cfg(test)]
-mod admin;
-#[cfg(test)]
-mod coord;
 #[cfg(test)]
 mod frame;
 #[cfg(test)]
