@@ -3,45 +3,15 @@ use Rattle.std.specs.Prelude.{ℕ, List}
 use Rattle.tt_frame.specs.Apart.{Parted, part}
 use Rattle.tt_frame.specs.Families.{Family, family_kind, family_body}
 use Rattle.tt_admin.specs.declared.message.AdminMsg.{AdminMsg}
-use Rattle.tt_admin.specs.declared.message.AdminMsg.TheVariants.{
-  AdminJoin,
-  AdminQuit,
-  AdminUpdateFrequency,
-  AdminPoll,
-  AdminChat,
-  AdminRcon,
-  AdminGamescript,
-  AdminPing,
-  AdminExternalChat,
-  ServerFull,
-  ServerBanned,
-  ServerError,
-  ServerProtocol,
-  ServerWelcome,
-  ServerNewgame,
-  ServerShutdown,
-  ServerDate,
-  ServerClientJoin,
-  ServerClientInfo,
-  ServerClientUpdate,
-  ServerClientQuit,
-  ServerClientError,
-  ServerCompanyNew,
-  ServerCompanyInfo,
-  ServerCompanyUpdate,
-  ServerCompanyRemove,
-  ServerCompanyEconomy,
-  ServerCompanyStats,
-  ServerChat,
-  ServerRcon,
-  ServerConsole,
-  ServerCmdNames,
-  ServerCmdLoggingOld,
-  ServerGamescript,
-  ServerRconEnd,
-  ServerPong,
-  ServerCmdLogging,
-}
+use Rattle.tt_admin.specs.declared.message.AdminMsg.TheVariants.{AdminJoin, AdminQuit, AdminUpdateFrequency, AdminPoll, AdminChat}
+use Rattle.tt_admin.specs.declared.message.AdminMsg.TheVariants.{AdminRcon, AdminGamescript, AdminPing, AdminExternalChat, ServerFull}
+use Rattle.tt_admin.specs.declared.message.AdminMsg.TheVariants.{ServerBanned, ServerError, ServerProtocol, ServerWelcome, ServerNewgame}
+use Rattle.tt_admin.specs.declared.message.AdminMsg.TheVariants.{ServerShutdown, ServerDate, ServerClientJoin, ServerClientInfo}
+use Rattle.tt_admin.specs.declared.message.AdminMsg.TheVariants.{ServerClientUpdate, ServerClientQuit, ServerClientError, ServerCompanyNew}
+use Rattle.tt_admin.specs.declared.message.AdminMsg.TheVariants.{ServerCompanyInfo, ServerCompanyUpdate, ServerCompanyRemove}
+use Rattle.tt_admin.specs.declared.message.AdminMsg.TheVariants.{ServerCompanyEconomy, ServerCompanyStats, ServerChat, ServerRcon}
+use Rattle.tt_admin.specs.declared.message.AdminMsg.TheVariants.{ServerConsole, ServerCmdNames, ServerCmdLoggingOld, ServerGamescript}
+use Rattle.tt_admin.specs.declared.message.AdminMsg.TheVariants.{ServerRconEnd, ServerPong, ServerCmdLogging}
 use Rattle.tt_admin.specs.Messages.{messages}
 
 -- its number, and the values of its fields in order

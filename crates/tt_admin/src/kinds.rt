@@ -1,20 +1,24 @@
 //! Each message by its number: read by it, and told with it.
+#![tactic(auto, unfolding(tt_frame::specs::Tables::Reads, tt_frame::specs::Tables::ReadsOrMemory))]
+
 ghost use Rattle.std.specs.Prelude.{◌≡◌, Err};
 ghost use Rattle.tt_frame.specs.declared.bad.Bad.TheVariants.{Memory};
 ghost use Rattle.tt_frame.specs.Unread.{whole};
-ghost use Rattle.tt_frame.specs.Tables.{Reads, ReadsOrMemory, name_by};
-ghost use Rattle.tt_frame.specs.Families.{Tells};
-ghost use Rattle.tt_admin.specs.Messages.{messages, TakesMemory};
+ghost use Rattle.tt_frame.specs.Tables.{MessageReadOrMemory, Reads, ReadsOrMemory, name_by, read_by};
+ghost use Rattle.tt_frame.specs.Parts.{PartsFit, all_said_by};
+ghost use Rattle.tt_frame.specs.Families.{Tells, TellsThese};
+ghost use Rattle.tt_admin.specs.Messages.{messages, report_messages, TakesMemory};
 ghost use Rattle.tt_admin.specs.Apart.{admin_family};
+ghost use Rattle.tt_admin.specs.declared.message.AdminMsg.TheVariants.{ServerProtocol, ServerCmdNames};
 
-mod console;
-mod from_admins;
-mod greeting;
-mod reports;
-
+use crate::items::{CommandNames, UpdateTypes};
 use crate::message::AdminMsg;
 use std::alloc::Global;
-use tt_frame::{Bad, Fields, OutOfMemory, PartWriter};
+use tt_frame::Part::{Head, Truth, U8, U16, U32, U64, Words};
+use tt_frame::{
+    Bad, Fields, OutOfMemory, Part, PartWriter, ended, long_text, marked, number8, number16,
+    number32, number64, read, tell, tell_marked, text, told, truth, up_to,
+};
 
 // The numbers of the messages, named here and nowhere else.
 pub(crate) const ADMIN_JOIN: u8 = 0;
@@ -91,63 +95,128 @@ pub(crate) const SERVER_PONG: u8 = 126;
 
 pub(crate) const SERVER_CMD_LOGGING: u8 = 127;
 
-/// The message of that number, of those that take no memory.
-fn by_kind(kind: u8, f: &mut Fields) -> Result<AdminMsg, Bad>
+/// The fields of the message of that number, of those that take no memory.
+fn fields_of(kind: u8, f: &mut Fields) -> Result<AdminMsg, Bad>
     requires place { f.old.at ≡ 0 }
     requires memory { TakesMemory kind → ⊥ }
-    ensures { Reads messages kind result f.old }
+    ensures { Reads messages kind result f.old f.new }
 {
     match kind {
-        ADMIN_JOIN => from_admins::read_admin_join(f),
-        ADMIN_QUIT => from_admins::read_admin_quit(f),
-        ADMIN_UPDATE_FREQUENCY => from_admins::read_admin_update_frequency(f),
-        ADMIN_POLL => from_admins::read_admin_poll(f),
-        ADMIN_PING => from_admins::read_admin_ping(f),
-        SERVER_FULL => greeting::read_server_full(f),
-        SERVER_BANNED => greeting::read_server_banned(f),
-        SERVER_ERROR => greeting::read_server_error(f),
-        SERVER_WELCOME => greeting::read_server_welcome(f),
-        SERVER_NEWGAME => greeting::read_server_newgame(f),
-        SERVER_SHUTDOWN => greeting::read_server_shutdown(f),
-        SERVER_DATE => reports::read_server_date(f),
-        SERVER_CLIENT_JOIN => reports::read_server_client_join(f),
-        SERVER_CLIENT_INFO => reports::read_server_client_info(f),
-        SERVER_CLIENT_UPDATE => reports::read_server_client_update(f),
-        SERVER_CLIENT_QUIT => reports::read_server_client_quit(f),
-        SERVER_CLIENT_ERROR => reports::read_server_client_error(f),
-        SERVER_COMPANY_NEW => reports::read_server_company_new(f),
-        SERVER_COMPANY_INFO => reports::read_server_company_info(f),
-        SERVER_COMPANY_UPDATE => reports::read_server_company_update(f),
-        SERVER_COMPANY_REMOVE => reports::read_server_company_remove(f),
-        SERVER_COMPANY_ECONOMY => reports::read_server_company_economy(f),
-        SERVER_COMPANY_STATS => reports::read_server_company_stats(f),
-        SERVER_CMD_LOGGING_OLD => console::read_server_cmd_logging_old(f),
-        SERVER_PONG => console::read_server_pong(f),
-        SERVER_CMD_LOGGING => console::read_server_cmd_logging(f),
+        ADMIN_JOIN =>
+            read!(f; AdminMsg::AdminJoin { password: text, application: text, version: text }),
+        ADMIN_QUIT => Ok(AdminMsg::AdminQuit),
+        ADMIN_UPDATE_FREQUENCY =>
+            read!(f; AdminMsg::AdminUpdateFrequency { kind: number16, bits: number16 }),
+        ADMIN_POLL => read!(f; AdminMsg::AdminPoll { kind: number8, id: number32 }),
+        ADMIN_PING => read!(f; AdminMsg::AdminPing { id: number32 }),
+        SERVER_FULL => Ok(AdminMsg::ServerFull),
+        SERVER_BANNED => Ok(AdminMsg::ServerBanned),
+        SERVER_ERROR => read!(f; AdminMsg::ServerError { code: up_to }),
+        SERVER_WELCOME =>
+            read!(f; AdminMsg::ServerWelcome { name: text, revision: text, dedicated: truth, map: text,
+                seed: number32, landscape: number8, day: number32, width: number16, height: number16 }),
+        SERVER_NEWGAME => Ok(AdminMsg::ServerNewgame),
+        SERVER_SHUTDOWN => Ok(AdminMsg::ServerShutdown),
+        _ => report_fields_of(kind, f),
+    }
+}
+
+/// The same of reports.
+fn report_fields_of(kind: u8, f: &mut Fields) -> Result<AdminMsg, Bad>
+    requires place { f.old.at ≡ 0 }
+    requires memory { TakesMemory kind → ⊥ }
+    ensures { Reads report_messages kind result f.old f.new }
+{
+    match kind {
+        SERVER_DATE => read!(f; AdminMsg::ServerDate { day: number32 }),
+        SERVER_CLIENT_JOIN => read!(f; AdminMsg::ServerClientJoin { id: number32 }),
+        SERVER_CLIENT_INFO =>
+            read!(f; AdminMsg::ServerClientInfo { client: number32, name: text, company: number8 }),
+        SERVER_CLIENT_UPDATE =>
+            read!(f; AdminMsg::ServerClientUpdate { client: number32, name: text, company: number8 }),
+        SERVER_CLIENT_QUIT => read!(f; AdminMsg::ServerClientQuit { id: number32 }),
+        SERVER_CLIENT_ERROR => read!(f; AdminMsg::ServerClientError { id: number32, code: up_to }),
+        SERVER_COMPANY_NEW => read!(f; AdminMsg::ServerCompanyNew { id: number8 }),
+        SERVER_COMPANY_INFO =>
+            read!(f; AdminMsg::ServerCompanyInfo { company: number8, name: text, president: text, password: truth }),
+        SERVER_COMPANY_UPDATE =>
+            read!(f; AdminMsg::ServerCompanyUpdate { company: number8, name: text, president: text, password: truth }),
+        SERVER_COMPANY_REMOVE =>
+            read!(f; AdminMsg::ServerCompanyRemove { id: number8, reason: number8 }),
+        SERVER_COMPANY_ECONOMY =>
+            read!(f; AdminMsg::ServerCompanyEconomy { company: number8, money: number64, loan: number32 }),
+        SERVER_COMPANY_STATS =>
+            read!(f; AdminMsg::ServerCompanyStats { company: number8, signs: number16 }),
+        SERVER_CMD_LOGGING_OLD => Ok(AdminMsg::ServerCmdLoggingOld),
+        SERVER_PONG => read!(f; AdminMsg::ServerPong { id: number32 }),
+        SERVER_CMD_LOGGING =>
+            read!(f; AdminMsg::ServerCmdLogging { client: number32, company: number8, code: number16, frame: number32 }),
         _ => Err(Bad::Malformed { at: 0 }),
     }
 }
 
-/// The message that a body of that number spells. Those that have a list or a long text take memory, and no other does.
+/// The fields of the message of that number.
+fn fields_or_memory(alloc: Global, kind: u8, f: &mut Fields) -> Result<AdminMsg, Bad>
+    requires place { f.old.at ≡ 0 }
+    ensures read { ReadsOrMemory messages kind result f.old f.new }
+    ensures memory { result ≡ Err Memory → TakesMemory kind }
+{
+    match kind {
+        ADMIN_CHAT => Ok(AdminMsg::AdminChat {
+            scope: up_to(f)?,
+            to: number32(f)?,
+            text: long_text(alloc, f)?,
+        }),
+        ADMIN_RCON => Ok(AdminMsg::AdminRcon {
+            text: long_text(alloc, f)?,
+        }),
+        ADMIN_GAMESCRIPT => Ok(AdminMsg::AdminGamescript {
+            text: long_text(alloc, f)?,
+        }),
+        ADMIN_EXTERNAL_CHAT => Ok(AdminMsg::AdminExternalChat {
+            source: text(f)?,
+            colour: number16(f)?,
+            user: text(f)?,
+            text: long_text(alloc, f)?,
+        }),
+        SERVER_PROTOCOL => Ok(AdminMsg::ServerProtocol {
+            version: number8(f)?,
+            items: marked(alloc, f)?,
+        }),
+        SERVER_CHAT => Ok(AdminMsg::ServerChat {
+            scope: up_to(f)?,
+            client: number32(f)?,
+            text: long_text(alloc, f)?,
+        }),
+        SERVER_RCON => Ok(AdminMsg::ServerRcon {
+            colour: number16(f)?,
+            text: long_text(alloc, f)?,
+        }),
+        SERVER_CONSOLE => Ok(AdminMsg::ServerConsole {
+            origin: text(f)?,
+            text: long_text(alloc, f)?,
+        }),
+        SERVER_CMD_NAMES => Ok(AdminMsg::ServerCmdNames {
+            items: marked(alloc, f)?,
+        }),
+        SERVER_GAMESCRIPT => Ok(AdminMsg::ServerGamescript {
+            text: long_text(alloc, f)?,
+        }),
+        SERVER_RCON_END => Ok(AdminMsg::ServerRconEnd {
+            text: long_text(alloc, f)?,
+        }),
+        _ => fields_of(kind, f),
+    }
+}
+
+/// The message that a body of that number spells. Memory runs out only for those that take some.
 pub(crate) fn read(alloc: Global, kind: u8, body: &[u8]) -> Result<AdminMsg, Bad>
-    ensures reads { ReadsOrMemory messages kind result (whole body.now) }
+    ensures read { MessageReadOrMemory result (read_by messages kind (whole body.now)) }
     ensures memory { result ≡ Err Memory → TakesMemory kind }
 {
     let f = &mut Fields::new(body);
-    match kind {
-        ADMIN_CHAT => from_admins::read_admin_chat(alloc, f),
-        ADMIN_RCON => from_admins::read_admin_rcon(alloc, f),
-        ADMIN_GAMESCRIPT => from_admins::read_admin_gamescript(alloc, f),
-        ADMIN_EXTERNAL_CHAT => from_admins::read_admin_external_chat(alloc, f),
-        SERVER_PROTOCOL => greeting::read_server_protocol(alloc, f),
-        SERVER_CHAT => console::read_server_chat(alloc, f),
-        SERVER_RCON => console::read_server_rcon(alloc, f),
-        SERVER_CONSOLE => console::read_server_console(alloc, f),
-        SERVER_CMD_NAMES => console::read_server_cmd_names(alloc, f),
-        SERVER_GAMESCRIPT => console::read_server_gamescript(alloc, f),
-        SERVER_RCON_END => console::read_server_rcon_end(alloc, f),
-        _ => by_kind(kind, f),
-    }
+    let fields = fields_or_memory(alloc, kind, f);
+    ended(fields, f)
 }
 
 /// The name of the message of that number.
@@ -196,6 +265,34 @@ pub(crate) fn name_of(kind: u8) -> &'static [u8]
     }
 }
 
+/// Tells these parts, which are some message's.
+fn told<W: PartWriter>(to: &mut W, parts: &[Part]) -> Result<(), OutOfMemory>
+    requires { PartsFit parts.now }
+    ensures { TellsThese admin_family W.word (all_said_by parts.now) result (W.text to.old) (W.text to.new) }
+{
+    tell(to, parts)
+}
+
+#[tactic(auto, unfolding(tt_frame::specs::Families::Tells))]
+fn tell_server_protocol<W: PartWriter>(
+    to: &mut W,
+    version: u8,
+    items: &UpdateTypes,
+) -> Result<(), OutOfMemory>
+    ensures { Tells admin_family W.word (ServerProtocol version items.now) result (W.text to.old) (W.text to.new) }
+{
+    let _count = items.len();
+    tell_marked(to, &[Head(SERVER_PROTOCOL), U8(version)], items)
+}
+
+#[tactic(auto, unfolding(tt_frame::specs::Families::Tells))]
+fn tell_server_cmd_names<W: PartWriter>(to: &mut W, items: &CommandNames) -> Result<(), OutOfMemory>
+    ensures { Tells admin_family W.word (ServerCmdNames items.now) result (W.text to.old) (W.text to.new) }
+{
+    let _count = items.len();
+    tell_marked(to, &[Head(SERVER_CMD_NAMES)], items)
+}
+
 /// Tells the message's parts.
 pub(crate) fn tell_parts<W: PartWriter>(
     message: &AdminMsg,
@@ -208,28 +305,30 @@ pub(crate) fn tell_parts<W: PartWriter>(
             password,
             application,
             version,
-        } => from_admins::tell_admin_join(writer, password, application, version),
-        AdminMsg::AdminQuit => from_admins::tell_admin_quit(writer),
-        AdminMsg::AdminUpdateFrequency { kind, bits } => from_admins::tell_admin_update_frequency(
-            writer, *kind, *bits,
-        ),
-        AdminMsg::AdminPoll { kind, id } => from_admins::tell_admin_poll(writer, *kind, *id),
-        AdminMsg::AdminChat { scope, to, text } => from_admins::tell_admin_chat(
-            writer, *scope, *to, text,
-        ),
-        AdminMsg::AdminRcon { text } => from_admins::tell_admin_rcon(writer, text),
-        AdminMsg::AdminGamescript { text } => from_admins::tell_admin_gamescript(writer, text),
-        AdminMsg::AdminPing { id } => from_admins::tell_admin_ping(writer, *id),
+        } =>
+            told!(writer; Head(ADMIN_JOIN), Words(password.bytes()), Words(application.bytes()), Words(version.bytes())),
+        AdminMsg::AdminQuit => told!(writer; Head(ADMIN_QUIT)),
+        AdminMsg::AdminUpdateFrequency { kind, bits } =>
+            told!(writer; Head(ADMIN_UPDATE_FREQUENCY), U16(*kind), U16(*bits)),
+        AdminMsg::AdminPoll { kind, id } => told!(writer; Head(ADMIN_POLL), U8(*kind), U32(*id)),
+        AdminMsg::AdminChat { scope, to, text } =>
+            told!(writer; Head(ADMIN_CHAT), U8(scope.get()), U32(*to), Words(text.bytes())),
+        AdminMsg::AdminRcon { text } => told!(writer; Head(ADMIN_RCON), Words(text.bytes())),
+        AdminMsg::AdminGamescript { text } =>
+            told!(writer; Head(ADMIN_GAMESCRIPT), Words(text.bytes())),
+        AdminMsg::AdminPing { id } => told!(writer; Head(ADMIN_PING), U32(*id)),
         AdminMsg::AdminExternalChat {
             source,
             colour,
             user,
             text,
-        } => from_admins::tell_admin_external_chat(writer, source, *colour, user, text),
-        AdminMsg::ServerFull => greeting::tell_server_full(writer),
-        AdminMsg::ServerBanned => greeting::tell_server_banned(writer),
-        AdminMsg::ServerError { code } => greeting::tell_server_error(writer, *code),
-        AdminMsg::ServerProtocol { version, items } => greeting::tell_server_protocol(
+        } =>
+            told!(writer; Head(ADMIN_EXTERNAL_CHAT), Words(source.bytes()), U16(*colour), Words(user.bytes()),
+                Words(text.bytes())),
+        AdminMsg::ServerFull => told!(writer; Head(SERVER_FULL)),
+        AdminMsg::ServerBanned => told!(writer; Head(SERVER_BANNED)),
+        AdminMsg::ServerError { code } => told!(writer; Head(SERVER_ERROR), U8(code.get())),
+        AdminMsg::ServerProtocol { version, items } => tell_server_protocol(
             writer, *version, items,
         ),
         AdminMsg::ServerWelcome {
@@ -242,70 +341,76 @@ pub(crate) fn tell_parts<W: PartWriter>(
             day,
             width,
             height,
-        } => greeting::tell_server_welcome(
-            writer, name, revision, *dedicated, map, *seed, *landscape, *day, *width, *height,
-        ),
-        AdminMsg::ServerNewgame => greeting::tell_server_newgame(writer),
-        AdminMsg::ServerShutdown => greeting::tell_server_shutdown(writer),
-        AdminMsg::ServerDate { day } => reports::tell_server_date(writer, *day),
-        AdminMsg::ServerClientJoin { id } => reports::tell_server_client_join(writer, *id),
+        } =>
+            told!(writer; Head(SERVER_WELCOME), Words(name.bytes()), Words(revision.bytes()), Truth(*dedicated),
+                Words(map.bytes()), U32(*seed), U8(*landscape), U32(*day), U16(*width), U16(*height)),
+        AdminMsg::ServerNewgame => told!(writer; Head(SERVER_NEWGAME)),
+        AdminMsg::ServerShutdown => told!(writer; Head(SERVER_SHUTDOWN)),
+        AdminMsg::ServerDate { day } => told!(writer; Head(SERVER_DATE), U32(*day)),
+        AdminMsg::ServerClientJoin { id } => told!(writer; Head(SERVER_CLIENT_JOIN), U32(*id)),
         AdminMsg::ServerClientInfo {
             client,
             name,
             company,
-        } => reports::tell_server_client_info(writer, *client, name, *company),
+        } =>
+            told!(writer; Head(SERVER_CLIENT_INFO), U32(*client), Words(name.bytes()), U8(*company)),
         AdminMsg::ServerClientUpdate {
             client,
             name,
             company,
-        } => reports::tell_server_client_update(writer, *client, name, *company),
-        AdminMsg::ServerClientQuit { id } => reports::tell_server_client_quit(writer, *id),
-        AdminMsg::ServerClientError { id, code } => reports::tell_server_client_error(
-            writer, *id, *code,
-        ),
-        AdminMsg::ServerCompanyNew { id } => reports::tell_server_company_new(writer, *id),
+        } =>
+            told!(writer; Head(SERVER_CLIENT_UPDATE), U32(*client), Words(name.bytes()), U8(*company)),
+        AdminMsg::ServerClientQuit { id } => told!(writer; Head(SERVER_CLIENT_QUIT), U32(*id)),
+        AdminMsg::ServerClientError { id, code } =>
+            told!(writer; Head(SERVER_CLIENT_ERROR), U32(*id), U8(code.get())),
+        AdminMsg::ServerCompanyNew { id } => told!(writer; Head(SERVER_COMPANY_NEW), U8(*id)),
         AdminMsg::ServerCompanyInfo {
             company,
             name,
             president,
             password,
-        } => reports::tell_server_company_info(writer, *company, name, president, *password),
+        } =>
+            told!(writer; Head(SERVER_COMPANY_INFO), U8(*company), Words(name.bytes()), Words(president.bytes()),
+                Truth(*password)),
         AdminMsg::ServerCompanyUpdate {
             company,
             name,
             president,
             password,
-        } => reports::tell_server_company_update(writer, *company, name, president, *password),
-        AdminMsg::ServerCompanyRemove { id, reason } => reports::tell_server_company_remove(
-            writer, *id, *reason,
-        ),
+        } =>
+            told!(writer; Head(SERVER_COMPANY_UPDATE), U8(*company), Words(name.bytes()), Words(president.bytes()),
+                Truth(*password)),
+        AdminMsg::ServerCompanyRemove { id, reason } =>
+            told!(writer; Head(SERVER_COMPANY_REMOVE), U8(*id), U8(*reason)),
         AdminMsg::ServerCompanyEconomy {
             company,
             money,
             loan,
-        } => reports::tell_server_company_economy(writer, *company, *money, *loan),
-        AdminMsg::ServerCompanyStats { company, signs } => reports::tell_server_company_stats(
-            writer, *company, *signs,
-        ),
+        } => told!(writer; Head(SERVER_COMPANY_ECONOMY), U8(*company), U64(*money), U32(*loan)),
+        AdminMsg::ServerCompanyStats { company, signs } =>
+            told!(writer; Head(SERVER_COMPANY_STATS), U8(*company), U16(*signs)),
         AdminMsg::ServerChat {
             scope,
             client,
             text,
-        } => console::tell_server_chat(writer, *scope, *client, text),
-        AdminMsg::ServerRcon { colour, text } => console::tell_server_rcon(writer, *colour, text),
-        AdminMsg::ServerConsole { origin, text } => console::tell_server_console(
-            writer, origin, text,
-        ),
-        AdminMsg::ServerCmdNames { items } => console::tell_server_cmd_names(writer, items),
-        AdminMsg::ServerCmdLoggingOld => console::tell_server_cmd_logging_old(writer),
-        AdminMsg::ServerGamescript { text } => console::tell_server_gamescript(writer, text),
-        AdminMsg::ServerRconEnd { text } => console::tell_server_rcon_end(writer, text),
-        AdminMsg::ServerPong { id } => console::tell_server_pong(writer, *id),
+        } => told!(writer; Head(SERVER_CHAT), U8(scope.get()), U32(*client), Words(text.bytes())),
+        AdminMsg::ServerRcon { colour, text } =>
+            told!(writer; Head(SERVER_RCON), U16(*colour), Words(text.bytes())),
+        AdminMsg::ServerConsole { origin, text } =>
+            told!(writer; Head(SERVER_CONSOLE), Words(origin.bytes()), Words(text.bytes())),
+        AdminMsg::ServerCmdNames { items } => tell_server_cmd_names(writer, items),
+        AdminMsg::ServerCmdLoggingOld => told!(writer; Head(SERVER_CMD_LOGGING_OLD)),
+        AdminMsg::ServerGamescript { text } =>
+            told!(writer; Head(SERVER_GAMESCRIPT), Words(text.bytes())),
+        AdminMsg::ServerRconEnd { text } =>
+            told!(writer; Head(SERVER_RCON_END), Words(text.bytes())),
+        AdminMsg::ServerPong { id } => told!(writer; Head(SERVER_PONG), U32(*id)),
         AdminMsg::ServerCmdLogging {
             client,
             company,
             code,
             frame,
-        } => console::tell_server_cmd_logging(writer, *client, *company, *code, *frame),
+        } =>
+            told!(writer; Head(SERVER_CMD_LOGGING), U32(*client), U8(*company), U16(*code), U32(*frame)),
     }
 }

@@ -1,6 +1,6 @@
 //! What holds of all messages. These functions do nothing: their contracts are the laws.
 ghost use Rattle.std.specs.Prelude.{◌≡◌, ◌≢◌, ℕ, ◌+◌, ◌<◌, ◌≤◌, ◌^◌, List, ◌++◌, length, Ok};
-ghost use Rattle.tt_frame.specs.Packet.{Packet, packet};
+ghost use Rattle.tt_frame.specs.Packet.{Packet, packet, largest_packet, largest_sent};
 ghost use Rattle.tt_frame.specs.Framing.{BeginsWith};
 ghost use Rattle.tt_frame.specs.Unread.{whole};
 ghost use Rattle.tt_frame.specs.Tables.{read_by};
@@ -16,8 +16,8 @@ pub fn one_spelling()
 /// A message's packet has at most 1,460 bytes, as many as a program of this project sends in one packet; only the names of
 /// commands (CMD_NAMES, 122) may have more, since they are up to 255. Every packet has at most 32,767.
 pub fn small_packets()
-    ensures read { (m : AdminMsg) (kind : ℕ) (body : List ℕ) → Spells m kind body → length body + 3 ≤ 32767 }
-    ensures sent { (m : AdminMsg) (kind : ℕ) (body : List ℕ) → kind ≢ 122 → Spells m kind body → length body + 3 ≤ 1460 }
+    ensures read { (m : AdminMsg) (kind : ℕ) (body : List ℕ) → Spells m kind body → length body + 3 ≤ largest_packet }
+    ensures sent { (m : AdminMsg) (kind : ℕ) (body : List ℕ) → kind ≢ 122 → Spells m kind body → length body + 3 ≤ largest_sent }
 {}
 
 /// What is spelled is read.

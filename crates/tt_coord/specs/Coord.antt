@@ -7,25 +7,10 @@ use Rattle.tt_frame.specs.Apart.{Parted, part}
 use Rattle.tt_frame.specs.Families.{Family, family_kind, family_body}
 use Rattle.tt_coord.specs.Items.{listed, file}
 use Rattle.tt_coord.specs.declared.coord.CoordMsg.{CoordMsg}
-use Rattle.tt_coord.specs.declared.coord.CoordMsg.TheVariants.{
-  GcError,
-  ServerRegister,
-  GcRegisterAck,
-  ServerUpdate,
-  ClientListing,
-  GcListing,
-  ClientConnect,
-  GcConnecting,
-  SercliConnectFailed,
-  GcConnectFailed,
-  ClientConnected,
-  GcDirectConnect,
-  GcStunRequest,
-  SercliStunResult,
-  GcStunConnect,
-  GcNewgrfLookup,
-  GcTurnConnect,
-}
+use Rattle.tt_coord.specs.declared.coord.CoordMsg.TheVariants.{GcError, ServerRegister, GcRegisterAck, ServerUpdate, ClientListing}
+use Rattle.tt_coord.specs.declared.coord.CoordMsg.TheVariants.{GcListing, ClientConnect, GcConnecting, SercliConnectFailed, GcConnectFailed}
+use Rattle.tt_coord.specs.declared.coord.CoordMsg.TheVariants.{ClientConnected, GcDirectConnect, GcStunRequest, SercliStunResult}
+use Rattle.tt_coord.specs.declared.coord.CoordMsg.TheVariants.{GcStunConnect, GcNewgrfLookup, GcTurnConnect}
 
 -- the message that takes the fields of a game
 abbrev pub server_update : List ℕ → List ℕ → ℕ → ℕ → ℕ → Bool → ℕ → CoordMsg

@@ -1,20 +1,27 @@
 //! The messages between the coordinator and a server or a client.
+#![tactic(auto, unfolding(tt_frame::specs::Tables::Reads, tt_frame::specs::Tables::ReadsOrMemory))]
+
 ghost use Rattle.std.specs.Prelude.{◌≡◌, ◌≢◌, ◌⊎◌, ℕ, ◌≤◌, ◌+◌, ◌++◌, length, take, IfOk, OnOk, OnErr, Ok, Err};
 ghost use Rattle.tt_frame.specs.declared.bad.Bad.TheVariants.{Malformed, Memory};
-ghost use Rattle.tt_frame.specs.Packet.{packet};
+ghost use Rattle.tt_frame.specs.Packet.{packet, largest_packet};
 ghost use Rattle.tt_frame.specs.Unread.{whole};
 ghost use Rattle.tt_frame.specs.Tables.{MessageReadOrMemory, Reads, ReadsOrMemory, StopsBy, name_by, read_by};
 ghost use Rattle.tt_frame.specs.Said.{each_said};
-ghost use Rattle.tt_frame.specs.Families.{Tells, family_said};
-ghost use Rattle.tt_coord.specs.Coord.{coord_messages, coord_family, CoordSpells, coord_kind_of, coord_body_bytes};
-
-mod messages;
+ghost use Rattle.tt_frame.specs.Families.{Tells, TellsThese, family_said};
+ghost use Rattle.tt_frame.specs.Parts.{PartsFit, all_said_by};
+ghost use Rattle.tt_coord.specs.declared.coord.CoordMsg.TheVariants.{GcListing, GcNewgrfLookup};
+ghost use Rattle.tt_coord.specs.Coord.{coord_messages, coord_family, server_update, CoordSpells, coord_kind_of, coord_body_bytes};
 
 use crate::file_list::LookupFiles;
 use crate::info::Info;
+use crate::parts::{VERSION, version};
 use crate::server_list::Servers;
 use std::alloc::Global;
-use tt_frame::{Bad, Fields, OutOfMemory, PartWriter, Text, UpTo, finish};
+use tt_frame::Part::{Always, Count8, Count16, Head, Truth, U8, U16, U32, Words};
+use tt_frame::{
+    Bad, Fields, OutOfMemory, Part, PartWriter, Text, UpTo, counted, ended, finish, number8,
+    number16, number16_up_to, number32, read, tell, tell_counted, text, told, truth, up_to,
+};
 
 /// A message between the coordinator and a server or a client. Each field's type holds exactly the values that have a
 /// spelling.
@@ -146,44 +153,154 @@ pub(crate) const GC_NEWGRF_LOOKUP: u8 = 15;
 
 pub(crate) const GC_TURN_CONNECT: u8 = 16;
 
-/// The message of that number, of those that take no memory.
-fn by_kind(kind: u8, f: &mut Fields) -> Result<CoordMsg, Bad>
+/// The fields of the message of that number, of those that take no memory.
+fn fields_of(kind: u8, f: &mut Fields) -> Result<CoordMsg, Bad>
     requires start { f.old.at ≡ 0 }
     requires no_listing { kind ≢ 5 }
     requires no_lookup { kind ≢ 15 }
-    ensures { Reads coord_messages kind result f.old }
+    ensures { Reads coord_messages kind result f.old f.new }
 {
     match kind {
-        GC_ERROR => messages::read_gc_error(f),
-        SERVER_REGISTER => messages::read_server_register(f),
-        GC_REGISTER_ACK => messages::read_gc_register_ack(f),
-        SERVER_UPDATE => messages::read_server_update(f),
-        CLIENT_LISTING => messages::read_client_listing(f),
-        CLIENT_CONNECT => messages::read_client_connect(f),
-        GC_CONNECTING => messages::read_gc_connecting(f),
-        SERCLI_CONNECT_FAILED => messages::read_sercli_connect_failed(f),
-        GC_CONNECT_FAILED => messages::read_gc_connect_failed(f),
-        CLIENT_CONNECTED => messages::read_client_connected(f),
-        GC_DIRECT_CONNECT => messages::read_gc_direct_connect(f),
-        GC_STUN_REQUEST => messages::read_gc_stun_request(f),
-        SERCLI_STUN_RESULT => messages::read_sercli_stun_result(f),
-        GC_STUN_CONNECT => messages::read_gc_stun_connect(f),
-        GC_TURN_CONNECT => messages::read_gc_turn_connect(f),
+        GC_ERROR => read!(f; CoordMsg::GcError { code: up_to, detail: text }),
+        SERVER_REGISTER => {
+            version(f)?;
+            read!(f; CoordMsg::ServerRegister { kind: number8, port: number16, code: text, secret: text })
+        }
+        GC_REGISTER_ACK =>
+            read!(f; CoordMsg::GcRegisterAck { code: text, secret: text, way: up_to }),
+        SERVER_UPDATE => {
+            version(f)?;
+            Ok(CoordMsg::ServerUpdate {
+                info: Info {
+                    name: text(f)?,
+                    revision: text(f)?,
+                    clients: number8(f)?,
+                    max: number8(f)?,
+                    companies: number8(f)?,
+                    password: truth(f)?,
+                    frame: number32(f)?,
+                },
+            })
+        }
+        CLIENT_LISTING => {
+            version(f)?;
+            read!(f; CoordMsg::ClientListing { revision: text })
+        }
+        CLIENT_CONNECT => {
+            version(f)?;
+            read!(f; CoordMsg::ClientConnect { code: text })
+        }
+        GC_CONNECTING => read!(f; CoordMsg::GcConnecting { token: text, code: text }),
+        SERCLI_CONNECT_FAILED => {
+            version(f)?;
+            read!(f; CoordMsg::SercliConnectFailed { token: text, tracking: number8 })
+        }
+        GC_CONNECT_FAILED => read!(f; CoordMsg::GcConnectFailed { token: text }),
+        CLIENT_CONNECTED => {
+            version(f)?;
+            read!(f; CoordMsg::ClientConnected { token: text })
+        }
+        GC_DIRECT_CONNECT =>
+            read!(f; CoordMsg::GcDirectConnect { token: text, tracking: number8, host: text, port: number16 }),
+        GC_STUN_REQUEST => read!(f; CoordMsg::GcStunRequest { token: text }),
+        SERCLI_STUN_RESULT => {
+            version(f)?;
+            read!(f; CoordMsg::SercliStunResult { token: text, side: up_to, ok: truth })
+        }
+        GC_STUN_CONNECT =>
+            read!(f; CoordMsg::GcStunConnect { token: text, tracking: number8, side: up_to, host: text, port: number16 }),
+        GC_TURN_CONNECT =>
+            read!(f; CoordMsg::GcTurnConnect { token: text, tracking: number8, ticket: text, host: text }),
         _ => Err(Bad::Malformed { at: 0 }),
     }
 }
 
-/// The message of that number.
-fn read(alloc: Global, kind: u8, f: &mut Fields) -> Result<CoordMsg, Bad>
+/// The fields of the message of that number. The two lists take memory, and no other message does.
+fn fields_or_memory(alloc: Global, kind: u8, f: &mut Fields) -> Result<CoordMsg, Bad>
     requires start { f.old.at ≡ 0 }
-    ensures read { ReadsOrMemory coord_messages kind result f.old }
+    ensures read { ReadsOrMemory coord_messages kind result f.old f.new }
     ensures memory { result ≡ Err Memory → (kind ≡ 5) ⊎ (kind ≡ 15) }
 {
     match kind {
-        GC_LISTING => messages::read_gc_listing(alloc, f),
-        GC_NEWGRF_LOOKUP => messages::read_gc_newgrf_lookup(alloc, f),
-        _ => by_kind(kind, f),
+        GC_LISTING => {
+            let count = number16_up_to(f, 255)?;
+            Ok(CoordMsg::GcListing {
+                items: counted(alloc, count, f)?,
+            })
+        }
+        GC_NEWGRF_LOOKUP => {
+            let count: UpTo<62> = up_to(f)?;
+            Ok(CoordMsg::GcNewgrfLookup {
+                items: counted(alloc, count.get().into(), f)?,
+            })
+        }
+        _ => fields_of(kind, f),
     }
+}
+
+/// The message that a body of that number spells.
+fn read(alloc: Global, kind: u8, body: &[u8]) -> Result<CoordMsg, Bad>
+    ensures read { MessageReadOrMemory result (read_by coord_messages kind (whole body.now)) }
+    ensures memory { result ≡ Err Memory → (kind ≡ 5) ⊎ (kind ≡ 15) }
+{
+    let f = &mut Fields::new(body);
+    let fields = fields_or_memory(alloc, kind, f);
+    ended(fields, f)
+}
+
+/// Tells these parts, which are some message's.
+fn told<W: PartWriter>(to: &mut W, parts: &[Part]) -> Result<(), OutOfMemory>
+    requires { PartsFit parts.now }
+    ensures { TellsThese coord_family W.word (all_said_by parts.now) result (W.text to.old) (W.text to.new) }
+{
+    tell(to, parts)
+}
+
+#[tactic(auto, unfolding(tt_frame::specs::Families::Tells))]
+fn tell_update<'a, W: PartWriter>(
+    to: &mut W,
+    name: &'a Text<31>,
+    revision: &'a Text<31>,
+    clients: u8,
+    max: u8,
+    companies: u8,
+    password: bool,
+    frame: u32,
+) -> Result<(), OutOfMemory>
+    ensures { Tells coord_family W.word (server_update name.now revision.now clients max companies password frame) result (W.text to.old) (W.text to.new) }
+{
+    tell(
+        to,
+        &[
+            Head(SERVER_UPDATE),
+            Always(VERSION),
+            Words(name.bytes()),
+            Words(revision.bytes()),
+            U8(clients),
+            U8(max),
+            U8(companies),
+            Truth(password),
+            U32(frame),
+        ],
+    )
+}
+
+#[tactic(auto, unfolding(tt_frame::specs::Families::Tells))]
+fn tell_listing<W: PartWriter>(to: &mut W, items: &Servers) -> Result<(), OutOfMemory>
+    ensures { Tells coord_family W.word (GcListing items.now) result (W.text to.old) (W.text to.new) }
+{
+    tell_counted(to, &[Head(GC_LISTING), Count16(items.len() as u16)], items)
+}
+
+#[tactic(auto, unfolding(tt_frame::specs::Families::Tells))]
+fn tell_lookup<W: PartWriter>(to: &mut W, items: &LookupFiles) -> Result<(), OutOfMemory>
+    ensures { Tells coord_family W.word (GcNewgrfLookup items.now) result (W.text to.old) (W.text to.new) }
+{
+    tell_counted(
+        to,
+        &[Head(GC_NEWGRF_LOOKUP), Count8(items.len() as u8)],
+        items,
+    )
 }
 
 /// Tells the message's parts.
@@ -191,17 +308,18 @@ fn tell_parts<W: PartWriter>(message: &CoordMsg, to: &mut W) -> Result<(), OutOf
     ensures { Tells coord_family W.word message.now result (W.text to.old) (W.text to.new) }
 {
     match message {
-        CoordMsg::GcError { code, detail } => messages::tell_gc_error(to, *code, detail),
+        CoordMsg::GcError { code, detail } =>
+            told!(to; Head(GC_ERROR), U8(code.get()), Words(detail.bytes())),
         CoordMsg::ServerRegister {
             kind,
             port,
             code,
             secret,
-        } => messages::tell_server_register(to, *kind, *port, code, secret),
-        CoordMsg::GcRegisterAck { code, secret, way } => messages::tell_gc_register_ack(
-            to, code, secret, *way,
-        ),
-        CoordMsg::ServerUpdate { info } => messages::tell_server_update(
+        } =>
+            told!(to; Head(SERVER_REGISTER), Always(VERSION), U8(*kind), U16(*port), Words(code.bytes()), Words(secret.bytes())),
+        CoordMsg::GcRegisterAck { code, secret, way } =>
+            told!(to; Head(GC_REGISTER_ACK), Words(code.bytes()), Words(secret.bytes()), U8(way.get())),
+        CoordMsg::ServerUpdate { info } => tell_update(
             to,
             &info.name,
             &info.revision,
@@ -211,39 +329,45 @@ fn tell_parts<W: PartWriter>(message: &CoordMsg, to: &mut W) -> Result<(), OutOf
             info.password,
             info.frame,
         ),
-        CoordMsg::ClientListing { revision } => messages::tell_client_listing(to, revision),
-        CoordMsg::GcListing { items } => messages::tell_gc_listing(to, items),
-        CoordMsg::ClientConnect { code } => messages::tell_client_connect(to, code),
-        CoordMsg::GcConnecting { token, code } => messages::tell_gc_connecting(to, token, code),
-        CoordMsg::SercliConnectFailed { token, tracking } => messages::tell_sercli_connect_failed(
-            to, token, *tracking,
-        ),
-        CoordMsg::GcConnectFailed { token } => messages::tell_gc_connect_failed(to, token),
-        CoordMsg::ClientConnected { token } => messages::tell_client_connected(to, token),
+        CoordMsg::ClientListing { revision } =>
+            told!(to; Head(CLIENT_LISTING), Always(VERSION), Words(revision.bytes())),
+        CoordMsg::GcListing { items } => tell_listing(to, items),
+        CoordMsg::ClientConnect { code } =>
+            told!(to; Head(CLIENT_CONNECT), Always(VERSION), Words(code.bytes())),
+        CoordMsg::GcConnecting { token, code } =>
+            told!(to; Head(GC_CONNECTING), Words(token.bytes()), Words(code.bytes())),
+        CoordMsg::SercliConnectFailed { token, tracking } =>
+            told!(to; Head(SERCLI_CONNECT_FAILED), Always(VERSION), Words(token.bytes()), U8(*tracking)),
+        CoordMsg::GcConnectFailed { token } =>
+            told!(to; Head(GC_CONNECT_FAILED), Words(token.bytes())),
+        CoordMsg::ClientConnected { token } =>
+            told!(to; Head(CLIENT_CONNECTED), Always(VERSION), Words(token.bytes())),
         CoordMsg::GcDirectConnect {
             token,
             tracking,
             host,
             port,
-        } => messages::tell_gc_direct_connect(to, token, *tracking, host, *port),
-        CoordMsg::GcStunRequest { token } => messages::tell_gc_stun_request(to, token),
-        CoordMsg::SercliStunResult { token, side, ok } => messages::tell_sercli_stun_result(
-            to, token, *side, *ok,
-        ),
+        } =>
+            told!(to; Head(GC_DIRECT_CONNECT), Words(token.bytes()), U8(*tracking), Words(host.bytes()), U16(*port)),
+        CoordMsg::GcStunRequest { token } => told!(to; Head(GC_STUN_REQUEST), Words(token.bytes())),
+        CoordMsg::SercliStunResult { token, side, ok } =>
+            told!(to; Head(SERCLI_STUN_RESULT), Always(VERSION), Words(token.bytes()), U8(side.get()), Truth(*ok)),
         CoordMsg::GcStunConnect {
             token,
             tracking,
             side,
             host,
             port,
-        } => messages::tell_gc_stun_connect(to, token, *tracking, *side, host, *port),
-        CoordMsg::GcNewgrfLookup { items } => messages::tell_gc_newgrf_lookup(to, items),
+        } =>
+            told!(to; Head(GC_STUN_CONNECT), Words(token.bytes()), U8(*tracking), U8(side.get()), Words(host.bytes()), U16(*port)),
+        CoordMsg::GcNewgrfLookup { items } => tell_lookup(to, items),
         CoordMsg::GcTurnConnect {
             token,
             tracking,
             ticket,
             host,
-        } => messages::tell_gc_turn_connect(to, token, *tracking, ticket, host),
+        } =>
+            told!(to; Head(GC_TURN_CONNECT), Words(token.bytes()), U8(*tracking), Words(ticket.bytes()), Words(host.bytes())),
     }
 }
 
@@ -290,7 +414,7 @@ impl CoordMsg {
         // All of this in one: the answer is what reading the body by the table gives.
         ensures exact { MessageReadOrMemory result (read_by coord_messages kind (whole body.now)) }
     {
-        read(alloc, kind, &mut Fields::new(body))
+        read(alloc, kind, body)
     }
 
     /// Tells the message's head and its parts, in order: what a writer writes for them stands behind what stood there.
@@ -306,7 +430,7 @@ impl CoordMsg {
         // What is appended is one packet, whose number and body spell the message.
         ensures ok { OnOk result (out.new.items ≡ out.old.items ++ packet (coord_kind_of self.now) (coord_body_bytes self.now)) }
         ensures spelled { CoordSpells self.now (coord_kind_of self.now) (coord_body_bytes self.now) }
-        ensures size { length (coord_body_bytes self.now) + 3 ≤ 32767 }
+        ensures size { length (coord_body_bytes self.now) + 3 ≤ largest_packet }
 
         ensures err { OnErr result (out.new.items ≡ out.old.items) }
     {

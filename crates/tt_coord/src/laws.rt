@@ -1,6 +1,6 @@
 //! What holds of all messages. These functions do nothing: their contracts are the laws.
 ghost use Rattle.std.specs.Prelude.{◌≡◌, ◌≢◌, ℕ, ◌+◌, ◌<◌, ◌≤◌, ◌^◌, List, ◌++◌, length, Ok};
-ghost use Rattle.tt_frame.specs.Packet.{Packet, packet};
+ghost use Rattle.tt_frame.specs.Packet.{Packet, packet, largest_packet, largest_sent};
 ghost use Rattle.tt_frame.specs.Framing.{BeginsWith};
 ghost use Rattle.tt_frame.specs.Unread.{whole};
 ghost use Rattle.tt_frame.specs.Tables.{read_by};
@@ -23,12 +23,12 @@ pub fn one_spelling()
 
 /// A message's packet has at most 32,767 bytes, and at most 1,460 but for the two lists: of servers (5) and of files (15).
 pub fn small_packets()
-    ensures coord { (m : CoordMsg) (kind : ℕ) (body : List ℕ) → CoordSpells m kind body → length body + 3 ≤ 32767 }
-    ensures stun { (m : StunMsg) (kind : ℕ) (body : List ℕ) → StunSpells m kind body → length body + 3 ≤ 32767 }
-    ensures turn { (m : TurnMsg) (kind : ℕ) (body : List ℕ) → TurnSpells m kind body → length body + 3 ≤ 32767 }
-    ensures coord_sent { (m : CoordMsg) (kind : ℕ) (body : List ℕ) → CoordSpells m kind body → kind ≢ 5 → kind ≢ 15 → length body + 3 ≤ 1460 }
-    ensures stun_sent { (m : StunMsg) (kind : ℕ) (body : List ℕ) → StunSpells m kind body → length body + 3 ≤ 1460 }
-    ensures turn_sent { (m : TurnMsg) (kind : ℕ) (body : List ℕ) → TurnSpells m kind body → length body + 3 ≤ 1460 }
+    ensures coord { (m : CoordMsg) (kind : ℕ) (body : List ℕ) → CoordSpells m kind body → length body + 3 ≤ largest_packet }
+    ensures stun { (m : StunMsg) (kind : ℕ) (body : List ℕ) → StunSpells m kind body → length body + 3 ≤ largest_packet }
+    ensures turn { (m : TurnMsg) (kind : ℕ) (body : List ℕ) → TurnSpells m kind body → length body + 3 ≤ largest_packet }
+    ensures coord_sent { (m : CoordMsg) (kind : ℕ) (body : List ℕ) → CoordSpells m kind body → kind ≢ 5 → kind ≢ 15 → length body + 3 ≤ largest_sent }
+    ensures stun_sent { (m : StunMsg) (kind : ℕ) (body : List ℕ) → StunSpells m kind body → length body + 3 ≤ largest_sent }
+    ensures turn_sent { (m : TurnMsg) (kind : ℕ) (body : List ℕ) → TurnSpells m kind body → length body + 3 ≤ largest_sent }
 {}
 
 /// What is spelled is read.

@@ -1,17 +1,22 @@
 //! The message to the STUN desk, by which a peer shows the address that it has to the outside.
+#![tactic(auto, unfolding(tt_frame::specs::Tables::Reads))]
+
 ghost use Rattle.std.specs.Prelude.{◌≡◌, ◌≢◌, ℕ, ◌≤◌, ◌+◌, ◌++◌, length, take, IfOk, OnOk, OnErr, Ok, Err};
 ghost use Rattle.tt_frame.specs.declared.bad.Bad.TheVariants.{Malformed, Memory};
-ghost use Rattle.tt_frame.specs.Packet.{packet};
+ghost use Rattle.tt_frame.specs.Packet.{packet, largest_packet};
 ghost use Rattle.tt_frame.specs.Unread.{whole};
 ghost use Rattle.tt_frame.specs.Tables.{MessageRead, Reads, StopsBy, name_by, read_by};
 ghost use Rattle.tt_frame.specs.Said.{each_said};
 ghost use Rattle.tt_frame.specs.Families.{Tells, family_said};
+ghost use Rattle.tt_coord.specs.declared.stun.StunMsg.TheVariants.{SercliStun};
 ghost use Rattle.tt_coord.specs.Stun.{stun_messages, stun_family, StunSpells, stun_kind_of, stun_body_bytes};
 
-mod messages;
-
+use crate::parts::{VERSION, version};
 use std::alloc::Global;
-use tt_frame::{Bad, Fields, OutOfMemory, PartWriter, Text, UpTo, finish};
+use tt_frame::Part::{Always, Head, U8, Words};
+use tt_frame::{
+    Bad, Fields, OutOfMemory, PartWriter, Text, UpTo, ended, finish, read, tell, text, up_to,
+};
 
 /// A message to the STUN desk. Each field's type holds exactly the values that have a spelling.
 #[derive(Debug, PartialEq, Eq, Drop)]
@@ -23,21 +28,43 @@ pub enum StunMsg {
 // The number of the message, named here and nowhere else.
 pub(crate) const SERCLI_STUN: u8 = 0;
 
-/// The message of that number.
-fn by_kind(kind: u8, f: &mut Fields) -> Result<StunMsg, Bad>
+/// The fields of the message of that number.
+fn fields_of(kind: u8, f: &mut Fields) -> Result<StunMsg, Bad>
     requires { f.old.at ≡ 0 }
-    ensures { Reads stun_messages kind result f.old }
+    ensures { Reads stun_messages kind result f.old f.new }
 {
     match kind {
-        SERCLI_STUN => messages::read_sercli_stun(f),
+        SERCLI_STUN => {
+            version(f)?;
+            read!(f; StunMsg::SercliStun { token: text, side: up_to })
+        }
         _ => Err(Bad::Malformed { at: 0 }),
     }
 }
 
+/// The message that a body of that number spells.
 fn read(kind: u8, body: &[u8]) -> Result<StunMsg, Bad>
-    ensures { Reads stun_messages kind result (whole body.now) }
+    ensures { MessageRead result (read_by stun_messages kind (whole body.now)) }
 {
-    by_kind(kind, &mut Fields::new(body))
+    let f = &mut Fields::new(body);
+    let fields = fields_of(kind, f);
+    ended(fields, f)
+}
+
+/// Tells the token and the side.
+#[tactic(auto, unfolding(tt_frame::specs::Families::Tells))]
+fn tell_stun<W: PartWriter>(to: &mut W, token: &Text<31>, side: UpTo<1>) -> Result<(), OutOfMemory>
+    ensures { Tells stun_family W.word (SercliStun token.now side) result (W.text to.old) (W.text to.new) }
+{
+    tell(
+        to,
+        &[
+            Head(SERCLI_STUN),
+            Always(VERSION),
+            Words(token.bytes()),
+            U8(side.get()),
+        ],
+    )
 }
 
 /// Tells the message's parts.
@@ -45,7 +72,7 @@ fn tell_parts<W: PartWriter>(message: &StunMsg, to: &mut W) -> Result<(), OutOfM
     ensures { Tells stun_family W.word message.now result (W.text to.old) (W.text to.new) }
 {
     match message {
-        StunMsg::SercliStun { token, side } => messages::tell_sercli_stun(to, token, *side),
+        StunMsg::SercliStun { token, side } => tell_stun(to, token, *side),
     }
 }
 
@@ -92,7 +119,7 @@ impl StunMsg {
         // What is appended is one packet, whose number and body spell the message.
         ensures ok { OnOk result (out.new.items ≡ out.old.items ++ packet (stun_kind_of self.now) (stun_body_bytes self.now)) }
         ensures spelled { StunSpells self.now (stun_kind_of self.now) (stun_body_bytes self.now) }
-        ensures size { length (stun_body_bytes self.now) + 3 ≤ 32767 }
+        ensures size { length (stun_body_bytes self.now) + 3 ≤ largest_packet }
 
         ensures err { OnErr result (out.new.items ≡ out.old.items) }
     {

@@ -1,17 +1,22 @@
 //! The messages between the TURN server and the peers that it connects.
+#![tactic(auto, unfolding(tt_frame::specs::Tables::Reads))]
+
 ghost use Rattle.std.specs.Prelude.{◌≡◌, ◌≢◌, ℕ, ◌≤◌, ◌+◌, ◌++◌, length, take, IfOk, OnOk, OnErr, Ok, Err};
 ghost use Rattle.tt_frame.specs.declared.bad.Bad.TheVariants.{Malformed, Memory};
-ghost use Rattle.tt_frame.specs.Packet.{packet};
+ghost use Rattle.tt_frame.specs.Packet.{packet, largest_packet};
 ghost use Rattle.tt_frame.specs.Unread.{whole};
 ghost use Rattle.tt_frame.specs.Tables.{MessageRead, Reads, StopsBy, name_by, read_by};
 ghost use Rattle.tt_frame.specs.Said.{each_said};
-ghost use Rattle.tt_frame.specs.Families.{Tells, family_said};
+ghost use Rattle.tt_frame.specs.Families.{Tells, TellsThese, family_said};
+ghost use Rattle.tt_frame.specs.Parts.{PartsFit, all_said_by};
 ghost use Rattle.tt_coord.specs.Turn.{turn_messages, turn_family, TurnSpells, turn_kind_of, turn_body_bytes};
 
-mod messages;
-
+use crate::parts::{VERSION, version};
 use std::alloc::Global;
-use tt_frame::{Bad, Fields, OutOfMemory, PartWriter, Text, finish};
+use tt_frame::Part::{Always, Head, Words};
+use tt_frame::{
+    Bad, Fields, OutOfMemory, Part, PartWriter, Text, ended, finish, read, tell, text, told,
+};
 
 /// A message between the TURN server and a peer. Each field's type holds exactly the values that have a spelling.
 #[derive(Debug, PartialEq, Eq, Drop)]
@@ -31,23 +36,37 @@ pub(crate) const SERCLI_CONNECT: u8 = 1;
 
 pub(crate) const TURN_CONNECTED: u8 = 2;
 
-/// The message of that number.
-fn by_kind(kind: u8, f: &mut Fields) -> Result<TurnMsg, Bad>
+/// The fields of the message of that number.
+fn fields_of(kind: u8, f: &mut Fields) -> Result<TurnMsg, Bad>
     requires { f.old.at ≡ 0 }
-    ensures { Reads turn_messages kind result f.old }
+    ensures { Reads turn_messages kind result f.old f.new }
 {
     match kind {
-        TURN_ERROR => messages::read_turn_error(f),
-        SERCLI_CONNECT => messages::read_sercli_connect(f),
-        TURN_CONNECTED => messages::read_turn_connected(f),
+        TURN_ERROR => Ok(TurnMsg::TurnError),
+        SERCLI_CONNECT => {
+            version(f)?;
+            read!(f; TurnMsg::SercliConnect { ticket: text })
+        }
+        TURN_CONNECTED => read!(f; TurnMsg::TurnConnected { host: text }),
         _ => Err(Bad::Malformed { at: 0 }),
     }
 }
 
+/// The message that a body of that number spells.
 fn read(kind: u8, body: &[u8]) -> Result<TurnMsg, Bad>
-    ensures { Reads turn_messages kind result (whole body.now) }
+    ensures { MessageRead result (read_by turn_messages kind (whole body.now)) }
 {
-    by_kind(kind, &mut Fields::new(body))
+    let f = &mut Fields::new(body);
+    let fields = fields_of(kind, f);
+    ended(fields, f)
+}
+
+/// Tells these parts, which are some message's.
+fn told<W: PartWriter>(to: &mut W, parts: &[Part]) -> Result<(), OutOfMemory>
+    requires { PartsFit parts.now }
+    ensures { TellsThese turn_family W.word (all_said_by parts.now) result (W.text to.old) (W.text to.new) }
+{
+    tell(to, parts)
 }
 
 /// Tells the message's parts.
@@ -55,9 +74,10 @@ fn tell_parts<W: PartWriter>(message: &TurnMsg, to: &mut W) -> Result<(), OutOfM
     ensures { Tells turn_family W.word message.now result (W.text to.old) (W.text to.new) }
 {
     match message {
-        TurnMsg::TurnError => messages::tell_turn_error(to),
-        TurnMsg::SercliConnect { ticket } => messages::tell_sercli_connect(to, ticket),
-        TurnMsg::TurnConnected { host } => messages::tell_turn_connected(to, host),
+        TurnMsg::TurnError => told!(to; Head(TURN_ERROR)),
+        TurnMsg::SercliConnect { ticket } =>
+            told!(to; Head(SERCLI_CONNECT), Always(VERSION), Words(ticket.bytes())),
+        TurnMsg::TurnConnected { host } => told!(to; Head(TURN_CONNECTED), Words(host.bytes())),
     }
 }
 
@@ -106,7 +126,7 @@ impl TurnMsg {
         // What is appended is one packet, whose number and body spell the message.
         ensures ok { OnOk result (out.new.items ≡ out.old.items ++ packet (turn_kind_of self.now) (turn_body_bytes self.now)) }
         ensures spelled { TurnSpells self.now (turn_kind_of self.now) (turn_body_bytes self.now) }
-        ensures size { length (turn_body_bytes self.now) + 3 ≤ 32767 }
+        ensures size { length (turn_body_bytes self.now) + 3 ≤ largest_packet }
 
         ensures err { OnErr result (out.new.items ≡ out.old.items) }
     {

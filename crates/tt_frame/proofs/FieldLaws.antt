@@ -1,99 +1,22 @@
 -- A field that is read is the field that was spelled, and what is spelled is read again, whatever follows.
-use Rattle.std.proofs.Common.{
-  ◌≡◌,
-  ℕ,
-  zero,
-  suc,
-  ◌+◌,
-  ◌^◌,
-  ◌<◌,
-  ◌≤◌,
-  Bool,
-  true,
-  false,
-  cond,
-  ltb,
-  eqb,
-  eq-eqb,
-  List,
-  [],
-  ◌∷◌,
-  ◌++◌,
-  length,
-  take,
-  drop,
-  Option,
-  Some,
-  None,
-  Result,
-  Ok,
-  Err,
-  refl,
-  sym,
-  ap,
-  subst,
-  ◌∙◌,
-  append_assoc,
-  arith,
-  inl,
-  inr,
-}
+use Rattle.std.proofs.Common.{◌≡◌, ℕ, zero, suc, ◌+◌, ◌^◌, ◌<◌, ◌≤◌, Bool, true, false, cond, ltb, eqb, eq-eqb, List, [], ◌∷◌, ◌++◌, length}
+use Rattle.std.proofs.Common.{take, drop, Option, Some, None, Result, Ok, Err, refl, sym, ap, subst, ◌∙◌, append_assoc, arith, inl, inr}
 use Rattle.std.specs.Prelude.{◌&&◌, option_map, nat_le, ◌==◌}
 use Rattle.std.specs.List.{list_all}
 use Rattle.std.specs.Str.{is_utf8}
 use Rattle.std.specs.Int.{Width, w8, w16, w32, w64, byte_len, from_le_bytes, to_le_bytes}
 use Rattle.std.proofs.lemmas.Bool.{cases_lt, ltb-false, le-ltb, eqb-true}
 use Rattle.std.proofs.lemmas.List.{take_at, drop_at, take-append-drop, length-append, length-take, get_or-drop, get_or-take, get_or_past}
-use Rattle.std.proofs.lemmas.Nat.{
-  le_bytes_2,
-  le_bytes_4,
-  le_bytes_8,
-  from_le_bytes-to_le_bytes_2,
-  from_le_bytes-to_le_bytes_4,
-  from_le_bytes-to_le_bytes_8,
-}
+use Rattle.std.proofs.lemmas.Nat.{le_bytes_2, le_bytes_4, le_bytes_8, from_le_bytes-to_le_bytes_2, from_le_bytes-to_le_bytes_4}
+use Rattle.std.proofs.lemmas.Nat.{from_le_bytes-to_le_bytes_8}
 use Rattle.std.proofs.Math.Nat.{mod-eq_of_lt}
 use Rattle.tt_frame.specs.Packet.{IsBytes}
 use Rattle.tt_frame.specs.Unread.{Unread, skip}
 use Rattle.tt_frame.specs.Text.{is_text, is_digest, is_shown, is_hex_digit}
-use Rattle.tt_frame.specs.Reading.{
-  ◌>>=◌,
-  number_at,
-  within_at,
-  truth_at,
-  fixed_at,
-  before_zero,
-  kept,
-  kept_or_none,
-  text_at,
-  digest_at,
-  optional_digest_at,
-  raw_at,
-}
-use Rattle.tt_frame.specs.FieldForms.{
-  CountWidth,
-  byte,
-  word,
-  count_width,
-  count_limit,
-  Field,
-  u8,
-  u16,
-  u32,
-  u64,
-  within,
-  truth,
-  text,
-  digest,
-  optional_digest,
-  raw,
-  Value,
-  spelled,
-  Fits,
-  field_at,
-  optional_bytes,
-  truth_number,
-}
+use Rattle.tt_frame.specs.Reading.{◌>>=◌, number_at, within_at, truth_at, fixed_at, before_zero, kept, kept_or_none, text_at, digest_at}
+use Rattle.tt_frame.specs.Reading.{optional_digest_at, raw_at}
+use Rattle.tt_frame.specs.FieldForms.{CountWidth, byte, word, count_width, count_limit, Field, u8, u16, u32, u64, within, truth, text}
+use Rattle.tt_frame.specs.FieldForms.{digest, optional_digest, raw, Value, spelled, Fits, field_at, optional_bytes, truth_number}
 use Rattle.tt_frame.proofs.TestLaws.{and_both}
 use Rattle.tt_frame.proofs.TextLaws.{length_of_text, length_of_digest}
 

@@ -1,37 +1,9 @@
 -- Proper fronts of packets.
-use Rattle.std.proofs.Common.{
-  ◌≡◌,
-  ℕ,
-  ◌+◌,
-  ◌-◌,
-  ◌^◌,
-  ◌<◌,
-  ◌≤◌,
-  List,
-  [],
-  ◌++◌,
-  length,
-  get_or,
-  replicate,
-  refl,
-  sym,
-  ap,
-  ◌∙◌,
-  inl,
-  inr,
-  arith,
-}
+use Rattle.std.proofs.Common.{◌≡◌, ℕ, ◌+◌, ◌-◌, ◌^◌, ◌<◌, ◌≤◌, List, [], ◌++◌, length, get_or, replicate, refl, sym, ap, ◌∙◌, inl, inr}
+use Rattle.std.proofs.Common.{arith}
 use Rattle.std.proofs.lemmas.Bool.{cases_lt}
-use Rattle.std.proofs.lemmas.List.{
-  append-nil,
-  drop_all,
-  length-append,
-  length-replicate,
-  get_or_append_left,
-  get_or-append_right,
-  get_or-replicate,
-  get_or_past,
-}
+use Rattle.std.proofs.lemmas.List.{append-nil, drop_all, length-append, length-replicate, get_or_append_left, get_or-append_right}
+use Rattle.std.proofs.lemmas.List.{get_or-replicate, get_or_past}
 use Rattle.tt_frame.specs.Packet.{IsBytes, packet_bytes, size_of}
 use Rattle.tt_frame.specs.Stream.{told_size, IsPartial, IsProperFront}
 use Rattle.tt_frame.specs.Framing.{BeginsWith}

@@ -1,37 +1,6 @@
 -- Items behind marks, read and written one behind the other in a loop.
-use Rattle.std.proofs.Common.{
-  ◌≡◌,
-  ℕ,
-  suc,
-  ◌+◌,
-  ◌-◌,
-  ◌<◌,
-  ◌≤◌,
-  Bool,
-  true,
-  false,
-  cond,
-  eqb,
-  List,
-  [],
-  ◌∷◌,
-  ◌++◌,
-  length,
-  get_or,
-  take,
-  Option,
-  Some,
-  None,
-  Result,
-  Ok,
-  Err,
-  refl,
-  sym,
-  ap,
-  ◌∙◌,
-  append_assoc,
-  arith,
-}
+use Rattle.std.proofs.Common.{◌≡◌, ℕ, suc, ◌+◌, ◌-◌, ◌<◌, ◌≤◌, Bool, true, false, cond, eqb, List, [], ◌∷◌, ◌++◌, length, get_or, take}
+use Rattle.std.proofs.Common.{Option, Some, None, Result, Ok, Err, refl, sym, ap, ◌∙◌, append_assoc, arith}
 use Rattle.std.specs.Int.{w8}
 use Rattle.std.proofs.lemmas.List.{append-nil, take_more, take_all}
 use Rattle.tt_frame.specs.Unread.{Unread}

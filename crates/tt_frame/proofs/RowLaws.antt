@@ -1,36 +1,6 @@
 -- What reading a row gives is spelled so, and what is spelled so is read.
-use Rattle.std.proofs.Common.{
-  ◌≡◌,
-  ℕ,
-  zero,
-  suc,
-  ◌+◌,
-  ◌<◌,
-  ◌≤◌,
-  Bool,
-  true,
-  false,
-  cond,
-  ltb,
-  eqb,
-  List,
-  [],
-  ◌∷◌,
-  ◌++◌,
-  length,
-  Result,
-  Ok,
-  refl,
-  sym,
-  ap,
-  subst,
-  ◌∙◌,
-  append_assoc,
-  arith,
-  ◌⊎◌,
-  inl,
-  inr,
-}
+use Rattle.std.proofs.Common.{◌≡◌, ℕ, zero, suc, ◌+◌, ◌<◌, ◌≤◌, Bool, true, false, cond, ltb, eqb, List, [], ◌∷◌, ◌++◌, length, Result, Ok}
+use Rattle.std.proofs.Common.{refl, sym, ap, subst, ◌∙◌, append_assoc, arith, ◌⊎◌, inl, inr}
 use Rattle.std.specs.Prelude.{◌||◌}
 use Rattle.std.specs.Int.{w8, to_le_bytes}
 use Rattle.std.proofs.lemmas.Bool.{ltb-false, le-ltb, eqb-true}
@@ -41,19 +11,8 @@ use Rattle.tt_frame.specs.Reading.{◌>>=◌, within_at, fixed_at}
 use Rattle.tt_frame.specs.FieldForms.{Named, count_width, count_limit, within, up_to, Value, spelled, field_at}
 use Rattle.tt_frame.specs.ItemForms.{Item, item_spelled, ItemFits, item_at, items_spelled, ItemsFit, items_at, marked_spelled, marked_at}
 use Rattle.tt_frame.specs.Rows.{Row, unknown, end, rest, ◌▸◌, fixed, counted, marked, Maker, RowSpells, row_at}
-use Rattle.tt_frame.proofs.FieldLaws.{
-  bind_ok,
-  guard_ok,
-  passed_ok,
-  ok_is,
-  unread,
-  Takes,
-  Takes-then,
-  field_takes,
-  field_again,
-  fixed_takes,
-  fixed_again,
-}
+use Rattle.tt_frame.proofs.FieldLaws.{bind_ok, guard_ok, passed_ok, ok_is, unread, Takes, Takes-then, field_takes, field_again, fixed_takes}
+use Rattle.tt_frame.proofs.FieldLaws.{fixed_again}
 
 -- ---- items
 

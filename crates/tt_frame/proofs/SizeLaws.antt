@@ -1,52 +1,14 @@
 -- How long a body can be: a number for each row, which is computed from the table.
-use Rattle.std.proofs.Common.{
-  ◌≡◌,
-  refl,
-  sym,
-  ◌∙◌,
-  ℕ,
-  ◌+◌,
-  ◌*◌,
-  ◌≤◌,
-  Bool,
-  true,
-  false,
-  cond,
-  eqb,
-  List,
-  [],
-  ◌∷◌,
-  ◌++◌,
-  length,
-  Some,
-  None,
-  ap,
-  arith,
-}
+use Rattle.std.proofs.Common.{◌≡◌, refl, sym, ◌∙◌, ℕ, ◌+◌, ◌*◌, ◌≤◌, Bool, true, false, cond, eqb, List, [], ◌∷◌, ◌++◌, length, Some, None}
+use Rattle.std.proofs.Common.{ap, arith}
 use Rattle.std.specs.Prelude.{nat_le, ◌==◌, ◌||◌}
 use Rattle.std.proofs.lemmas.Bool.{eqb-true}
 use Rattle.std.specs.List.{list_all}
 use Rattle.std.specs.Int.{byte_len}
 use Rattle.std.proofs.lemmas.List.{length-append}
 use Rattle.std.proofs.Math.Nat.{mul-le-mul_right}
-use Rattle.tt_frame.specs.FieldForms.{
-  Named,
-  count_width,
-  Field,
-  u8,
-  u16,
-  u32,
-  u64,
-  within,
-  truth,
-  text,
-  digest,
-  optional_digest,
-  raw,
-  Value,
-  spelled,
-  Fits,
-}
+use Rattle.tt_frame.specs.FieldForms.{Named, count_width, Field, u8, u16, u32, u64, within, truth, text, digest, optional_digest, raw}
+use Rattle.tt_frame.specs.FieldForms.{Value, spelled, Fits}
 use Rattle.tt_frame.specs.ItemForms.{Item, item_spelled, ItemFits, items_spelled, ItemsFit, marked_spelled}
 use Rattle.tt_frame.specs.Rows.{Row, unknown, end, rest, ◌▸◌, fixed, counted, marked, Maker, RowSpells}
 use Rattle.tt_frame.specs.Tables.{Rule, rule_of, SpelledBy}

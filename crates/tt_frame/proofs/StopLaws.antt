@@ -1,78 +1,16 @@
 -- Where reading fails, the row stops: up to there the fields stand, and there the next one doesn't.
-use Rattle.std.proofs.Common.{
-  ◌≡◌,
-  ℕ,
-  zero,
-  suc,
-  ◌+◌,
-  Bool,
-  true,
-  false,
-  cond,
-  ltb,
-  eqb,
-  List,
-  [],
-  ◌∷◌,
-  length,
-  take,
-  Option,
-  Some,
-  None,
-  Result,
-  Ok,
-  Err,
-  refl,
-  sym,
-  ap,
-  subst,
-  ◌∙◌,
-  arith,
-  ◌⊎◌,
-  ◌↔◌,
-  inl,
-  inr,
-}
+use Rattle.std.proofs.Common.{◌≡◌, ℕ, zero, suc, ◌+◌, Bool, true, false, cond, ltb, eqb, List, [], ◌∷◌, length, take, Option, Some, None}
+use Rattle.std.proofs.Common.{Result, Ok, Err, refl, sym, ap, subst, ◌∙◌, arith, ◌⊎◌, ◌↔◌, inl, inr}
 use Rattle.std.specs.Prelude.{◌||◌, ◌==◌}
 use Rattle.std.specs.Int.{w8, w16, w32, w64, byte_len, from_le_bytes, to_le_bytes, Width}
 use borrow.Author.Tests.{ltb-true}
 use Rattle.tt_frame.specs.Packet.{IsBytes}
 use Rattle.tt_frame.specs.Unread.{Unread, skip, GoesOver}
 use Rattle.tt_frame.specs.Text.{is_text, is_digest}
-use Rattle.tt_frame.specs.Reading.{
-  ◌>>=◌,
-  number_at,
-  within_at,
-  truth_at,
-  fixed_at,
-  before_zero,
-  kept,
-  kept_or_none,
-  text_at,
-  digest_at,
-  optional_digest_at,
-  raw_at,
-}
-use Rattle.tt_frame.specs.FieldForms.{
-  Named,
-  count_width,
-  Field,
-  u8,
-  u16,
-  u32,
-  u64,
-  within,
-  up_to,
-  truth,
-  text,
-  digest,
-  optional_digest,
-  raw,
-  Value,
-  spelled,
-  Fits,
-  field_at,
-}
+use Rattle.tt_frame.specs.Reading.{◌>>=◌, number_at, within_at, truth_at, fixed_at, before_zero, kept, kept_or_none, text_at, digest_at}
+use Rattle.tt_frame.specs.Reading.{optional_digest_at, raw_at}
+use Rattle.tt_frame.specs.FieldForms.{Named, count_width, Field, u8, u16, u32, u64, within, up_to, truth, text, digest, optional_digest}
+use Rattle.tt_frame.specs.FieldForms.{raw, Value, spelled, Fits, field_at}
 use Rattle.tt_frame.specs.ItemForms.{item_spelled, item_at, items_spelled, items_at, marked_spelled, marked_at}
 use Rattle.tt_frame.specs.Rows.{Row, unknown, end, rest, ◌▸◌, fixed, counted, marked, Maker, row_at}
 use Rattle.tt_frame.specs.Stops.{FieldStops, FixedStops, ItemStops, ItemsStop, MarkedStops, RowStops}

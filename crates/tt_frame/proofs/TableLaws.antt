@@ -1,15 +1,30 @@
 -- The laws of a table: what is read is spelled so, what is spelled so is read, and where nothing is spelled the place is
 -- where the row stops.
-use Rattle.std.proofs.Common.{◌≡◌, ℕ, List, Result, Ok, Err, sym, ap, subst, refl, ◌∙◌, ◌⊎◌, inl, inr}
-use Rattle.std.specs.Prelude.{◌≢◌, IfOk}
-use Rattle.tt_frame.specs.Packet.{IsBytes}
+use Rattle.std.proofs.Common.{◌≡◌, ℕ, ◌+◌, ◌≤◌, ◌<◌, ◌^◌, ◌++◌, length, List, [], ◌∷◌, Bool, true, false, Result, Ok, Err, sym, ap, subst, refl, ◌∙◌, ◌⊎◌, inl, inr}
+use Rattle.std.specs.Prelude.{◌≢◌, IfOk, ◌==◌, if◌then◌else◌}
+use Rattle.tt_frame.specs.Packet.{IsBytes, Packet, packet}
+use Rattle.tt_frame.specs.Framing.{BeginsWith}
 use Rattle.tt_frame.specs.Unread.{Unread, whole}
 use Rattle.tt_frame.specs.declared.bad.Bad.{Bad}
 use Rattle.tt_frame.specs.declared.bad.Bad.TheVariants.{Memory, Malformed}
+use Rattle.tt_frame.specs.Rows.{row_at}
 use Rattle.tt_frame.specs.Tables.{Rule, rule_of, SpelledBy, read_by, MessageRead, MessageReadOrMemory, Reads, ReadsOrMemory, StopsBy}
 use Rattle.tt_frame.proofs.FieldLaws.{ok_is}
+use Rattle.tt_frame.proofs.StreamLaws.{same_first}
 use Rattle.tt_frame.proofs.RowLaws.{row_takes, row_again}
 use Rattle.tt_frame.proofs.StopLaws.{row_stops}
+
+-- the line of a number reads what the table reads
+pub read_by_row : {M : Type 0} (table : List (Rule M)) (kind : ℕ) (s : Unread)
+    → read_by table kind s ≡ row_at (rule_of table kind).fields (rule_of table kind).make s
+read_by_row [] kind s = refl
+read_by_row {M} (l ∷ ls) kind s = either (kind == l.kind) (read_by_row ls kind s)
+  where
+    either : (t : Bool) → read_by ls kind s ≡ row_at (rule_of ls kind).fields (rule_of ls kind).make s
+        → (if t then row_at l.fields l.make s else read_by ls kind s)
+        ≡ row_at (if t then l else rule_of ls kind).fields (if t then l else rule_of ls kind).make s
+    either true below = refl
+    either false below = below
 
 -- where memory may run out, what is read without it is right too
 pub or_memory : {M : Type 0} (r : Result M Bad) (reading : Result M ℕ) → MessageRead r reading → MessageReadOrMemory r reading
@@ -19,12 +34,24 @@ or_memory (Err (Malformed at)) reading made = made
 
 pub is_found : {M : Type 0} (table : List (Rule M)) (kind : ℕ) (body : List ℕ) (r : Result M Bad) → IsBytes body
     → MessageReadOrMemory r (read_by table kind (whole body)) → IfOk r (λ m. SpelledBy table m kind body)
-is_found table kind body (Ok m) fits made = row_takes (rule_of table kind).fields (rule_of table kind).make (whole body) m fits made
+is_found table kind body (Ok m) fits made =
+    row_takes (rule_of table kind).fields (rule_of table kind).make (whole body) m fits (sym (read_by_row table kind (whole body)) ∙ made)
 is_found table kind body (Err e) fits made = tt
 
-again : {M : Type 0} (table : List (Rule M)) (kind : ℕ) (body : List ℕ) (m : M) → SpelledBy table m kind body
+pub again : {M : Type 0} (table : List (Rule M)) (kind : ℕ) (body : List ℕ) (m : M) → SpelledBy table m kind body
     → read_by table kind (whole body) ≡ Ok m
-again table kind body m spelled = row_again (rule_of table kind).fields (rule_of table kind).make m 0 body spelled
+again table kind body m spelled =
+    read_by_row table kind (whole body) ∙ row_again (rule_of table kind).fields (rule_of table kind).make m 0 body spelled
+
+-- so is the first packet of a stream that begins with the message's packet, whatever follows it
+pub followed : {M : Type 0} (table : List (Rule M)) (m : M) (kind : ℕ) (body more : List ℕ) (limit : ℕ) (p : Packet) (rest : List ℕ)
+    → SpelledBy table m kind body → length body + 3 ≤ limit → limit < 2 ^ 16
+    → BeginsWith limit (packet kind body ++ more) p rest → (read_by table p.kind (whole p.body) ≡ Ok m) × (rest ≡ more)
+followed table m kind body more limit p rest spelled fits small first =
+    let own : Packet = record { kind = kind; body = body } in
+    let stands : BeginsWith limit (packet kind body ++ more) own more = record { fits = record { size = fits }; whole = refl } in
+    let same = same_first limit (packet kind body ++ more) own p more rest small stands first in
+    (subst (λ (q : Packet). read_by table q.kind (whole q.body) ≡ Ok m) same.0 (again table kind body m spelled), sym same.1)
 
 pub is_read_or_memory : {M : Type 0} (table : List (Rule M)) (kind : ℕ) (body : List ℕ) (r : Result M Bad) (m : M)
     → SpelledBy table m kind body → MessageReadOrMemory r (read_by table kind (whole body)) → (r ≡ Ok m) ⊎ (r ≡ Err Memory)
@@ -61,46 +88,22 @@ stops_at {M} table kind body (Ok m) at fits e made = absurd cc
 stops_at {M} table kind body (Err Memory) at fits e made = absurd cc
 stops_at {M} table kind body (Err (Malformed here)) at fits e made =
     let same : here ≡ at = cc in
-    row_stops M (rule_of table kind).fields (rule_of table kind).make (whole body) at fits (made ∙ ap (λ (n : ℕ). Err n) same)
+    row_stops M (rule_of table kind).fields (rule_of table kind).make (whole body) at fits
+    (sym (read_by_row table kind (whole body)) ∙ made ∙ ap (λ (n : ℕ). Err n) same)
 
--- ---- what stays shut
-
-pub reads : {M : Type 0} (table : List (Rule M)) (kind : ℕ) (r : Result M Bad) (s : Unread) → Reads table kind r s
-    → MessageRead r (read_by table kind s)
-unfolding Reads
-reads table kind r s read = read
-
-pub reads_or_memory : {M : Type 0} (table : List (Rule M)) (kind : ℕ) (r : Result M Bad) (s : Unread) → ReadsOrMemory table kind r s
-    → MessageReadOrMemory r (read_by table kind s)
-unfolding ReadsOrMemory
-reads_or_memory table kind r s read = read
+-- ---- the fields of a message, and then its end
 
 -- a call that takes no memory is one that may
-pub Reads-may : {M : Type 0} (table : List (Rule M)) (kind : ℕ) (r : Result M Bad) (s : Unread) → Reads table kind r s
-    → ReadsOrMemory table kind r s
+pub Reads-may : {M : Type 0} (table : List (Rule M)) (kind : ℕ) (r : Result M Bad) (s left : Unread) → Reads table kind r s left
+    → ReadsOrMemory table kind r s left
 unfolding Reads ReadsOrMemory
-Reads-may table kind r s read = or_memory r (read_by table kind s) read
+Reads-may table kind (Ok m) s left read = read
+Reads-may table kind (Err Memory) s left read = tt
+Reads-may table kind (Err (Malformed at)) s left read = read
 
--- ---- the clauses of a decoder that reads the whole of a body, s being what its reader stands at
-
-pub exact_by : {M : Type 0} (table : List (Rule M)) (kind : ℕ) (body : List ℕ) (s : Unread) (r : Result M Bad) → s ≡ whole body
-    → ReadsOrMemory table kind r s → MessageReadOrMemory r (read_by table kind (whole body))
-exact_by {M} table kind body s r here read =
-    subst (λ (u : Unread). MessageReadOrMemory r (read_by table kind u)) here (reads_or_memory table kind r s read)
-
-pub found_by : {M : Type 0} (table : List (Rule M)) (kind : ℕ) (body : List ℕ) (s : Unread) (r : Result M Bad) → IsBytes body
-    → s ≡ whole body → ReadsOrMemory table kind r s → IfOk r (λ m. SpelledBy table m kind body)
-found_by table kind body s r fits here read = is_found table kind body r fits (exact_by table kind body s r here read)
-
-pub only_by : {M : Type 0} (table : List (Rule M)) (kind : ℕ) (body : List ℕ) (s : Unread) (r : Result M Bad) (m : M)
-    → SpelledBy table m kind body → s ≡ whole body → ReadsOrMemory table kind r s → (r ≡ Ok m) ⊎ (r ≡ Err Memory)
-only_by table kind body s r m spelled here read = is_read_or_memory table kind body r m spelled (exact_by table kind body s r here read)
-
-pub nothing_by : {M : Type 0} (table : List (Rule M)) (kind : ℕ) (body : List ℕ) (s : Unread) (r : Result M Bad) (at : ℕ) (m : M)
-    → r ≡ Err (Malformed at) → SpelledBy table m kind body → s ≡ whole body → ReadsOrMemory table kind r s → ⊥
-nothing_by table kind body s r at m e spelled here read =
-    is_nothing table kind body r at m e (exact_by table kind body s r here read) spelled
-
-pub stops_by : {M : Type 0} (table : List (Rule M)) (kind : ℕ) (body : List ℕ) (s : Unread) (r : Result M Bad) (at : ℕ) → IsBytes body
-    → r ≡ Err (Malformed at) → s ≡ whole body → ReadsOrMemory table kind r s → StopsBy table kind body at
-stops_by table kind body s r at fits e here read = stops_at table kind body r at fits e (exact_by table kind body s r here read)
+pub fields_never_memory : {M : Type 0} (table : List (Rule M)) (kind : ℕ) (r : Result M Bad) (s left : Unread) → Reads table kind r s left
+    → r ≢ Err Memory
+unfolding Reads
+fields_never_memory table kind (Ok m) s left read is = cc
+fields_never_memory table kind (Err Memory) s left read is = read
+fields_never_memory table kind (Err (Malformed at)) s left read is = cc

@@ -35,3 +35,8 @@ Tells family word m result before after =
     PartedFits family.table (family.apart m)
     × (after ≡ if_done result (before ++ each_said word (family_said family m)) after)
     × OnErr result (take (length before) after ≡ before)
+
+-- What a call told that told these parts: it holds of whatever message they are the parts of, by the name v of a variant.
+abbrev pub TellsThese : {M : Type 0} → Family M → (Said → List ℕ) → List Said → Result (Unit {0}) OutOfMemory → List ℕ → List ℕ → Type 0
+TellsThese {M} family word said result before after =
+    (m v : M) → m ≡ v → family_said family v ≡ said → PartedFits family.table (family.apart v) → Tells family word m result before after

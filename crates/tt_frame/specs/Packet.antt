@@ -26,3 +26,10 @@ size_of p = length p.body + 3
 -- a packet that a reader with this limit takes
 pub record IsWithin (limit : ℕ) (p : Packet) : Type 0 where
   pub size : size_of p ≤ limit
+
+-- the most bytes of a packet that is read, and of a packet that is sent, but for the lists that are named where it is said
+abbrev pub largest_packet : ℕ
+largest_packet = 32767
+
+abbrev pub largest_sent : ℕ
+largest_sent = 1460

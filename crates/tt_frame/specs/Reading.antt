@@ -1,27 +1,6 @@
 -- Reading one field: its value and what is left behind it, or the place where the field isn't there.
-use Rattle.std.specs.Prelude.{
-  ◌≡◌,
-  ℕ,
-  zero,
-  suc,
-  ◌+◌,
-  List,
-  [],
-  ◌∷◌,
-  length,
-  take,
-  Option,
-  Some,
-  None,
-  option_map,
-  Result,
-  Ok,
-  Err,
-  Bool,
-  nat_lt,
-  ◌==◌,
-  if◌then◌else◌,
-}
+use Rattle.std.specs.Prelude.{◌≡◌, ℕ, zero, suc, ◌+◌, List, [], ◌∷◌, length, take, Option, Some, None, option_map, Result, Ok, Err, Bool}
+use Rattle.std.specs.Prelude.{nat_lt, ◌==◌, if◌then◌else◌}
 use Rattle.std.specs.Int.{Width, w8, byte_len, from_le_bytes}
 use Rattle.tt_frame.specs.Text.{is_text, is_digest}
 use Rattle.tt_frame.specs.Unread.{Unread, skip}

@@ -3,24 +3,8 @@
 use Rattle.std.specs.Prelude.{ℕ, Bool, List, [], ◌∷◌, ◌++◌, length}
 use Rattle.std.specs.Int.{Width, w8, w16, w32, w64, to_le_bytes}
 use Rattle.tt_frame.specs.Text.{text_bytes}
-use Rattle.tt_frame.specs.FieldForms.{
-  count_width,
-  Field,
-  Named,
-  u8,
-  u16,
-  u32,
-  u64,
-  within,
-  truth,
-  text,
-  digest,
-  optional_digest,
-  raw,
-  Value,
-  optional_bytes,
-  truth_number,
-}
+use Rattle.tt_frame.specs.FieldForms.{count_width, Field, Named, u8, u16, u32, u64, within, truth, text, digest, optional_digest, raw}
+use Rattle.tt_frame.specs.FieldForms.{Value, optional_bytes, truth_number}
 use Rattle.tt_frame.specs.ItemForms.{Item}
 use Rattle.tt_frame.specs.Rows.{Row, unknown, end, rest, ◌▸◌, fixed, counted, marked}
 use Rattle.tt_frame.specs.Apart.{Values}

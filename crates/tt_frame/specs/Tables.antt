@@ -3,7 +3,7 @@
 use Prim.Native.String.{String}
 use Rattle.std.specs.Prelude.{◌≡◌, ℕ, List, [], ◌∷◌, codes, Result, Ok, Err, ◌==◌, if◌then◌else◌}
 use Rattle.tt_frame.specs.Unread.{Unread, whole}
-use Rattle.tt_frame.specs.Rows.{Row, unknown, Maker, RowSpells, row_at}
+use Rattle.tt_frame.specs.Rows.{Row, unknown, Maker, RowSpells, row_at, ended_at}
 use Rattle.tt_frame.specs.Stops.{RowStops}
 use Rattle.tt_frame.specs.declared.bad.Bad.{Bad}
 use Rattle.tt_frame.specs.declared.bad.Bad.TheVariants.{Memory, Malformed}
@@ -43,7 +43,8 @@ StopsBy table kind body at = RowStops (rule_of table kind).fields (whole body) a
 
 -- the message that is read, or that place
 abbrev pub read_by : {M : Type 0} → List (Rule M) → ℕ → Unread → Result M ℕ
-read_by table kind s = let l = rule_of table kind in row_at l.fields l.make s
+read_by [] kind s = Err s.at
+read_by (l ∷ ls) kind s = if kind == l.kind then row_at l.fields l.make s else read_by ls kind s
 
 -- What a function of a decoder answered is what reading gives.
 abbrev pub MessageRead : {M : Type 0} → Result M Bad → Result M ℕ → Type 0
@@ -57,10 +58,22 @@ MessageReadOrMemory (Ok m) reading = reading ≡ Ok m
 MessageReadOrMemory (Err Memory) reading = Unit {0}
 MessageReadOrMemory (Err (Malformed at)) reading = reading ≡ Err at
 
--- These say the same of one number, and stay shut: so what a message's own function says of its number, the dispatch says of
--- the number that it was given.
-unfoldable pub Reads : {M : Type 0} → List (Rule M) → ℕ → Result M Bad → Unread → Type 0
-Reads table kind result s = MessageRead result (read_by table kind s)
+-- What a function answered that reads the fields of a message and leaves its end alone: with that message, reading goes on
+-- at what it left, where nothing more may stand.
+abbrev pub FieldsRead : {M : Type 0} → Result M Bad → Unread → Result M ℕ → Type 0
+FieldsRead (Ok m) left reading = reading ≡ ended_at m left
+FieldsRead (Err Memory) left reading = ⊥
+FieldsRead (Err (Malformed at)) left reading = reading ≡ Err at
 
-unfoldable pub ReadsOrMemory : {M : Type 0} → List (Rule M) → ℕ → Result M Bad → Unread → Type 0
-ReadsOrMemory table kind result s = MessageReadOrMemory result (read_by table kind s)
+-- the same of a function that takes memory
+abbrev pub FieldsReadOrMemory : {M : Type 0} → Result M Bad → Unread → Result M ℕ → Type 0
+FieldsReadOrMemory (Ok m) left reading = reading ≡ ended_at m left
+FieldsReadOrMemory (Err Memory) left reading = Unit {0}
+FieldsReadOrMemory (Err (Malformed at)) left reading = reading ≡ Err at
+
+-- These say the same of one number, and stay shut where a message is handed on.
+unfoldable pub Reads : {M : Type 0} → List (Rule M) → ℕ → Result M Bad → Unread → Unread → Type 0
+Reads table kind result s left = FieldsRead result left (read_by table kind s)
+
+unfoldable pub ReadsOrMemory : {M : Type 0} → List (Rule M) → ℕ → Result M Bad → Unread → Unread → Type 0
+ReadsOrMemory table kind result s left = FieldsReadOrMemory result left (read_by table kind s)

@@ -1,12 +1,12 @@
 //! What a decoder of messages calls: a field, or the place where it isn't.
 //!
-//! A message's function is one struct literal of these, `text(f)?`, `number32(f)?` and so on in the order of its row, and
-//! then `ended(f, message)`.
-ghost use Rattle.std.specs.Prelude.{◌≡◌, ◌≤◌, IfOk};
+//! A message's fields are one struct literal of these, `text(f)?`, `number32(f)?` and so on in the order of its row; `ended`
+//! sees that nothing stands behind them.
+ghost use Rattle.std.specs.Prelude.{◌≡◌, ℕ, ◌≤◌, Result, Err, IfOk};
+ghost use Rattle.tt_frame.specs.declared.bad.Bad.TheVariants.{Memory};
 ghost use Rattle.std.specs.Int.{w8, w16, w32, w64};
 ghost use Rattle.tt_frame.specs.Reading.{FieldRead, number_at, within_at, truth_at, text_at, digest_at, optional_digest_at, raw_at, fixed_at, FixedRead};
-ghost use Rattle.tt_frame.specs.Rows.{ended_at};
-ghost use Rattle.tt_frame.specs.Tables.{MessageRead};
+ghost use Rattle.tt_frame.specs.Tables.{MessageRead, MessageReadOrMemory, FieldsRead, FieldsReadOrMemory};
 
 use crate::bad::Bad;
 use crate::digests::Digest;
@@ -154,13 +154,28 @@ pub fn raw<const N: usize>(f: &mut Fields) -> Result<[u8; N], Bad>
     }
 }
 
-/// The message, where nothing stands behind its last field.
-pub fn ended<M: Drop>(f: &Fields, message: M) -> Result<M, Bad>
-    ensures { MessageRead result (ended_at message f.now) }
+/// The message whose fields were read, where nothing stands behind the last of them.
+pub fn ended<M: Drop>(fields: Result<M, Bad>, f: &Fields) -> Result<M, Bad>
+    ensures read { (reading : Result M ℕ) → FieldsRead fields f.now reading → MessageRead result reading }
+    ensures or_memory { (reading : Result M ℕ) → FieldsReadOrMemory fields f.now reading → MessageReadOrMemory result reading }
+    ensures memory { result ≡ Err Memory → fields ≡ Err Memory }
 {
-    if f.done() {
-        Ok(message)
-    } else {
-        Err(Bad::Malformed { at: f.at() })
+    match fields {
+        Ok(message) => {
+            if f.done() {
+                Ok(message)
+            } else {
+                Err(Bad::Malformed { at: f.at() })
+            }
+        }
+        Err(e) => Err(e),
     }
+}
+
+/// A message whose fields are read in order, each by its reader: `read!(f; GameMsg::ServerSync { frame: number32, word: number32 })`.
+#[macro_export]
+macro_rules! read {
+    ($f:ident; $message:ident::$variant:ident { $($field:ident: $reader:ident),+ }) => {
+        Ok($message::$variant { $($field: $reader($f)?),+ })
+    };
 }

@@ -5,6 +5,7 @@
 ghost use Rattle.std.specs.Prelude.{◌≡◌, ℕ, ◌+◌, ◌-◌, ◌<◌, ◌≤◌, [], ◌++◌, length, take, min, true, false, IfOk, IsTrue, IsFalse};
 ghost use Rattle.std.specs.Borrow.{sem};
 ghost use Rattle.std.specs.Io.BufRead.{Rests};
+ghost use Rattle.tt_frame.specs.Packet.{largest_packet};
 ghost use Rattle.tt_frame.specs.Framing.{IsFirst, Feeds, Gives};
 ghost use Rattle.tt_frame.specs.contracts.framer.Framer.{the_row};
 
@@ -12,6 +13,9 @@ use crate::buffer::{copy_at, move_to_front};
 use crate::memory::OutOfMemory;
 use std::alloc::Global;
 use std::marker::Model;
+
+/// The most bytes of a packet that is read.
+pub const LARGEST_PACKET: u16 = 32767;
 
 /// What stands first in a stream.
 #[derive(Debug, Clone, Copy)]
@@ -77,7 +81,7 @@ impl Framer {
     /// A framer that takes packets of at most `limit` bytes, and holds nothing. It takes all its memory now.
     pub fn new(alloc: Global, limit: u16) -> Result<Framer, OutOfMemory>
         requires least { 3 ≤ limit }
-        requires most { limit ≤ 32767 }
+        requires most { limit ≤ largest_packet }
         ensures { IfOk result (λ f. f ≡ record { limit = limit; held = []; broken = false }) }
     {
         Ok(Framer {

@@ -33,7 +33,7 @@ pub use decoding::{
 };
 pub use digests::{Digest, are_hex_digits, digits_or_none};
 pub use fields::Fields;
-pub use framer::{Framer, Next, first_of};
+pub use framer::{Framer, LARGEST_PACKET, Next, first_of};
 pub use items::{Items, ListItem, array_bytes, counted, marked, tell_counted, tell_marked};
 pub use laws::{every_run, one_field, one_reading, text_test};
 pub use long_texts::{LongText, long_text};

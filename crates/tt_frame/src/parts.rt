@@ -103,3 +103,10 @@ pub fn tell<W: PartWriter>(to: &mut W, parts: &[Part]) -> Result<(), OutOfMemory
 {
     put_parts(to, parts)
 }
+
+/// Tells parts, one behind the other: `told!(to; Head(KIND), U32(*client))`. A family of messages has a `told` of its own, which
+/// says what that means for its messages.
+#[macro_export]
+macro_rules! told {
+    ($to:expr; $($part:expr),+) => { told($to, &[$($part),+]) };
+}

@@ -4,7 +4,7 @@
 //! `finish(out, start, written)` ends the packet, where `start` is the length that `out` had before the head and `written` is
 //! what the parts answered: the packet stands whole, or nothing of it stands.
 ghost use Rattle.std.specs.Prelude.{◌≡◌, ℕ, List, ◌≤◌, ◌+◌, [], ◌∷◌, ◌++◌, length, take, vec_len, OnOk, OnErr};
-ghost use Rattle.tt_frame.specs.Packet.{packet};
+ghost use Rattle.tt_frame.specs.Packet.{packet, largest_packet};
 ghost use Rattle.tt_frame.specs.Parts.{sealed};
 
 use crate::memory::OutOfMemory;
@@ -13,7 +13,7 @@ use crate::memory::OutOfMemory;
 #[tactic(auto, unfolding(crate::specs::Parts::sealed))]
 fn seal(out: &mut Vec<u8>, start: usize)
     requires header { start + 3 ≤ vec_len out.old }
-    requires size { vec_len out.old ≤ start + 32767 }
+    requires size { vec_len out.old ≤ start + largest_packet }
     ensures { out.new.items ≡ sealed start out.old.items }
 {
     let size = (out.len() - start) as u16;
@@ -30,7 +30,7 @@ pub fn finish(
     written: Result<(), OutOfMemory>,
 ) -> Result<(), OutOfMemory>
     requires header { OnOk written (start + 3 ≤ vec_len out.old) }
-    requires size { OnOk written (vec_len out.old ≤ start + 32767) }
+    requires size { OnOk written (vec_len out.old ≤ start + largest_packet) }
     ensures same { result ≡ written }
     // What stood from `start` on, behind two bytes for the size, is a packet now.
     ensures ok { OnOk result ((before body : List ℕ) (kind : ℕ) → length before ≡ start → out.old.items ≡ before ++ 0 ∷ 0 ∷ kind ∷ body → out.new.items ≡ before ++ packet kind body) }

@@ -3,47 +3,15 @@ use Rattle.std.specs.Prelude.{ℕ, List}
 use Rattle.tt_frame.specs.Apart.{Parted, part}
 use Rattle.tt_frame.specs.Families.{Family, family_kind, family_body}
 use Rattle.tt_game.specs.declared.message.GameMsg.{GameMsg}
-use Rattle.tt_game.specs.declared.message.GameMsg.TheVariants.{
-  ServerFull,
-  ServerBanned,
-  ClientJoin,
-  ServerError,
-  ClientGameInfo,
-  ServerGameInfo,
-  ServerCheckNewgrfs,
-  ClientNewgrfsChecked,
-  ServerNeedGamePassword,
-  ClientGamePassword,
-  ServerNeedCompanyPassword,
-  ClientCompanyPassword,
-  ServerWelcome,
-  ClientGetmap,
-  ServerWait,
-  ServerMapBegin,
-  ServerMapSize,
-  ServerMapData,
-  ServerMapDone,
-  ClientMapOk,
-  ServerJoin,
-  ServerFrame,
-  ServerSync,
-  ClientAck,
-  ClientCommand,
-  ServerCommand,
-  ClientChat,
-  ServerChat,
-  ClientSetName,
-  ServerClientInfo,
-  ClientSetPassword,
-  ClientMove,
-  ServerMove,
-  ClientError,
-  ServerErrorQuit,
-  ClientQuit,
-  ServerQuit,
-  ServerShutdown,
-  ServerNewgame,
-}
+use Rattle.tt_game.specs.declared.message.GameMsg.TheVariants.{ServerFull, ServerBanned, ClientJoin, ServerError, ClientGameInfo}
+use Rattle.tt_game.specs.declared.message.GameMsg.TheVariants.{ServerGameInfo, ServerCheckNewgrfs, ClientNewgrfsChecked}
+use Rattle.tt_game.specs.declared.message.GameMsg.TheVariants.{ServerNeedGamePassword, ClientGamePassword, ServerNeedCompanyPassword}
+use Rattle.tt_game.specs.declared.message.GameMsg.TheVariants.{ClientCompanyPassword, ServerWelcome, ClientGetmap, ServerWait}
+use Rattle.tt_game.specs.declared.message.GameMsg.TheVariants.{ServerMapBegin, ServerMapSize, ServerMapData, ServerMapDone, ClientMapOk}
+use Rattle.tt_game.specs.declared.message.GameMsg.TheVariants.{ServerJoin, ServerFrame, ServerSync, ClientAck, ClientCommand, ServerCommand}
+use Rattle.tt_game.specs.declared.message.GameMsg.TheVariants.{ClientChat, ServerChat, ClientSetName, ServerClientInfo, ClientSetPassword}
+use Rattle.tt_game.specs.declared.message.GameMsg.TheVariants.{ClientMove, ServerMove, ClientError, ServerErrorQuit, ClientQuit, ServerQuit}
+use Rattle.tt_game.specs.declared.message.GameMsg.TheVariants.{ServerShutdown, ServerNewgame}
 use Rattle.tt_game.specs.Messages.{messages}
 
 -- its number, and the values of its fields in order

@@ -5,50 +5,42 @@ use Rattle.tt_frame.specs.Rows.{end, rest, ◌▸◌, counted}
 use Rattle.tt_frame.specs.Tables.{Rule, row, SpelledBy}
 use Rattle.tt_game.specs.Items.{file}
 use Rattle.tt_game.specs.declared.message.GameMsg.{GameMsg}
-use Rattle.tt_game.specs.declared.message.GameMsg.TheVariants.{
-  ServerFull,
-  ServerBanned,
-  ClientJoin,
-  ServerError,
-  ClientGameInfo,
-  ServerGameInfo,
-  ServerCheckNewgrfs,
-  ClientNewgrfsChecked,
-  ServerNeedGamePassword,
-  ClientGamePassword,
-  ServerNeedCompanyPassword,
-  ClientCompanyPassword,
-  ServerWelcome,
-  ClientGetmap,
-  ServerWait,
-  ServerMapBegin,
-  ServerMapSize,
-  ServerMapData,
-  ServerMapDone,
-  ClientMapOk,
-  ServerJoin,
-  ServerFrame,
-  ServerSync,
-  ClientAck,
-  ClientCommand,
-  ServerCommand,
-  ClientChat,
-  ServerChat,
-  ClientSetName,
-  ServerClientInfo,
-  ClientSetPassword,
-  ClientMove,
-  ServerMove,
-  ClientError,
-  ServerErrorQuit,
-  ClientQuit,
-  ServerQuit,
-  ServerShutdown,
-  ServerNewgame,
-}
+use Rattle.tt_game.specs.declared.message.GameMsg.TheVariants.{ServerFull, ServerBanned, ClientJoin, ServerError, ClientGameInfo}
+use Rattle.tt_game.specs.declared.message.GameMsg.TheVariants.{ServerGameInfo, ServerCheckNewgrfs, ClientNewgrfsChecked}
+use Rattle.tt_game.specs.declared.message.GameMsg.TheVariants.{ServerNeedGamePassword, ClientGamePassword, ServerNeedCompanyPassword}
+use Rattle.tt_game.specs.declared.message.GameMsg.TheVariants.{ClientCompanyPassword, ServerWelcome, ClientGetmap, ServerWait}
+use Rattle.tt_game.specs.declared.message.GameMsg.TheVariants.{ServerMapBegin, ServerMapSize, ServerMapData, ServerMapDone, ClientMapOk}
+use Rattle.tt_game.specs.declared.message.GameMsg.TheVariants.{ServerJoin, ServerFrame, ServerSync, ClientAck, ClientCommand, ServerCommand}
+use Rattle.tt_game.specs.declared.message.GameMsg.TheVariants.{ClientChat, ServerChat, ClientSetName, ServerClientInfo, ClientSetPassword}
+use Rattle.tt_game.specs.declared.message.GameMsg.TheVariants.{ClientMove, ServerMove, ClientError, ServerErrorQuit, ClientQuit, ServerQuit}
+use Rattle.tt_game.specs.declared.message.GameMsg.TheVariants.{ServerShutdown, ServerNewgame}
 
 -- One line for each message: its number, its name, its fields in order with their names, and the variant that takes their
 -- values in that order.
+abbrev pub playing_messages : List (Rule GameMsg)
+playing_messages =
+    row 20 "SERVER_JOIN" ("client" ⦂ u32 ▸ end) ServerJoin
+    ∷ row 21 "SERVER_FRAME" ("frame" ⦂ u32 ▸ "max" ⦂ u32 ▸ "token" ⦂ u8 ▸ end) ServerFrame
+    ∷ row 22 "SERVER_SYNC" ("frame" ⦂ u32 ▸ "word" ⦂ u32 ▸ end) ServerSync
+    ∷ row 23 "CLIENT_ACK" ("frame" ⦂ u32 ▸ "token" ⦂ u8 ▸ end) ClientAck
+    ∷ row 24 "CLIENT_COMMAND" ("company" ⦂ u8 ▸ "code" ⦂ u16 ▸ "number" ⦂ u32 ▸ "to" ⦂ u8 ▸ "text" ⦂ text 31 ▸ end) ClientCommand
+    ∷ row 25 "SERVER_COMMAND" ("company" ⦂ u8 ▸ "code" ⦂ u16 ▸ "number" ⦂ u32 ▸ "to" ⦂ u8 ▸ "text" ⦂ text 31 ▸ "frame" ⦂ u32 ▸ "sender" ⦂
+    u32 ▸ end) ServerCommand
+    ∷ row 26 "CLIENT_CHAT" ("scope" ⦂ up_to 2 ▸ "to" ⦂ u32 ▸ "text" ⦂ text 899 ▸ end) ClientChat
+    ∷ row 27 "SERVER_CHAT" ("client" ⦂ u32 ▸ "scope" ⦂ up_to 2 ▸ "text" ⦂ text 899 ▸ end) ServerChat
+    ∷ row 28 "CLIENT_SET_NAME" ("name" ⦂ text 24 ▸ end) ClientSetName
+    ∷ row 29 "SERVER_CLIENT_INFO" ("client" ⦂ u32 ▸ "company" ⦂ u8 ▸ "name" ⦂ text 24 ▸ end) ServerClientInfo
+    ∷ row 30 "CLIENT_SET_PASSWORD" ("digest" ⦂ optional_digest ▸ end) ClientSetPassword
+    ∷ row 31 "CLIENT_MOVE" ("company" ⦂ u8 ▸ "digest" ⦂ optional_digest ▸ end) ClientMove
+    ∷ row 32 "SERVER_MOVE" ("client" ⦂ u32 ▸ "company" ⦂ u8 ▸ end) ServerMove
+    ∷ row 33 "CLIENT_ERROR" ("code" ⦂ up_to 20 ▸ end) ClientError
+    ∷ row 34 "SERVER_ERROR_QUIT" ("client" ⦂ u32 ▸ "code" ⦂ up_to 20 ▸ end) ServerErrorQuit
+    ∷ row 35 "CLIENT_QUIT" end ClientQuit
+    ∷ row 36 "SERVER_QUIT" ("client" ⦂ u32 ▸ end) ServerQuit
+    ∷ row 37 "SERVER_SHUTDOWN" end ServerShutdown
+    ∷ row 38 "SERVER_NEWGAME" end ServerNewgame
+    ∷ []
+
 abbrev pub messages : List (Rule GameMsg)
 messages =
     row 0 "SERVER_FULL" end ServerFull
@@ -72,27 +64,7 @@ messages =
     ∷ row 17 "SERVER_MAP_DATA" (rest 1 1400) ServerMapData
     ∷ row 18 "SERVER_MAP_DONE" end ServerMapDone
     ∷ row 19 "CLIENT_MAP_OK" end ClientMapOk
-    ∷ row 20 "SERVER_JOIN" ("client" ⦂ u32 ▸ end) ServerJoin
-    ∷ row 21 "SERVER_FRAME" ("frame" ⦂ u32 ▸ "max" ⦂ u32 ▸ "token" ⦂ u8 ▸ end) ServerFrame
-    ∷ row 22 "SERVER_SYNC" ("frame" ⦂ u32 ▸ "word" ⦂ u32 ▸ end) ServerSync
-    ∷ row 23 "CLIENT_ACK" ("frame" ⦂ u32 ▸ "token" ⦂ u8 ▸ end) ClientAck
-    ∷ row 24 "CLIENT_COMMAND" ("company" ⦂ u8 ▸ "code" ⦂ u16 ▸ "number" ⦂ u32 ▸ "to" ⦂ u8 ▸ "text" ⦂ text 31 ▸ end) ClientCommand
-    ∷ row 25 "SERVER_COMMAND" ("company" ⦂ u8 ▸ "code" ⦂ u16 ▸ "number" ⦂ u32 ▸ "to" ⦂ u8 ▸ "text" ⦂ text 31 ▸ "frame" ⦂ u32 ▸ "sender" ⦂
-    u32 ▸ end) ServerCommand
-    ∷ row 26 "CLIENT_CHAT" ("scope" ⦂ up_to 2 ▸ "to" ⦂ u32 ▸ "text" ⦂ text 899 ▸ end) ClientChat
-    ∷ row 27 "SERVER_CHAT" ("client" ⦂ u32 ▸ "scope" ⦂ up_to 2 ▸ "text" ⦂ text 899 ▸ end) ServerChat
-    ∷ row 28 "CLIENT_SET_NAME" ("name" ⦂ text 24 ▸ end) ClientSetName
-    ∷ row 29 "SERVER_CLIENT_INFO" ("client" ⦂ u32 ▸ "company" ⦂ u8 ▸ "name" ⦂ text 24 ▸ end) ServerClientInfo
-    ∷ row 30 "CLIENT_SET_PASSWORD" ("digest" ⦂ optional_digest ▸ end) ClientSetPassword
-    ∷ row 31 "CLIENT_MOVE" ("company" ⦂ u8 ▸ "digest" ⦂ optional_digest ▸ end) ClientMove
-    ∷ row 32 "SERVER_MOVE" ("client" ⦂ u32 ▸ "company" ⦂ u8 ▸ end) ServerMove
-    ∷ row 33 "CLIENT_ERROR" ("code" ⦂ up_to 20 ▸ end) ClientError
-    ∷ row 34 "SERVER_ERROR_QUIT" ("client" ⦂ u32 ▸ "code" ⦂ up_to 20 ▸ end) ServerErrorQuit
-    ∷ row 35 "CLIENT_QUIT" end ClientQuit
-    ∷ row 36 "SERVER_QUIT" ("client" ⦂ u32 ▸ end) ServerQuit
-    ∷ row 37 "SERVER_SHUTDOWN" end ServerShutdown
-    ∷ row 38 "SERVER_NEWGAME" end ServerNewgame
-    ∷ []
+    ∷ playing_messages
 
 -- The body of a packet of that number spells the message: the fields of its line, each in its range, and nothing behind.
 abbrev pub Spells : GameMsg → ℕ → List ℕ → Type 0

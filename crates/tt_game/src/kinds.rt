@@ -1,19 +1,26 @@
 //! Each message by its number: read by it, and told with it.
+#![tactic(auto, unfolding(tt_frame::specs::Tables::Reads, tt_frame::specs::Tables::ReadsOrMemory))]
+
 ghost use Rattle.std.specs.Prelude.{◌≡◌, Err};
 ghost use Rattle.tt_frame.specs.declared.bad.Bad.TheVariants.{Memory};
 ghost use Rattle.tt_frame.specs.Unread.{whole};
-ghost use Rattle.tt_frame.specs.Tables.{Reads, ReadsOrMemory, name_by};
-ghost use Rattle.tt_frame.specs.Families.{Tells};
-ghost use Rattle.tt_game.specs.Messages.{messages, TakesMemory};
+ghost use Rattle.tt_frame.specs.Tables.{MessageReadOrMemory, Reads, ReadsOrMemory, name_by, read_by};
+ghost use Rattle.tt_frame.specs.Parts.{PartsFit, all_said_by};
+ghost use Rattle.tt_frame.specs.Families.{Tells, TellsThese};
+ghost use Rattle.tt_game.specs.Messages.{messages, playing_messages, TakesMemory};
 ghost use Rattle.tt_game.specs.Apart.{game_family};
+ghost use Rattle.tt_game.specs.declared.message.GameMsg.TheVariants.{ServerCheckNewgrfs};
 
-mod joining;
-mod map_coming;
-mod playing;
-
+use crate::files::Files;
+use crate::map_piece::MapPiece;
 use crate::message::GameMsg;
 use std::alloc::Global;
-use tt_frame::{Bad, Fields, OutOfMemory, PartWriter};
+use tt_frame::Part::{Count8, Head, Raw, Truth, U8, U16, U32, Words};
+use tt_frame::{
+    Bad, Fields, OutOfMemory, Part, PartWriter, UpTo, counted, digest, digits_or_none, ended,
+    long_text, number8, number16, number32, optional_digest, read, tell, tell_counted, text, told,
+    truth, up_to,
+};
 
 // The numbers of the messages, named here and nowhere else.
 pub(crate) const SERVER_FULL: u8 = 0;
@@ -94,65 +101,117 @@ pub(crate) const SERVER_SHUTDOWN: u8 = 37;
 
 pub(crate) const SERVER_NEWGAME: u8 = 38;
 
-/// The message of that number, of those that take no memory.
-fn by_kind(kind: u8, f: &mut Fields) -> Result<GameMsg, Bad>
+/// The fields of the message of that number, of those that take no memory.
+fn fields_of(kind: u8, f: &mut Fields) -> Result<GameMsg, Bad>
     requires place { f.old.at ≡ 0 }
     requires memory { TakesMemory kind → ⊥ }
-    ensures { Reads messages kind result f.old }
+    ensures { Reads messages kind result f.old f.new }
 {
     match kind {
-        SERVER_FULL => joining::read_server_full(f),
-        SERVER_BANNED => joining::read_server_banned(f),
-        CLIENT_JOIN => joining::read_client_join(f),
-        SERVER_ERROR => joining::read_server_error(f),
-        CLIENT_GAME_INFO => joining::read_client_game_info(f),
-        SERVER_GAME_INFO => joining::read_server_game_info(f),
-        CLIENT_NEWGRFS_CHECKED => joining::read_client_newgrfs_checked(f),
-        SERVER_NEED_GAME_PASSWORD => joining::read_server_need_game_password(f),
-        CLIENT_GAME_PASSWORD => joining::read_client_game_password(f),
-        SERVER_NEED_COMPANY_PASSWORD => joining::read_server_need_company_password(f),
-        CLIENT_COMPANY_PASSWORD => joining::read_client_company_password(f),
-        SERVER_WELCOME => joining::read_server_welcome(f),
-        CLIENT_GETMAP => map_coming::read_client_getmap(f),
-        SERVER_WAIT => map_coming::read_server_wait(f),
-        SERVER_MAP_BEGIN => map_coming::read_server_map_begin(f),
-        SERVER_MAP_SIZE => map_coming::read_server_map_size(f),
-        SERVER_MAP_DONE => map_coming::read_server_map_done(f),
-        CLIENT_MAP_OK => map_coming::read_client_map_ok(f),
-        SERVER_JOIN => playing::read_server_join(f),
-        SERVER_FRAME => playing::read_server_frame(f),
-        SERVER_SYNC => playing::read_server_sync(f),
-        CLIENT_ACK => playing::read_client_ack(f),
-        CLIENT_COMMAND => playing::read_client_command(f),
-        SERVER_COMMAND => playing::read_server_command(f),
-        CLIENT_SET_NAME => playing::read_client_set_name(f),
-        SERVER_CLIENT_INFO => playing::read_server_client_info(f),
-        CLIENT_SET_PASSWORD => playing::read_client_set_password(f),
-        CLIENT_MOVE => playing::read_client_move(f),
-        SERVER_MOVE => playing::read_server_move(f),
-        CLIENT_ERROR => playing::read_client_error(f),
-        SERVER_ERROR_QUIT => playing::read_server_error_quit(f),
-        CLIENT_QUIT => playing::read_client_quit(f),
-        SERVER_QUIT => playing::read_server_quit(f),
-        SERVER_SHUTDOWN => playing::read_server_shutdown(f),
-        SERVER_NEWGAME => playing::read_server_newgame(f),
+        SERVER_FULL => Ok(GameMsg::ServerFull),
+        SERVER_BANNED => Ok(GameMsg::ServerBanned),
+        CLIENT_JOIN =>
+            read!(f; GameMsg::ClientJoin { revision: text, grf: number32, name: text, company: number8 }),
+        SERVER_ERROR => read!(f; GameMsg::ServerError { code: up_to }),
+        CLIENT_GAME_INFO => Ok(GameMsg::ClientGameInfo),
+        SERVER_GAME_INFO =>
+            read!(f; GameMsg::ServerGameInfo { name: text, frame: number32, clients: number8, companies: number8,
+                max: number8, password: truth }),
+        CLIENT_NEWGRFS_CHECKED => Ok(GameMsg::ClientNewgrfsChecked),
+        SERVER_NEED_GAME_PASSWORD =>
+            read!(f; GameMsg::ServerNeedGamePassword { seed: number32, id: text }),
+        CLIENT_GAME_PASSWORD => read!(f; GameMsg::ClientGamePassword { digest: digest }),
+        SERVER_NEED_COMPANY_PASSWORD =>
+            read!(f; GameMsg::ServerNeedCompanyPassword { seed: number32, id: text }),
+        CLIENT_COMPANY_PASSWORD => read!(f; GameMsg::ClientCompanyPassword { digest: digest }),
+        SERVER_WELCOME =>
+            read!(f; GameMsg::ServerWelcome { client: number32, seed: number32, id: text }),
+        CLIENT_GETMAP => Ok(GameMsg::ClientGetmap),
+        SERVER_WAIT => read!(f; GameMsg::ServerWait { number: number8 }),
+        SERVER_MAP_BEGIN => read!(f; GameMsg::ServerMapBegin { frame: number32 }),
+        SERVER_MAP_SIZE => read!(f; GameMsg::ServerMapSize { size: number32 }),
+        SERVER_MAP_DONE => Ok(GameMsg::ServerMapDone),
+        CLIENT_MAP_OK => Ok(GameMsg::ClientMapOk),
+        _ => playing_fields_of(kind, f),
+    }
+}
+
+/// The same of a client that plays.
+fn playing_fields_of(kind: u8, f: &mut Fields) -> Result<GameMsg, Bad>
+    requires place { f.old.at ≡ 0 }
+    requires memory { TakesMemory kind → ⊥ }
+    ensures { Reads playing_messages kind result f.old f.new }
+{
+    match kind {
+        SERVER_JOIN => read!(f; GameMsg::ServerJoin { client: number32 }),
+        SERVER_FRAME =>
+            read!(f; GameMsg::ServerFrame { frame: number32, max: number32, token: number8 }),
+        SERVER_SYNC => read!(f; GameMsg::ServerSync { frame: number32, word: number32 }),
+        CLIENT_ACK => read!(f; GameMsg::ClientAck { frame: number32, token: number8 }),
+        CLIENT_COMMAND =>
+            read!(f; GameMsg::ClientCommand { company: number8, code: number16, number: number32, to: number8, text: text }),
+        SERVER_COMMAND =>
+            read!(f; GameMsg::ServerCommand { company: number8, code: number16, number: number32, to: number8,
+                text: text, frame: number32, sender: number32 }),
+        CLIENT_SET_NAME => read!(f; GameMsg::ClientSetName { name: text }),
+        SERVER_CLIENT_INFO =>
+            read!(f; GameMsg::ServerClientInfo { client: number32, company: number8, name: text }),
+        CLIENT_SET_PASSWORD => read!(f; GameMsg::ClientSetPassword { digest: optional_digest }),
+        CLIENT_MOVE => read!(f; GameMsg::ClientMove { company: number8, digest: optional_digest }),
+        SERVER_MOVE => read!(f; GameMsg::ServerMove { client: number32, company: number8 }),
+        CLIENT_ERROR => read!(f; GameMsg::ClientError { code: up_to }),
+        SERVER_ERROR_QUIT => read!(f; GameMsg::ServerErrorQuit { client: number32, code: up_to }),
+        CLIENT_QUIT => Ok(GameMsg::ClientQuit),
+        SERVER_QUIT => read!(f; GameMsg::ServerQuit { client: number32 }),
+        SERVER_SHUTDOWN => Ok(GameMsg::ServerShutdown),
+        SERVER_NEWGAME => Ok(GameMsg::ServerNewgame),
         _ => Err(Bad::Malformed { at: 0 }),
     }
 }
 
-/// The message that a body of that number spells. Four kinds take memory, and no other does.
+/// The fields of the message of that number.
+fn fields_or_memory(alloc: Global, kind: u8, f: &mut Fields) -> Result<GameMsg, Bad>
+    requires place { f.old.at ≡ 0 }
+    ensures read { ReadsOrMemory messages kind result f.old f.new }
+    ensures memory { result ≡ Err Memory → TakesMemory kind }
+{
+    match kind {
+        SERVER_CHECK_NEWGRFS => {
+            let count: UpTo<62> = up_to(f)?;
+            Ok(GameMsg::ServerCheckNewgrfs {
+                items: counted(alloc, u16::from(count.get()), f)?,
+            })
+        }
+        SERVER_MAP_DATA => {
+            let at = f.at();
+            match MapPiece::new(alloc, f.rest()) {
+                Ok(Some(rest)) => Ok(GameMsg::ServerMapData { rest }),
+                Ok(None) => Err(Bad::Malformed { at }),
+                Err(OutOfMemory) => Err(Bad::Memory),
+            }
+        }
+        CLIENT_CHAT => Ok(GameMsg::ClientChat {
+            scope: up_to(f)?,
+            to: number32(f)?,
+            text: long_text(alloc, f)?,
+        }),
+        SERVER_CHAT => Ok(GameMsg::ServerChat {
+            client: number32(f)?,
+            scope: up_to(f)?,
+            text: long_text(alloc, f)?,
+        }),
+        _ => fields_of(kind, f),
+    }
+}
+
+/// The message that a body of that number spells. Memory runs out only for those that take some.
 pub(crate) fn read(alloc: Global, kind: u8, body: &[u8]) -> Result<GameMsg, Bad>
-    ensures reads { ReadsOrMemory messages kind result (whole body.now) }
+    ensures read { MessageReadOrMemory result (read_by messages kind (whole body.now)) }
     ensures memory { result ≡ Err Memory → TakesMemory kind }
 {
     let f = &mut Fields::new(body);
-    match kind {
-        SERVER_CHECK_NEWGRFS => joining::read_server_check_newgrfs(alloc, f),
-        SERVER_MAP_DATA => map_coming::read_server_map_data(alloc, f),
-        CLIENT_CHAT => playing::read_client_chat(alloc, f),
-        SERVER_CHAT => playing::read_server_chat(alloc, f),
-        _ => by_kind(kind, f),
-    }
+    let fields = fields_or_memory(alloc, kind, f);
+    ended(fields, f)
 }
 
 /// The name of the message of that number.
@@ -203,6 +262,22 @@ pub(crate) fn name_of(kind: u8) -> &'static [u8]
     }
 }
 
+/// Tells these parts, which are some message's.
+fn told<W: PartWriter>(to: &mut W, parts: &[Part]) -> Result<(), OutOfMemory>
+    requires { PartsFit parts.now }
+    ensures { TellsThese game_family W.word (all_said_by parts.now) result (W.text to.old) (W.text to.new) }
+{
+    tell(to, parts)
+}
+
+#[tactic(auto, unfolding(tt_frame::specs::Families::Tells))]
+fn tell_server_check_newgrfs<W: PartWriter>(to: &mut W, items: &Files) -> Result<(), OutOfMemory>
+    ensures { Tells game_family W.word (ServerCheckNewgrfs items.now) result (W.text to.old) (W.text to.new) }
+{
+    let count = items.len() as u8;
+    tell_counted(to, &[Head(SERVER_CHECK_NEWGRFS), Count8(count)], items)
+}
+
 /// Tells the message's parts.
 pub(crate) fn tell_parts<W: PartWriter>(
     message: &GameMsg,
@@ -211,16 +286,17 @@ pub(crate) fn tell_parts<W: PartWriter>(
     ensures { Tells game_family W.word message.now result (W.text writer.old) (W.text writer.new) }
 {
     match message {
-        GameMsg::ServerFull => joining::tell_server_full(writer),
-        GameMsg::ServerBanned => joining::tell_server_banned(writer),
+        GameMsg::ServerFull => told!(writer; Head(SERVER_FULL)),
+        GameMsg::ServerBanned => told!(writer; Head(SERVER_BANNED)),
         GameMsg::ClientJoin {
             revision,
             grf,
             name,
             company,
-        } => joining::tell_client_join(writer, revision, *grf, name, *company),
-        GameMsg::ServerError { code } => joining::tell_server_error(writer, *code),
-        GameMsg::ClientGameInfo => joining::tell_client_game_info(writer),
+        } =>
+            told!(writer; Head(CLIENT_JOIN), Words(revision.bytes()), U32(*grf), Words(name.bytes()), U8(*company)),
+        GameMsg::ServerError { code } => told!(writer; Head(SERVER_ERROR), U8(code.get())),
+        GameMsg::ClientGameInfo => told!(writer; Head(CLIENT_GAME_INFO)),
         GameMsg::ServerGameInfo {
             name,
             frame,
@@ -228,45 +304,43 @@ pub(crate) fn tell_parts<W: PartWriter>(
             companies,
             max,
             password,
-        } => joining::tell_server_game_info(
-            writer, name, *frame, *clients, *companies, *max, *password,
-        ),
-        GameMsg::ServerCheckNewgrfs { items } => joining::tell_server_check_newgrfs(writer, items),
-        GameMsg::ClientNewgrfsChecked => joining::tell_client_newgrfs_checked(writer),
-        GameMsg::ServerNeedGamePassword { seed, id } => joining::tell_server_need_game_password(
-            writer, *seed, id,
-        ),
-        GameMsg::ClientGamePassword { digest } => joining::tell_client_game_password(
-            writer, digest,
-        ),
+        } =>
+            told!(writer; Head(SERVER_GAME_INFO), Words(name.bytes()), U32(*frame), U8(*clients), U8(*companies),
+                U8(*max), Truth(*password)),
+        GameMsg::ServerCheckNewgrfs { items } => tell_server_check_newgrfs(writer, items),
+        GameMsg::ClientNewgrfsChecked => told!(writer; Head(CLIENT_NEWGRFS_CHECKED)),
+        GameMsg::ServerNeedGamePassword { seed, id } =>
+            told!(writer; Head(SERVER_NEED_GAME_PASSWORD), U32(*seed), Words(id.bytes())),
+        GameMsg::ClientGamePassword { digest } =>
+            told!(writer; Head(CLIENT_GAME_PASSWORD), Words(digest.bytes())),
         GameMsg::ServerNeedCompanyPassword { seed, id } =>
-            joining::tell_server_need_company_password(writer, *seed, id),
-        GameMsg::ClientCompanyPassword { digest } => joining::tell_client_company_password(
-            writer, digest,
-        ),
-        GameMsg::ServerWelcome { client, seed, id } => joining::tell_server_welcome(
-            writer, *client, *seed, id,
-        ),
-        GameMsg::ClientGetmap => map_coming::tell_client_getmap(writer),
-        GameMsg::ServerWait { number } => map_coming::tell_server_wait(writer, *number),
-        GameMsg::ServerMapBegin { frame } => map_coming::tell_server_map_begin(writer, *frame),
-        GameMsg::ServerMapSize { size } => map_coming::tell_server_map_size(writer, *size),
-        GameMsg::ServerMapData { rest } => map_coming::tell_server_map_data(writer, rest),
-        GameMsg::ServerMapDone => map_coming::tell_server_map_done(writer),
-        GameMsg::ClientMapOk => map_coming::tell_client_map_ok(writer),
-        GameMsg::ServerJoin { client } => playing::tell_server_join(writer, *client),
-        GameMsg::ServerFrame { frame, max, token } => playing::tell_server_frame(
-            writer, *frame, *max, *token,
-        ),
-        GameMsg::ServerSync { frame, word } => playing::tell_server_sync(writer, *frame, *word),
-        GameMsg::ClientAck { frame, token } => playing::tell_client_ack(writer, *frame, *token),
+            told!(writer; Head(SERVER_NEED_COMPANY_PASSWORD), U32(*seed), Words(id.bytes())),
+        GameMsg::ClientCompanyPassword { digest } =>
+            told!(writer; Head(CLIENT_COMPANY_PASSWORD), Words(digest.bytes())),
+        GameMsg::ServerWelcome { client, seed, id } =>
+            told!(writer; Head(SERVER_WELCOME), U32(*client), U32(*seed), Words(id.bytes())),
+        GameMsg::ClientGetmap => told!(writer; Head(CLIENT_GETMAP)),
+        GameMsg::ServerWait { number } => told!(writer; Head(SERVER_WAIT), U8(*number)),
+        GameMsg::ServerMapBegin { frame } => told!(writer; Head(SERVER_MAP_BEGIN), U32(*frame)),
+        GameMsg::ServerMapSize { size } => told!(writer; Head(SERVER_MAP_SIZE), U32(*size)),
+        GameMsg::ServerMapData { rest } => told!(writer; Head(SERVER_MAP_DATA), Raw(rest.bytes())),
+        GameMsg::ServerMapDone => told!(writer; Head(SERVER_MAP_DONE)),
+        GameMsg::ClientMapOk => told!(writer; Head(CLIENT_MAP_OK)),
+        GameMsg::ServerJoin { client } => told!(writer; Head(SERVER_JOIN), U32(*client)),
+        GameMsg::ServerFrame { frame, max, token } =>
+            told!(writer; Head(SERVER_FRAME), U32(*frame), U32(*max), U8(*token)),
+        GameMsg::ServerSync { frame, word } =>
+            told!(writer; Head(SERVER_SYNC), U32(*frame), U32(*word)),
+        GameMsg::ClientAck { frame, token } =>
+            told!(writer; Head(CLIENT_ACK), U32(*frame), U8(*token)),
         GameMsg::ClientCommand {
             company,
             code,
             number,
             to,
             text,
-        } => playing::tell_client_command(writer, *company, *code, *number, *to, text),
+        } =>
+            told!(writer; Head(CLIENT_COMMAND), U8(*company), U16(*code), U32(*number), U8(*to), Words(text.bytes())),
         GameMsg::ServerCommand {
             company,
             code,
@@ -275,37 +349,36 @@ pub(crate) fn tell_parts<W: PartWriter>(
             text,
             frame,
             sender,
-        } => playing::tell_server_command(
-            writer, *company, *code, *number, *to, text, *frame, *sender,
-        ),
-        GameMsg::ClientChat { scope, to, text } => playing::tell_client_chat(
-            writer, *scope, *to, text,
-        ),
+        } =>
+            told!(writer; Head(SERVER_COMMAND), U8(*company), U16(*code), U32(*number), U8(*to), Words(text.bytes()),
+                U32(*frame), U32(*sender)),
+        GameMsg::ClientChat { scope, to, text } =>
+            told!(writer; Head(CLIENT_CHAT), U8(scope.get()), U32(*to), Words(text.bytes())),
         GameMsg::ServerChat {
             client,
             scope,
             text,
-        } => playing::tell_server_chat(writer, *client, *scope, text),
-        GameMsg::ClientSetName { name } => playing::tell_client_set_name(writer, name),
+        } => told!(writer; Head(SERVER_CHAT), U32(*client), U8(scope.get()), Words(text.bytes())),
+        GameMsg::ClientSetName { name } =>
+            told!(writer; Head(CLIENT_SET_NAME), Words(name.bytes())),
         GameMsg::ServerClientInfo {
             client,
             company,
             name,
-        } => playing::tell_server_client_info(writer, *client, *company, name),
-        GameMsg::ClientSetPassword { digest } => playing::tell_client_set_password(writer, digest),
-        GameMsg::ClientMove { company, digest } => playing::tell_client_move(
-            writer, *company, digest,
-        ),
-        GameMsg::ServerMove { client, company } => playing::tell_server_move(
-            writer, *client, *company,
-        ),
-        GameMsg::ClientError { code } => playing::tell_client_error(writer, *code),
-        GameMsg::ServerErrorQuit { client, code } => playing::tell_server_error_quit(
-            writer, *client, *code,
-        ),
-        GameMsg::ClientQuit => playing::tell_client_quit(writer),
-        GameMsg::ServerQuit { client } => playing::tell_server_quit(writer, *client),
-        GameMsg::ServerShutdown => playing::tell_server_shutdown(writer),
-        GameMsg::ServerNewgame => playing::tell_server_newgame(writer),
+        } =>
+            told!(writer; Head(SERVER_CLIENT_INFO), U32(*client), U8(*company), Words(name.bytes())),
+        GameMsg::ClientSetPassword { digest } =>
+            told!(writer; Head(CLIENT_SET_PASSWORD), Words(digits_or_none(digest))),
+        GameMsg::ClientMove { company, digest } =>
+            told!(writer; Head(CLIENT_MOVE), U8(*company), Words(digits_or_none(digest))),
+        GameMsg::ServerMove { client, company } =>
+            told!(writer; Head(SERVER_MOVE), U32(*client), U8(*company)),
+        GameMsg::ClientError { code } => told!(writer; Head(CLIENT_ERROR), U8(code.get())),
+        GameMsg::ServerErrorQuit { client, code } =>
+            told!(writer; Head(SERVER_ERROR_QUIT), U32(*client), U8(code.get())),
+        GameMsg::ClientQuit => told!(writer; Head(CLIENT_QUIT)),
+        GameMsg::ServerQuit { client } => told!(writer; Head(SERVER_QUIT), U32(*client)),
+        GameMsg::ServerShutdown => told!(writer; Head(SERVER_SHUTDOWN)),
+        GameMsg::ServerNewgame => told!(writer; Head(SERVER_NEWGAME)),
     }
 }

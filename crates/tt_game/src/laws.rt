@@ -1,6 +1,6 @@
 //! What holds of all messages. These functions do nothing: their contracts are the laws.
 ghost use Rattle.std.specs.Prelude.{◌≡◌, ℕ, ◌+◌, ◌<◌, ◌≤◌, ◌^◌, List, ◌++◌, length, Ok};
-ghost use Rattle.tt_frame.specs.Packet.{Packet, packet};
+ghost use Rattle.tt_frame.specs.Packet.{Packet, packet, largest_sent};
 ghost use Rattle.tt_frame.specs.Framing.{BeginsWith};
 ghost use Rattle.tt_frame.specs.Unread.{whole};
 ghost use Rattle.tt_frame.specs.Tables.{read_by};
@@ -15,7 +15,7 @@ pub fn one_spelling()
 
 /// A message's packet has at most 1,460 bytes: as many as a program of this project sends in one packet.
 pub fn small_packets()
-    ensures { (m : GameMsg) (kind : ℕ) (body : List ℕ) → Spells m kind body → length body + 3 ≤ 1460 }
+    ensures { (m : GameMsg) (kind : ℕ) (body : List ℕ) → Spells m kind body → length body + 3 ≤ largest_sent }
 {}
 
 /// What is spelled is read.

@@ -1,7 +1,7 @@
 //! The messages between a client and the server of a game.
 ghost use Rattle.std.specs.Prelude.{◌≡◌, ◌⊎◌, ℕ, ◌≤◌, ◌+◌, ◌++◌, length, take, IfOk, OnOk, OnErr, Ok, Err};
 ghost use Rattle.tt_frame.specs.declared.bad.Bad.TheVariants.{Malformed, Memory};
-ghost use Rattle.tt_frame.specs.Packet.{packet};
+ghost use Rattle.tt_frame.specs.Packet.{packet, largest_packet};
 ghost use Rattle.tt_frame.specs.Unread.{whole};
 ghost use Rattle.tt_frame.specs.Tables.{MessageReadOrMemory, StopsBy, name_by, read_by};
 ghost use Rattle.tt_frame.specs.Said.{each_said};
@@ -236,7 +236,7 @@ impl GameMsg {
         // What is appended is one packet, whose number and body spell the message.
         ensures ok { OnOk result (out.new.items ≡ out.old.items ++ packet (kind_of self.now) (body_bytes self.now)) }
         ensures spelled { Spells self.now (kind_of self.now) (body_bytes self.now) }
-        ensures size { length (body_bytes self.now) + 3 ≤ 32767 }
+        ensures size { length (body_bytes self.now) + 3 ≤ largest_packet }
 
         ensures err { OnErr result (out.new.items ≡ out.old.items) }
     {

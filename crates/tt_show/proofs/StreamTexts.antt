@@ -1,27 +1,6 @@
 -- The text of bytes, packet by packet.
-use Rattle.std.proofs.Common.{
-  ◌≡◌,
-  ℕ,
-  ◌+◌,
-  ◌≤◌,
-  List,
-  [],
-  ◌∷◌,
-  ◌++◌,
-  length,
-  drop,
-  Option,
-  Some,
-  None,
-  refl,
-  sym,
-  ap,
-  ap₂,
-  subst,
-  ◌∙◌,
-  append_assoc,
-  arith,
-}
+use Rattle.std.proofs.Common.{◌≡◌, ℕ, ◌+◌, ◌≤◌, List, [], ◌∷◌, ◌++◌, length, drop, Option, Some, None, refl, sym, ap, ap₂, subst, ◌∙◌}
+use Rattle.std.proofs.Common.{append_assoc, arith}
 use Rattle.std.proofs.lemmas.List.{append-nil, drop-drop, length-drop, nil_from_length}
 use Rattle.tt_frame.specs.Packet.{Packet, IsBytes, size_of}
 use Rattle.tt_frame.specs.Stream.{IsPartial, IsBadSize, End, rest_of, bad_size}
@@ -32,7 +11,8 @@ use Rattle.tt_frame.proofs.PacketLaws.{drop-packet, size_within}
 use Rattle.tt_frame.proofs.FirstLaws.{read_packet, read_partial, read_bad_size}
 use Rattle.tt_show.specs.declared.family.Family.{Family}
 use Rattle.tt_show.specs.Packets.{packet_text, Appends}
-use Rattle.tt_show.specs.Streams.{largest_packet, bad_text, partial_text, shown_before, packets_text}
+use Rattle.tt_frame.specs.Packet.{largest_packet}
+use Rattle.tt_show.specs.Streams.{bad_text, partial_text, shown_before, packets_text}
 
 -- the text of bytes of which the first stands at that place
 abbrev pub shown_at : Family → ℕ → List ℕ → List ℕ

@@ -1,15 +1,11 @@
 -- The text of a line's bytes: the lines of their packets.
 use Rattle.std.specs.Prelude.{ℕ, ◌+◌, List, [], ◌∷◌, ◌++◌, length, codes, Option, Some, None}
 use Rattle.std.specs.Fmt.{decimal}
-use Rattle.tt_frame.specs.Packet.{Packet, size_of}
+use Rattle.tt_frame.specs.Packet.{Packet, size_of, largest_packet}
 use Rattle.tt_frame.specs.Stream.{End, rest_of, bad_size}
 use Rattle.tt_frame.specs.StreamReading.{reading}
 use Rattle.tt_show.specs.declared.family.Family.{Family}
 use Rattle.tt_show.specs.Packets.{packet_text}
-
--- the largest packet that is read
-abbrev pub largest_packet : ℕ
-largest_packet = 32767
 
 -- what stands at that place is no packet, or one that spells nothing
 abbrev pub bad_text : ℕ → List ℕ

@@ -1,23 +1,8 @@
 -- The text of a message's values: a word for each, in the order of its row.
 use Rattle.std.specs.Prelude.{ℕ, List, [], ◌∷◌, ◌++◌, length}
 use Rattle.std.specs.Fmt.{decimal}
-use Rattle.tt_frame.specs.FieldForms.{
-  Named,
-  Field,
-  u8,
-  u16,
-  u32,
-  u64,
-  within,
-  truth,
-  text,
-  digest,
-  optional_digest,
-  raw,
-  Value,
-  optional_bytes,
-  truth_number,
-}
+use Rattle.tt_frame.specs.FieldForms.{Named, Field, u8, u16, u32, u64, within, truth, text, digest, optional_digest, raw, Value}
+use Rattle.tt_frame.specs.FieldForms.{optional_bytes, truth_number}
 use Rattle.tt_frame.specs.ItemForms.{Item}
 use Rattle.tt_frame.specs.Rows.{Row, unknown, end, rest, ◌▸◌, fixed, counted, marked}
 use Rattle.tt_frame.specs.Apart.{Values}

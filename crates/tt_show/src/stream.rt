@@ -6,11 +6,8 @@ ghost use Rattle.tt_show.specs.Streams.{bad_text, partial_text, bytes_shown};
 use crate::family::Family;
 use crate::packet::show_packet;
 use std::alloc::Global;
-use tt_frame::{Bad, Next, OutOfMemory, first_of};
+use tt_frame::{Bad, LARGEST_PACKET, Next, OutOfMemory, first_of};
 use tt_lines::{put, put_number};
-
-/// The largest packet that is read.
-const LARGEST_PACKET: u16 = 32767;
 
 /// Appends that what stands at that place is no packet, or one that spells nothing.
 fn put_bad(text: &mut Vec<u8>, place: usize) -> Result<(), OutOfMemory>

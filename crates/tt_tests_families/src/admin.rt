@@ -1,4 +1,5 @@
 //! The greeting of an admin and the commands of a game, there and back.
+mod fields;
 mod limits;
 mod rows;
 

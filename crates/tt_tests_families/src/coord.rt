@@ -1,4 +1,5 @@
 //! The lists of servers and files, and the messages of the STUN desk and the TURN server, there and back.
+mod fields;
 mod limits;
 mod rows;
 

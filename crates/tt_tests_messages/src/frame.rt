@@ -185,7 +185,7 @@ fn read(body: &[u8]) -> Result<(UpTo<14>, u8, u16, u32, Short), Bad> {
     let mut fields = Fields::new(body);
     let f = &mut fields;
     let all = (up_to(f)?, number8(f)?, number16(f)?, number32(f)?, text(f)?);
-    ended(f, all)
+    ended(Ok(all), f)
 }
 
 #[test]
@@ -218,7 +218,7 @@ fn read_others(body: &[u8]) -> Result<(u64, bool, [u8; 2], Digest, Option<Digest
         digest(f)?,
         optional_digest(f)?,
     );
-    ended(f, all)
+    ended(Ok(all), f)
 }
 
 /// 5, true, the bytes 6 and 7, the digits, and behind them an empty text.

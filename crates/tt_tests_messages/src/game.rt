@@ -1,4 +1,5 @@
 //! The join packet, there and back, cut and lengthened.
+mod fields;
 mod rows;
 
 use std::test::Fail;

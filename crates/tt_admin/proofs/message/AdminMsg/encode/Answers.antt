@@ -1,46 +1,28 @@
-use Rattle.std.proofs.Common.{◌∙◌, arith}
-use Rattle.std.proofs.lemmas.Result.{on_ok_weaker}
-use Rattle.tt_frame.specs.Said.{said_bytes}
-use Rattle.tt_frame.proofs.FamilyLaws.{told_fits, told_room, family_spells, family_size, sealed_ok, sealed_err}
+use Rattle.std.proofs.Common.{◌∙◌}
+use Rattle.tt_frame.proofs.FamilyLaws.{head_stands, has_room, told_spells, told_size, sealed_ok, sealed_err}
 use Rattle.tt_admin.specs.declared.message.AdminMsg.{AdminMsg}
 use Rattle.tt_admin.specs.Apart.{admin_family}
 use Rattle.tt_admin.proofs.MessageLaws.{admin_lawful}
 use Rattle.tt_admin.proofs.message.AdminMsg.encode.Goals as goal
 
 pub finish-requires-clause-header : goal.finish-requires-clause-header
-finish-requires-clause-header c = on_ok_weaker c.tell_parts-written.result (λ room. omega (
-  arith,
-  room.0,
-  c.len-start.ensures,
-  c.args.out.now.ok.0,
-  c.tell_parts-written.new.writer.ok.0,
-)) (told_room AdminMsg admin_family admin_lawful c.args.self.now
-    c.tell_parts-written.result _ _ c.tell_parts-written.ensures)
+finish-requires-clause-header c = head_stands AdminMsg admin_family admin_lawful c.args.self.now c.tell_parts-written.result _ _
+    (c.len-start.ensures ∙ c.args.out.now.ok.0) c.tell_parts-written.new.writer.ok.0 c.tell_parts-written.ensures
 
 pub finish-requires-clause-size : goal.finish-requires-clause-size
-finish-requires-clause-size c = on_ok_weaker c.tell_parts-written.result (λ room. omega (
-  arith,
-  room.1,
-  c.len-start.ensures,
-  c.args.out.now.ok.0,
-  c.tell_parts-written.new.writer.ok.0,
-)) (told_room AdminMsg admin_family admin_lawful c.args.self.now
-    c.tell_parts-written.result _ _ c.tell_parts-written.ensures)
+finish-requires-clause-size c = has_room AdminMsg admin_family admin_lawful c.args.self.now c.tell_parts-written.result _ _
+    (c.len-start.ensures ∙ c.args.out.now.ok.0) c.tell_parts-written.new.writer.ok.0 c.tell_parts-written.ensures
 
 pub returns-clause-ok : goal.returns-clause-ok
-returns-clause-ok c = sealed_ok AdminMsg admin_family c.args.self.now c.tell_parts-written.result c.finish.result c.len-start.result
-    c.args.out.now.items c.tell_parts-written.new.writer.items c.finish.new.out.items (c.len-start.ensures
-    ∙ c.args.out.now.ok.0) c.finish.ensures.same c.tell_parts-written.ensures c.finish.ensures.exact
+returns-clause-ok c = sealed_ok AdminMsg admin_family c.args.self.now c.tell_parts-written.result c.finish.result c.len-start.result c.args.out.now.items
+    c.tell_parts-written.new.writer.items c.finish.new.out.items (c.len-start.ensures ∙ c.args.out.now.ok.0) c.finish.ensures.same c.tell_parts-written.ensures c.finish.ensures.exact
 
 pub returns-clause-err : goal.returns-clause-err
-returns-clause-err c = sealed_err AdminMsg admin_family c.args.self.now c.tell_parts-written.result c.finish.result c.len-start.result
-    c.args.out.now.items c.tell_parts-written.new.writer.items c.finish.new.out.items (c.len-start.ensures
-    ∙ c.args.out.now.ok.0) c.finish.ensures.same c.tell_parts-written.ensures c.finish.ensures.err
+returns-clause-err c = sealed_err AdminMsg admin_family c.args.self.now c.tell_parts-written.result c.finish.result c.len-start.result c.args.out.now.items
+    c.tell_parts-written.new.writer.items c.finish.new.out.items (c.len-start.ensures ∙ c.args.out.now.ok.0) c.finish.ensures.same c.tell_parts-written.ensures c.finish.ensures.err
 
 pub returns-clause-spelled : goal.returns-clause-spelled
-returns-clause-spelled c = family_spells AdminMsg admin_family admin_lawful c.args.self.now (told_fits AdminMsg admin_family said_bytes
-    c.args.self.now c.tell_parts-written.result _ _ c.tell_parts-written.ensures)
+returns-clause-spelled c = told_spells AdminMsg admin_family admin_lawful c.args.self.now c.tell_parts-written.result _ _ c.tell_parts-written.ensures
 
 pub returns-clause-size : goal.returns-clause-size
-returns-clause-size c = family_size AdminMsg admin_family admin_lawful c.args.self.now (told_fits AdminMsg admin_family said_bytes
-    c.args.self.now c.tell_parts-written.result _ _ c.tell_parts-written.ensures)
+returns-clause-size c = told_size AdminMsg admin_family admin_lawful c.args.self.now c.tell_parts-written.result _ _ c.tell_parts-written.ensures

@@ -1,46 +1,28 @@
-use Rattle.std.proofs.Common.{◌∙◌, arith}
-use Rattle.std.proofs.lemmas.Result.{on_ok_weaker}
-use Rattle.tt_frame.specs.Said.{said_bytes}
-use Rattle.tt_frame.proofs.FamilyLaws.{told_fits, told_room, family_spells, family_size, sealed_ok, sealed_err}
+use Rattle.std.proofs.Common.{◌∙◌}
+use Rattle.tt_frame.proofs.FamilyLaws.{head_stands, has_room, told_spells, told_size, sealed_ok, sealed_err}
 use Rattle.tt_coord.specs.declared.stun.StunMsg.{StunMsg}
 use Rattle.tt_coord.specs.Stun.{stun_family}
 use Rattle.tt_coord.proofs.StunLaws.{stun_lawful}
 use Rattle.tt_coord.proofs.stun.StunMsg.encode.Goals as goal
 
 pub finish-requires-clause-header : goal.finish-requires-clause-header
-finish-requires-clause-header c = on_ok_weaker c.tell_parts-written.result (λ room. omega (
-  arith,
-  room.0,
-  c.len-start.ensures,
-  c.args.out.now.ok.0,
-  c.tell_parts-written.new.to.ok.0,
-)) (told_room StunMsg stun_family stun_lawful c.args.self.now
-    c.tell_parts-written.result _ _ c.tell_parts-written.ensures)
+finish-requires-clause-header c = head_stands StunMsg stun_family stun_lawful c.args.self.now c.tell_parts-written.result _ _
+    (c.len-start.ensures ∙ c.args.out.now.ok.0) c.tell_parts-written.new.to.ok.0 c.tell_parts-written.ensures
 
 pub finish-requires-clause-size : goal.finish-requires-clause-size
-finish-requires-clause-size c = on_ok_weaker c.tell_parts-written.result (λ room. omega (
-  arith,
-  room.1,
-  c.len-start.ensures,
-  c.args.out.now.ok.0,
-  c.tell_parts-written.new.to.ok.0,
-)) (told_room StunMsg stun_family stun_lawful c.args.self.now
-    c.tell_parts-written.result _ _ c.tell_parts-written.ensures)
+finish-requires-clause-size c = has_room StunMsg stun_family stun_lawful c.args.self.now c.tell_parts-written.result _ _
+    (c.len-start.ensures ∙ c.args.out.now.ok.0) c.tell_parts-written.new.to.ok.0 c.tell_parts-written.ensures
 
 pub returns-clause-ok : goal.returns-clause-ok
-returns-clause-ok c = sealed_ok StunMsg stun_family c.args.self.now c.tell_parts-written.result c.finish.result c.len-start.result
-    c.args.out.now.items c.tell_parts-written.new.to.items c.finish.new.out.items (c.len-start.ensures
-    ∙ c.args.out.now.ok.0) c.finish.ensures.same c.tell_parts-written.ensures c.finish.ensures.exact
+returns-clause-ok c = sealed_ok StunMsg stun_family c.args.self.now c.tell_parts-written.result c.finish.result c.len-start.result c.args.out.now.items
+    c.tell_parts-written.new.to.items c.finish.new.out.items (c.len-start.ensures ∙ c.args.out.now.ok.0) c.finish.ensures.same c.tell_parts-written.ensures c.finish.ensures.exact
 
 pub returns-clause-err : goal.returns-clause-err
-returns-clause-err c = sealed_err StunMsg stun_family c.args.self.now c.tell_parts-written.result c.finish.result c.len-start.result
-    c.args.out.now.items c.tell_parts-written.new.to.items c.finish.new.out.items (c.len-start.ensures
-    ∙ c.args.out.now.ok.0) c.finish.ensures.same c.tell_parts-written.ensures c.finish.ensures.err
+returns-clause-err c = sealed_err StunMsg stun_family c.args.self.now c.tell_parts-written.result c.finish.result c.len-start.result c.args.out.now.items
+    c.tell_parts-written.new.to.items c.finish.new.out.items (c.len-start.ensures ∙ c.args.out.now.ok.0) c.finish.ensures.same c.tell_parts-written.ensures c.finish.ensures.err
 
 pub returns-clause-spelled : goal.returns-clause-spelled
-returns-clause-spelled c = family_spells StunMsg stun_family stun_lawful c.args.self.now (told_fits StunMsg stun_family said_bytes
-    c.args.self.now c.tell_parts-written.result _ _ c.tell_parts-written.ensures)
+returns-clause-spelled c = told_spells StunMsg stun_family stun_lawful c.args.self.now c.tell_parts-written.result _ _ c.tell_parts-written.ensures
 
 pub returns-clause-size : goal.returns-clause-size
-returns-clause-size c = family_size StunMsg stun_family stun_lawful c.args.self.now (told_fits StunMsg stun_family said_bytes
-    c.args.self.now c.tell_parts-written.result _ _ c.tell_parts-written.ensures)
+returns-clause-size c = told_size StunMsg stun_family stun_lawful c.args.self.now c.tell_parts-written.result _ _ c.tell_parts-written.ensures
