@@ -124,7 +124,7 @@ fn a_digest_is_32_lower_case_hexadecimal_digits(rt: HostRuntime) -> Result<(), F
     for byte in [47, 58, b'A', b'F', 96, 103] {
         let mut other = DIGITS;
         other[31] = byte;
-        assert!(rt; Digest::new(&other).is_none());
+        assert!(rt; Digest::new(&other).is_none(), "byte {byte}");
     }
     Ok(())
 }
@@ -256,8 +256,8 @@ fn another_field_that_is_not_there_is_told_by_its_place(rt: HostRuntime) {
         let mut body = others();
         body[place] = byte;
         match read_others(&body) {
-            Err(Bad::Malformed { at }) => assert_eq!(rt; at, told),
-            _ => assert!(rt; false),
+            Err(Bad::Malformed { at }) => assert_eq!(rt; at, told, "place {place}"),
+            _ => assert!(rt; false, "place {place}"),
         }
     }
 }

@@ -60,15 +60,15 @@ fn the_join_packet_is_cut_at_each_place(rt: HostRuntime) -> Result<(), Fail> {
     let packet = JOIN;
     for place in 0..17 {
         let mut framer = Framer::new(rt.alloc(), 17)?;
-        assert_eq!(rt; framer.feed(&packet[..place]), place);
-        assert!(rt; matches!(framer.next(), Next::Partial));
-        assert_eq!(rt; framer.feed(&packet[place..]), 17 - place);
+        assert_eq!(rt; framer.feed(&packet[..place]), place, "cut at {place}");
+        assert!(rt; matches!(framer.next(), Next::Partial), "cut at {place}");
+        assert_eq!(rt; framer.feed(&packet[place..]), 17 - place, "cut at {place}");
         match framer.next() {
             Next::Packet { kind, body } => {
                 let message = GameMsg::decode(rt.alloc(), kind, body)?;
-                assert!(rt; message == join()?);
+                assert!(rt; message == join()?, "cut at {place}");
             }
-            _ => assert!(rt; false),
+            _ => assert!(rt; false, "cut at {place}"),
         }
     }
     Ok(())
@@ -81,10 +81,10 @@ const PLACES: [usize; 14] = [0, 0, 0, 0, 0, 5, 5, 5, 5, 9, 9, 9, 9, 13];
 fn a_shortened_join_packet_is_malformed_at_the_missing_field(rt: HostRuntime) {
     let packet = JOIN;
     for (count, place) in PLACES.iter().enumerate() {
-        assert!(rt; count < 14);
+        assert!(rt; count < 14, "{count} bytes");
         match GameMsg::decode(rt.alloc(), 2, &packet[3..3 + count]) {
-            Err(Bad::Malformed { at }) => assert_eq!(rt; at, *place),
-            _ => assert!(rt; false),
+            Err(Bad::Malformed { at }) => assert_eq!(rt; at, *place, "{count} bytes"),
+            _ => assert!(rt; false, "{count} bytes"),
         }
     }
 }
@@ -95,8 +95,8 @@ fn a_lengthened_join_packet_is_malformed_behind_its_last_field(rt: HostRuntime) 
     long[..14].copy_from_slice(&JOIN[3..]);
     for count in 15..41 {
         match GameMsg::decode(rt.alloc(), 2, &long[..count]) {
-            Err(Bad::Malformed { at }) => assert_eq!(rt; at, 14),
-            _ => assert!(rt; false),
+            Err(Bad::Malformed { at }) => assert_eq!(rt; at, 14, "{count} bytes"),
+            _ => assert!(rt; false, "{count} bytes"),
         }
     }
 }

@@ -98,9 +98,9 @@ fn bad_line(alloc: Global, input: &[u8]) -> Option<u32> {
 
 #[test]
 fn each_message_has_its_line(rt: HostRuntime) -> Result<(), Fail> {
-    for row in rows().iter() {
+    for (number, row) in rows().iter().enumerate() {
         let (line, text) = *row;
-        assert_eq!(rt; show(rt.alloc(), line)?.as_slice(), text);
+        assert_eq!(rt; show(rt.alloc(), line)?.as_slice(), text, "row {number}");
     }
     Ok(())
 }
@@ -133,9 +133,9 @@ fn lists() -> &'static [(&'static [u8], &'static [u8])] {
 
 #[test]
 fn each_list_has_its_text(rt: HostRuntime) -> Result<(), Fail> {
-    for row in lists().iter() {
+    for (number, row) in lists().iter().enumerate() {
         let (input, text) = *row;
-        assert_eq!(rt; show(rt.alloc(), input)?.as_slice(), text);
+        assert_eq!(rt; show(rt.alloc(), input)?.as_slice(), text, "row {number}");
     }
     Ok(())
 }
@@ -163,9 +163,9 @@ fn bad() -> &'static [(&'static [u8], u32)] {
 
 #[test]
 fn the_first_bad_line_is_told(rt: HostRuntime) {
-    for row in bad().iter() {
+    for (number, row) in bad().iter().enumerate() {
         let (input, line) = *row;
-        assert_eq!(rt; bad_line(rt.alloc(), input), Some(line));
+        assert_eq!(rt; bad_line(rt.alloc(), input), Some(line), "row {number}");
     }
 }
 

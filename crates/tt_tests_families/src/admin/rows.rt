@@ -71,13 +71,13 @@ pub(crate) fn place_of(alloc: Global, kind: u8, body: &[u8]) -> Option<usize> {
 fn each_packet_is_decoded_and_encoded(rt: HostRuntime) -> Result<(), Fail> {
     for row in rows().iter() {
         let (kind, _, body) = *row;
-        assert!(rt; body.len() < 200);
+        assert!(rt; body.len() < 200, "number {kind}");
         let mut packet = vec![in rt.alloc(); body.len() as u8 + 3, 0, kind]?;
         packet.extend_from_slice(body)?;
         let message = AdminMsg::decode(rt.alloc(), kind, body)?;
         let mut out = Vec::new(rt.alloc());
         message.encode(&mut out)?;
-        assert_eq!(rt; out.as_slice(), packet.as_slice());
+        assert_eq!(rt; out.as_slice(), packet.as_slice(), "number {kind}");
     }
     Ok(())
 }

@@ -107,11 +107,11 @@ pub(crate) fn place_of(alloc: Global, family: Family, kind: u8, body: &[u8]) -> 
 fn each_packet_is_decoded_and_encoded(rt: HostRuntime) -> Result<(), Fail> {
     for row in rows().iter() {
         let (family, kind, _, body) = *row;
-        assert!(rt; body.len() < 200);
+        assert!(rt; body.len() < 200, "number {kind}");
         let mut packet = vec![in rt.alloc(); body.len() as u8 + 3, 0, kind]?;
         packet.extend_from_slice(body)?;
         let out = again(rt.alloc(), family, kind, body)?;
-        assert_eq!(rt; out.as_slice(), packet.as_slice());
+        assert_eq!(rt; out.as_slice(), packet.as_slice(), "number {kind}");
     }
     Ok(())
 }

@@ -66,14 +66,14 @@ fn place_of(alloc: Global, kind: u8, body: &[u8]) -> Option<usize> {
 fn each_packet_is_decoded_and_encoded(rt: HostRuntime) -> Result<(), Fail> {
     for (number, row) in rows().iter().enumerate() {
         let (kind, _, body) = *row;
-        assert_eq!(rt; usize::from(kind), number);
-        assert!(rt; body.len() < 200);
+        assert_eq!(rt; usize::from(kind), number, "row {number}");
+        assert!(rt; body.len() < 200, "number {kind}");
         let mut packet = vec![in rt.alloc(); body.len() as u8 + 3, 0, kind]?;
         packet.extend_from_slice(body)?;
         let message = GameMsg::decode(rt.alloc(), kind, body)?;
         let mut out = Vec::new(rt.alloc());
         message.encode(&mut out)?;
-        assert_eq!(rt; out.as_slice(), packet.as_slice());
+        assert_eq!(rt; out.as_slice(), packet.as_slice(), "number {kind}");
     }
     Ok(())
 }
@@ -164,7 +164,7 @@ fn a_digest_may_be_left_out(rt: HostRuntime) -> Result<(), Fail> {
 fn a_piece_of_a_map_has_1_to_1400_bytes(rt: HostRuntime) -> Result<(), Fail> {
     let bytes = [7; 1401];
     for count in [1, 2, 3, 4, 5, 1399, 1400] {
-        assert!(rt; GameMsg::decode(rt.alloc(), 17, &bytes[..count]).is_ok());
+        assert!(rt; GameMsg::decode(rt.alloc(), 17, &bytes[..count]).is_ok(), "{count} bytes");
     }
     assert_eq!(rt; place_of(rt.alloc(), 17, &[]), Some(0));
     assert_eq!(rt; place_of(rt.alloc(), 17, &bytes), Some(0));

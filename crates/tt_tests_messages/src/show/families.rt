@@ -154,9 +154,9 @@ fn rows() -> &'static [(&'static [u8], &'static [u8])] {
 
 #[test]
 fn each_message_of_the_other_families_has_its_line(rt: HostRuntime) -> Result<(), Fail> {
-    for row in rows().iter() {
+    for (number, row) in rows().iter().enumerate() {
         let (line, text) = *row;
-        assert_eq!(rt; show(rt.alloc(), line)?.as_slice(), text);
+        assert_eq!(rt; show(rt.alloc(), line)?.as_slice(), text, "row {number}");
     }
     Ok(())
 }
@@ -192,9 +192,9 @@ fn lists() -> &'static [(&'static [u8], &'static [u8])] {
 
 #[test]
 fn each_list_of_the_other_families_has_its_text(rt: HostRuntime) -> Result<(), Fail> {
-    for row in lists().iter() {
+    for (number, row) in lists().iter().enumerate() {
         let (input, text) = *row;
-        assert_eq!(rt; show(rt.alloc(), input)?.as_slice(), text);
+        assert_eq!(rt; show(rt.alloc(), input)?.as_slice(), text, "row {number}");
     }
     Ok(())
 }

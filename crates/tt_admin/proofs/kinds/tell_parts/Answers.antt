@@ -25,16 +25,14 @@ pub returns-in-AdminPing : goal.returns-in-AdminPing
 returns-in-AdminPing g c = c.told-in-AdminPing.ensures _ _ c.in-AdminPing.is refl (search)
 
 pub returns-in-AdminExternalChat : goal.returns-in-AdminExternalChat
-returns-in-AdminExternalChat g c = c.told-in-AdminExternalChat.ensures _ _ c.in-AdminExternalChat.is
-    (rw (c.bytes-in-AdminExternalChat.ensures.same, c.bytes-in-AdminExternalChat-2.ensures.same) refl) (search)
+returns-in-AdminExternalChat g c = c.told-in-AdminExternalChat.ensures _ _ c.in-AdminExternalChat.is (search rules) (search)
 
 pub returns-in-ServerError : goal.returns-in-ServerError
 returns-in-ServerError g c = c.told-in-ServerError.ensures _ _ c.in-ServerError.is
     (rw c.get-in-ServerError.ensures.same refl) (search rules)
 
 pub returns-in-ServerWelcome : goal.returns-in-ServerWelcome
-returns-in-ServerWelcome g c = c.told-in-ServerWelcome.ensures _ _ c.in-ServerWelcome.is
-    (rw (c.bytes-in-ServerWelcome.ensures.same, c.bytes-in-ServerWelcome-2.ensures.same) refl) (search)
+returns-in-ServerWelcome g c = c.told-in-ServerWelcome.ensures _ _ c.in-ServerWelcome.is (search rules) (search)
 
 pub returns-in-ServerDate : goal.returns-in-ServerDate
 returns-in-ServerDate g c = c.told-in-ServerDate.ensures _ _ c.in-ServerDate.is refl (search)
