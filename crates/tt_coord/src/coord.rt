@@ -267,7 +267,8 @@ fn tell_update<'a, W: PartWriter>(
     password: bool,
     frame: u32,
 ) -> Result<(), OutOfMemory>
-    ensures { Tells coord_family W.word (server_update name.now revision.now clients max companies password frame) result (W.text to.old) (W.text to.new) }
+    ensures { Tells coord_family W.word (server_update name.now revision.now clients max companies password frame) result
+        (W.text to.old) (W.text to.new) }
 {
     tell(
         to,

@@ -26,7 +26,8 @@ pub fn small_packets()
     ensures coord { (m : CoordMsg) (kind : ℕ) (body : List ℕ) → CoordSpells m kind body → length body + 3 ≤ largest_packet }
     ensures stun { (m : StunMsg) (kind : ℕ) (body : List ℕ) → StunSpells m kind body → length body + 3 ≤ largest_packet }
     ensures turn { (m : TurnMsg) (kind : ℕ) (body : List ℕ) → TurnSpells m kind body → length body + 3 ≤ largest_packet }
-    ensures coord_sent { (m : CoordMsg) (kind : ℕ) (body : List ℕ) → CoordSpells m kind body → kind ≢ 5 → kind ≢ 15 → length body + 3 ≤ largest_sent }
+    ensures coord_sent { (m : CoordMsg) (kind : ℕ) (body : List ℕ) → CoordSpells m kind body → kind ≢ 5 → kind ≢ 15
+        → length body + 3 ≤ largest_sent }
     ensures stun_sent { (m : StunMsg) (kind : ℕ) (body : List ℕ) → StunSpells m kind body → length body + 3 ≤ largest_sent }
     ensures turn_sent { (m : TurnMsg) (kind : ℕ) (body : List ℕ) → TurnSpells m kind body → length body + 3 ≤ largest_sent }
 {}

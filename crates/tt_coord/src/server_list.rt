@@ -30,9 +30,35 @@ impl Model for Listed {
 
     ghost Value = { List ℕ × (List ℕ × (List ℕ × (ℕ × (ℕ × (ℕ × (Bool × (ℕ × Unit {0}))))))) };
 
-    ghost view = { λ server. (server.code, (server.info.name, (server.info.revision, (server.info.clients, (server.info.max, (server.info.companies, (server.info.password, (server.info.frame, tt)))))))) };
+    ghost view = { λ server. (
+      server.code,
+      (
+        server.info.name,
+        (
+          server.info.revision,
+          (
+            server.info.clients,
+            (
+              server.info.max,
+              (server.info.companies, (server.info.password, (server.info.frame, tt))),
+            ),
+          ),
+        ),
+      ),
+    ) };
 
-    ghost inverse = { λ value. record { code = value.0; info = record { name = value.1.0; revision = value.1.1.0; clients = value.1.1.1.0; max = value.1.1.1.1.0; companies = value.1.1.1.1.1.0; password = value.1.1.1.1.1.1.0; frame = value.1.1.1.1.1.1.1.0 } } };
+    ghost inverse = { λ value. record {
+      code = value.0;
+      info = record {
+        name = value.1.0;
+        revision = value.1.1.0;
+        clients = value.1.1.1.0;
+        max = value.1.1.1.1.0;
+        companies = value.1.1.1.1.1.0;
+        password = value.1.1.1.1.1.1.0;
+        frame = value.1.1.1.1.1.1.1.0;
+      };
+    } };
 }
 
 /// At most 255 servers.

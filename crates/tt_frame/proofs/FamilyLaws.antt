@@ -116,7 +116,8 @@ head_stands M family lawful m r before after here there told =
     on_ok_weaker r (λ size. omega (arith, here, there, size.0)) (room M family lawful m r before after told)
 
 pub has_room : (M : Type 0) (family : Family M) → Lawful family → (m : M) (r : Result (Unit {0}) OutOfMemory) (before after : List ℕ)
-    {start n : ℕ} → start ≡ length before → n ≡ length after → Tells family said_bytes m r before after → OnOk r (n ≤ start + largest_packet)
+    {start n : ℕ} → start ≡ length before → n ≡ length after → Tells family said_bytes m r before after
+    → OnOk r (n ≤ start + largest_packet)
 has_room M family lawful m r before after here there told =
     on_ok_weaker r (λ size. omega (arith, here, there, size.1)) (room M family lawful m r before after told)
 
@@ -148,6 +149,12 @@ sealed_err M family m r q start before written after here same told cut =
         → OnErr p (after ≡ before)
     both (Ok done) kept end = tt
     both (Err e) kept end = end ∙ ap (λ (n : ℕ). take n written) here ∙ kept
+
+-- the number under which a message is spelled is its number
+pub kind_is : (M : Type 0) (family : Family M) → Lawful family → (m : M) (kind : ℕ) (body : List ℕ) → SpelledBy family.table m kind body
+    → family_kind family m ≡ kind
+kind_is M family lawful m kind body spelled =
+    ap (λ (p : ℕ × List ℕ). p.0) (one_spelling M (spelling family) family.table m kind body lawful.apart spelled)
 
 -- whoever told a message's parts has told the message
 pub tells_these : (M : Type 0) (family : Family M) (word : Said → List ℕ) (said : List Said) (r : Result (Unit {0}) OutOfMemory)

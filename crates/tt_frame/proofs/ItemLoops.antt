@@ -63,39 +63,6 @@ pub fails_as : (X Z : Type 0) (fs : List Named) (view : X → List (Item fs)) (o
 fails_as X Z fs view one Memory front n i s t u total lt h so_far = h
 fails_as X Z fs view one (Malformed at) front n i s t u total lt h so_far = fails fs front n i s at total lt h so_far
 
-items_spelled-append : (fs : List Named) (xs ys : List (Item fs)) → items_spelled fs (xs ++ ys) ≡ items_spelled fs xs ++ items_spelled fs ys
-items_spelled-append fs [] ys = refl
-items_spelled-append fs (x ∷ xs) ys = ap (λ (r : List ℕ). item_spelled fs x ++ r) (items_spelled-append fs xs ys)
-    ∙ sym (append_assoc (item_spelled fs x) (items_spelled fs xs) (items_spelled fs ys))
-
--- the items so far, and one more
-pub items_more : (fs : List Named) (xs : List (Item fs)) (i : ℕ) (x : Item fs) → i < length xs
-    → items_spelled fs (take (i + 1) xs) ≡ items_spelled fs (take i xs) ++ item_spelled fs (get_or xs i x)
-items_more fs xs i x lt =
-    ap (λ (ys : List (Item fs)). items_spelled fs ys) (take_more xs i x lt)
-    ∙ items_spelled-append fs (take i xs) (get_or xs i x ∷ [])
-    ∙ ap (λ (r : List ℕ). items_spelled fs (take i xs) ++ r) (append-nil (item_spelled fs (get_or xs i x)))
-
--- one item more is written behind the others
-pub one_item : (fs : List Named) (old mid new : List ℕ) (xs : List (Item fs)) (i : ℕ) (x : Item fs) → i < length xs → x ≡ get_or xs i x
-    → mid ≡ old ++ items_spelled fs (take i xs)
-    → new ≡ mid ++ item_spelled fs x → new ≡ old ++ items_spelled fs (take (i + 1) xs)
-one_item fs old mid new xs i x lt is so_far step =
-    step
-    ∙ ap (λ (y : Item fs). mid ++ item_spelled fs y) is
-    ∙ ap (λ (r : List ℕ). r ++ item_spelled fs (get_or xs i x)) so_far
-    ∙ append_assoc old (items_spelled fs (take i xs)) (item_spelled fs (get_or xs i x))
-    ∙ ap (λ (r : List ℕ). old ++ r) (sym (items_more fs xs i x lt))
-
--- all of them are written
-pub all_items : (fs : List Named) (old new : List ℕ) (xs : List (Item fs)) (i : ℕ) → length xs ≤ i → new ≡ old
-    ++ items_spelled fs (take i xs) → new ≡ old ++ items_spelled fs xs
-all_items fs old new xs i le so_far = so_far ∙ ap (λ (ys : List (Item fs)). old ++ items_spelled fs ys) (take_all i xs le)
-
--- a part, and then what stands behind it
-pub in_turn : (old mid new part more : List ℕ) → mid ≡ old ++ part → new ≡ mid ++ more → new ≡ old ++ (part ++ more)
-in_turn old mid new part more one others = others ∙ ap (λ (r : List ℕ). r ++ more) one ∙ append_assoc old part more
-
 -- one item more that fits
 pub ItemsFit-push : (fs : List Named) (xs : List (Item fs)) (x : Item fs) → ItemsFit fs xs → ItemFits fs x → ItemsFit fs (xs ++ x ∷ [])
 ItemsFit-push fs [] x fit one = (one, tt)

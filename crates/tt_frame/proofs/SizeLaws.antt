@@ -102,25 +102,7 @@ row_size M (marked max fs r) make m body (xs, (after, (few, items_fit, parts, mo
           more,
     )
 
--- a table whose bodies have at most that many bytes
-abbrev pub is_short : {M : Type 0} → ℕ → List (Rule M) → Bool
-is_short most table = list_all (λ l. nat_le (longest l.fields) most) table
-
-by_test : (M : Type 0) (most : ℕ) (l k : Rule M) (m : M) (body : List ℕ) → longest l.fields ≤ most → (b : Bool)
-    → (RowSpells k.fields k.make m body → length body ≤ most) → (let j = cond b l k in RowSpells j.fields j.make m body)
-    → length body ≤ most
-by_test M most l k m body short true others h = omega (arith, row_size M l.fields l.make m body h)
-by_test M most l k m body short false others h = others h
-
-pub body_size : (M : Type 0) (most : ℕ) (table : List (Rule M)) (m : M) (kind : ℕ) (body : List ℕ) → is_short most table ≡ true
-    → SpelledBy table m kind body → length body ≤ most
-body_size M most [] m kind body short h = absurd h
-body_size M most (l ∷ ls) m kind body short h =
-    let both = and_both (nat_le (longest l.fields) most) (is_short most ls) short in
-    by_test M most l (rule_of ls kind) m body (le_of_test (longest l.fields) most both.0) (eqb kind l.kind) (body_size M most ls m kind
-    body both.1) h
-
--- ---- tables of which some messages are longer
+-- ---- tables
 
 abbrev pub is_one_of : List ℕ → ℕ → Bool
 is_one_of [] kind = false
@@ -150,3 +132,11 @@ body_size_but M ks most (l ∷ ls) m kind body short other h =
     let both = and_both (is_one_of ks l.kind || nat_le (longest l.fields) most) (is_short_but ks most ls) short in
     by_test_but M ks most l (rule_of ls kind) m kind body both.0 other (eqb kind l.kind) refl (body_size_but M ks most ls m kind body
     both.1 other) h
+
+-- a table whose bodies all have at most that many
+abbrev pub is_short : {M : Type 0} → ℕ → List (Rule M) → Bool
+is_short most table = is_short_but [] most table
+
+pub body_size : (M : Type 0) (most : ℕ) (table : List (Rule M)) (m : M) (kind : ℕ) (body : List ℕ) → is_short most table ≡ true
+    → SpelledBy table m kind body → length body ≤ most
+body_size M most table m kind body short h = body_size_but M [] most table m kind body short refl h

@@ -1,6 +1,7 @@
 -- The laws of a table: what is read is spelled so, what is spelled so is read, and where nothing is spelled the place is
 -- where the row stops.
-use Rattle.std.proofs.Common.{◌≡◌, ℕ, ◌+◌, ◌≤◌, ◌<◌, ◌^◌, ◌++◌, length, List, [], ◌∷◌, Bool, true, false, Result, Ok, Err, sym, ap, subst, refl, ◌∙◌, ◌⊎◌, inl, inr}
+use Rattle.std.proofs.Common.{◌≡◌, ℕ, ◌+◌, ◌≤◌, ◌<◌, ◌^◌, ◌++◌, length, List, [], ◌∷◌, Bool}
+use Rattle.std.proofs.Common.{true, false, Result, Ok, Err, sym, ap, subst, refl, ◌∙◌, ◌⊎◌, inl, inr}
 use Rattle.std.specs.Prelude.{◌≢◌, IfOk, ◌==◌, if◌then◌else◌}
 use Rattle.tt_frame.specs.Packet.{IsBytes, Packet, packet}
 use Rattle.tt_frame.specs.Framing.{BeginsWith}
@@ -92,18 +93,3 @@ stops_at {M} table kind body (Err (Malformed here)) at fits e made =
     (sym (read_by_row table kind (whole body)) ∙ made ∙ ap (λ (n : ℕ). Err n) same)
 
 -- ---- the fields of a message, and then its end
-
--- a call that takes no memory is one that may
-pub Reads-may : {M : Type 0} (table : List (Rule M)) (kind : ℕ) (r : Result M Bad) (s left : Unread) → Reads table kind r s left
-    → ReadsOrMemory table kind r s left
-unfolding Reads ReadsOrMemory
-Reads-may table kind (Ok m) s left read = read
-Reads-may table kind (Err Memory) s left read = tt
-Reads-may table kind (Err (Malformed at)) s left read = read
-
-pub fields_never_memory : {M : Type 0} (table : List (Rule M)) (kind : ℕ) (r : Result M Bad) (s left : Unread) → Reads table kind r s left
-    → r ≢ Err Memory
-unfolding Reads
-fields_never_memory table kind (Ok m) s left read is = cc
-fields_never_memory table kind (Err Memory) s left read is = read
-fields_never_memory table kind (Err (Malformed at)) s left read is = cc

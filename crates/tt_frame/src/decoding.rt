@@ -5,7 +5,8 @@
 ghost use Rattle.std.specs.Prelude.{◌≡◌, ℕ, ◌≤◌, Result, Err, IfOk};
 ghost use Rattle.tt_frame.specs.declared.bad.Bad.TheVariants.{Memory};
 ghost use Rattle.std.specs.Int.{w8, w16, w32, w64};
-ghost use Rattle.tt_frame.specs.Reading.{FieldRead, number_at, within_at, truth_at, text_at, digest_at, optional_digest_at, raw_at, fixed_at, FixedRead};
+ghost use Rattle.tt_frame.specs.Reading.{FieldRead, number_at, within_at, truth_at, text_at, digest_at, optional_digest_at, raw_at};
+ghost use Rattle.tt_frame.specs.Reading.{fixed_at, FixedRead};
 ghost use Rattle.tt_frame.specs.Tables.{MessageRead, MessageReadOrMemory, FieldsRead, FieldsReadOrMemory};
 
 use crate::bad::Bad;

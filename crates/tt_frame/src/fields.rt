@@ -37,7 +37,8 @@ impl<'a> Model for Fields<'a> {
 
 /// The place of the first zero, where it is among the first `max + 1` bytes.
 fn zero_place(bytes: &[u8], max: usize) -> Option<usize>
-    ensures { MatchOption result (before_zero max bytes.now ≡ None) (λ i. (before_zero max bytes.now ≡ Some (take i bytes.now)) × (i < length bytes.now)) }
+    ensures { MatchOption result (before_zero max bytes.now ≡ None) (λ i. (before_zero max bytes.now ≡ Some (take i bytes.now))
+        × (i < length bytes.now)) }
 {
     for (i, byte) in bytes.iter().enumerate() {
         if *byte == 0 {
@@ -231,7 +232,8 @@ impl<'a> Fields<'a> {
 
     /// The bytes before a zero, where it is among the next `max + 1` bytes; nothing is taken.
     pub(crate) fn ahead(&self, max: usize) -> Option<&'a [u8]>
-        ensures { MatchOption result (before_zero max self.now.rest ≡ None) (λ s. (before_zero max self.now.rest ≡ Some s.now) × (length s.now < length self.now.rest)) }
+        ensures { MatchOption result (before_zero max self.now.rest ≡ None) (λ s. (before_zero max self.now.rest ≡ Some s.now)
+            × (length s.now < length self.now.rest)) }
     {
         match zero_place(self.rest, max) {
             Some(i) => Some(&self.rest[..i]),

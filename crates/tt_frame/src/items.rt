@@ -35,7 +35,8 @@ pub trait ListItem: Drop {
 
     /// Tells its fields.
     fn tell<W: PartWriter>(&self, to: &mut W) -> Result<(), OutOfMemory>
-        ensures told { W.text to.new ≡ if_done result (W.text to.old ++ each_said W.word (item_said fields (values self.now))) (W.text to.new) }
+        ensures told { W.text to.new ≡ if_done result (W.text to.old
+            ++ each_said W.word (item_said fields (values self.now))) (W.text to.new) }
         ensures err { OnErr result (take (length (W.text to.old)) (W.text to.new) ≡ W.text to.old) };
 
     /// It does nothing: its contract says that the values are in their ranges.
@@ -233,7 +234,8 @@ fn put_counted_list<W: PartWriter, T: ListItem>(
     list: &[T],
 ) -> Result<(), OutOfMemory>
     requires { PartsFit parts.now }
-    ensures ok { OnOk result (W.text to.new ≡ W.text to.old ++ each_said W.word (all_said_by parts.now ++ (items_said T.fields (T.listed list.now) ++ []))) }
+    ensures ok { OnOk result (W.text to.new ≡ W.text to.old ++ each_said W.word (all_said_by parts.now
+        ++ (items_said T.fields (T.listed list.now) ++ []))) }
     ensures err { OnErr result (take (length (W.text to.old)) (W.text to.new) ≡ W.text to.old) }
 {
     put_parts(to, parts)?;
@@ -247,7 +249,8 @@ fn put_marked_list<W: PartWriter, T: ListItem>(
     list: &[T],
 ) -> Result<(), OutOfMemory>
     requires { PartsFit parts.now }
-    ensures ok { OnOk result (W.text to.new ≡ W.text to.old ++ each_said W.word (all_said_by parts.now ++ (marked_said T.fields (T.listed list.now) ++ []))) }
+    ensures ok { OnOk result (W.text to.new ≡ W.text to.old ++ each_said W.word (all_said_by parts.now
+        ++ (marked_said T.fields (T.listed list.now) ++ []))) }
     ensures err { OnErr result (take (length (W.text to.old)) (W.text to.new) ≡ W.text to.old) }
 {
     put_parts(to, parts)?;
@@ -262,7 +265,8 @@ pub fn tell_counted<W: PartWriter, T: ListItem, const MAX: usize>(
     list: &Items<T, MAX>,
 ) -> Result<(), OutOfMemory>
     requires { PartsFit parts.now }
-    ensures told { W.text to.new ≡ if_done result (W.text to.old ++ each_said W.word (all_said_by parts.now ++ (items_said T.fields (T.listed list.now) ++ []))) (W.text to.new) }
+    ensures told { W.text to.new ≡ if_done result (W.text to.old ++ each_said W.word (all_said_by parts.now
+        ++ (items_said T.fields (T.listed list.now) ++ []))) (W.text to.new) }
     ensures err { OnErr result (take (length (W.text to.old)) (W.text to.new) ≡ W.text to.old) }
 {
     put_counted_list(to, parts, list.as_slice())
@@ -275,7 +279,8 @@ pub fn tell_marked<W: PartWriter, T: ListItem, const MAX: usize>(
     list: &Items<T, MAX>,
 ) -> Result<(), OutOfMemory>
     requires { PartsFit parts.now }
-    ensures told { W.text to.new ≡ if_done result (W.text to.old ++ each_said W.word (all_said_by parts.now ++ (marked_said T.fields (T.listed list.now) ++ []))) (W.text to.new) }
+    ensures told { W.text to.new ≡ if_done result (W.text to.old ++ each_said W.word (all_said_by parts.now
+        ++ (marked_said T.fields (T.listed list.now) ++ []))) (W.text to.new) }
     ensures err { OnErr result (take (length (W.text to.old)) (W.text to.new) ≡ W.text to.old) }
 {
     put_marked_list(to, parts, list.as_slice())

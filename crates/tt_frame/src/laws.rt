@@ -36,7 +36,8 @@ pub fn one_reading()
     ensures only { (limit : ℕ) (bytes : List ℕ) (packets others : List Packet) (end other : End) → limit < 2 ^ 16
         → Reads limit bytes packets end → Reads limit bytes others other → (packets ≡ others) × (end ≡ other) }
     // It is the one that the function `reading` gives.
-    ensures reading { (limit : ℕ) (bytes : List ℕ) → 3 ≤ limit → IsBytes bytes → Reads limit bytes (reading limit bytes).0 (reading limit bytes).1 }
+    ensures reading { (limit : ℕ) (bytes : List ℕ) → 3 ≤ limit → IsBytes bytes
+        → Reads limit bytes (reading limit bytes).0 (reading limit bytes).1 }
     // What is less than a packet is one byte or none, or a proper front of a packet.
     ensures partial { (limit : ℕ) (rest : List ℕ) → 3 ≤ limit → limit < 2 ^ 16 → IsBytes rest → 2 ≤ length rest
         → (IsPartial limit rest ↔ IsProperFront limit rest) }

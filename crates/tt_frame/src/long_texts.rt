@@ -2,7 +2,8 @@
 //!
 //! A long text is made by `LongText::new(alloc, bytes)`, or read as a field by `long_text(alloc, f)`; it takes just the memory
 //! of its bytes, and is never tested again.
-ghost use Rattle.std.specs.Prelude.{◌≡◌, ℕ, ◌≤◌, ◌↔◌, List, length, true, false, Ok, Err, Some, IfOk, OnErr, IsSome, IfSome, MatchOption, nat_eq};
+ghost use Rattle.std.specs.Prelude.{◌≡◌, ℕ, ◌≤◌, ◌↔◌, List, length, true, false, Ok, Err, Some, IfOk, OnErr, IsSome, IfSome, MatchOption};
+ghost use Rattle.std.specs.Prelude.{nat_eq};
 ghost use Rattle.std.specs.Cmp.{partial_equiv_from_equiv};
 ghost use Rattle.std.specs.Cmp.Lexicographic.{nat_list_eq_equiv, pointwise};
 ghost use Rattle.tt_frame.specs.Text.{IsText, is_text};

@@ -33,7 +33,8 @@ pub fn finish(
     requires size { OnOk written (vec_len out.old ≤ start + largest_packet) }
     ensures same { result ≡ written }
     // What stood from `start` on, behind two bytes for the size, is a packet now.
-    ensures ok { OnOk result ((before body : List ℕ) (kind : ℕ) → length before ≡ start → out.old.items ≡ before ++ 0 ∷ 0 ∷ kind ∷ body → out.new.items ≡ before ++ packet kind body) }
+    ensures ok { OnOk result ((before body : List ℕ) (kind : ℕ) → length before ≡ start
+        → out.old.items ≡ before ++ 0 ∷ 0 ∷ kind ∷ body → out.new.items ≡ before ++ packet kind body) }
     // All of this in one: the size stands there.
     ensures exact { OnOk result (out.new.items ≡ sealed start out.old.items) }
     ensures err { OnErr result (out.new.items ≡ take start out.old.items) }

@@ -106,12 +106,22 @@ impl<const N: usize> Text<N> {
     pub fn copy(&self) -> Text<N>
         ensures { result ≡ self.now }
     {
-        let mut content = ArrayVec::new();
-        match content.try_extend_from_slice(self.content.as_slice()) {
-            Ok(()) => Text { content },
-            Err(_) => unreachable!(),
+        Text {
+            content: copied(self.content.as_slice()),
         }
     }
+}
+
+/// The same bytes once more, for which there is room.
+fn copied<const N: usize>(bytes: &[u8]) -> ArrayVec<u8, N>
+    requires { length bytes.now ≤ N }
+    ensures { result.items ≡ bytes.now }
+{
+    let mut content = ArrayVec::new();
+    for byte in bytes {
+        content.push(*byte);
+    }
+    content
 }
 
 /// A text of 1 to 31 bytes.

@@ -14,8 +14,7 @@ use Rattle.tt_frame.specs.Said.{Said, mark, field_said, item_said, items_said, m
 use Rattle.tt_frame.specs.Families.{Family as Messages, family_kind, family_said}
 use Rattle.tt_frame.specs.declared.bad.Bad.{Bad}
 use Rattle.tt_frame.specs.declared.bad.Bad.TheVariants.{Memory, Malformed}
-use Rattle.tt_frame.proofs.RowLaws.{row_again}
-use Rattle.tt_frame.proofs.TableLaws.{is_found, stops_at}
+use Rattle.tt_frame.proofs.TableLaws.{again, is_found, stops_at}
 use Rattle.tt_frame.proofs.SaidLaws.{each_said-append}
 use Rattle.tt_show.specs.Words.{word}
 use Rattle.tt_show.specs.Texts.{field_text, item_text, items_text, row_text}
@@ -84,8 +83,7 @@ line_shown M family kind body m before after read same is =
 
 pub spelled_line : (M : Type 0) (family : Messages M) (kind : ℕ) (body : List ℕ) (m : M) → SpelledBy family.table m kind body
     → text_by family (record { kind = kind; body = body }) ≡ Some (message_text family m)
-spelled_line M family kind body m spelled = let l =
-    rule_of family.table kind in ap (text_of family) (row_again l.fields l.make m 0 body spelled)
+spelled_line M family kind body m spelled = ap (text_of family) (again family.table kind body m spelled)
 
 by_reading : (M : Type 0) (family : Messages M) (kind : ℕ) (body line : List ℕ) → IsBytes body → (z : Result M ℕ)
     → read_by family.table kind (whole body) ≡ z → text_of family z ≡ Some line

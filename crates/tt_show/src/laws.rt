@@ -24,7 +24,8 @@ pub fn one_line()
         → (m : GameMsg) × GameSpells m kind body × (line ≡ message_text game m) }
 {}
 
-/// The line of a packet between an admin and the server is the line of the message that it spells, and only a packet that spells one has a line.
+/// The line of a packet between an admin and the server is the line of the message that it spells, and only a packet that
+/// spells one has a line.
 pub fn one_admin_line()
     ensures line { (m : AdminMsg) (kind : ℕ) (body : List ℕ) → AdminSpells m kind body
         → packet_text Admin (record { kind = kind; body = body }) ≡ Some (message_text admin m) }

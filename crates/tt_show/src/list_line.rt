@@ -27,7 +27,8 @@ fn family_of(word: &[u8]) -> Option<Family>
 
 /// The family and the bytes that a line without line feed spells, if it spells any.
 pub fn line_of(alloc: Global, text: &[u8]) -> Result<Option<(Family, Vec<u8>)>, OutOfMemory>
-    ensures found { IfOk result (λ found. IfSome found (λ line. IsLine (record { family = line.0; bytes = line.1.items }) × (text.now ≡ line_text (record { family = line.0; bytes = line.1.items })))) }
+    ensures found { IfOk result (λ found. IfSome found (λ line. IsLine (record { family = line.0; bytes = line.1.items })
+        × (text.now ≡ line_text (record { family = line.0; bytes = line.1.items })))) }
     ensures none { IfOk result (λ found. IfNone found ((line : ListLine) → IsLine line → text.now ≢ line_text line)) }
 {
     let Some((word, digits)) = first_word(text) else {

@@ -22,7 +22,8 @@ fn put_packet(
     kind: u8,
     body: &[u8],
 ) -> Result<(), Bad>
-    ensures shown { OnOk result (Appends (packet_text family (record { kind = kind; body = body.now })) line.old.text.items line.new.text.items) }
+    ensures shown { OnOk result (Appends (packet_text family (record { kind = kind; body = body.now }))
+        line.old.text.items line.new.text.items) }
     ensures nothing { (at : ℕ) → result ≡ Err (Malformed at) → packet_text family (record { kind = kind; body = body.now }) ≡ None }
     ensures place { (at : ℕ) → result ≡ Err (Malformed at) → PacketStops family (record { kind = kind; body = body.now }) at }
 {

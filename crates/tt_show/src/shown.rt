@@ -37,7 +37,8 @@ pub(crate) trait Shown: Drop {
 
 /// Writes a message's name, and its words behind it.
 fn put_message<M: Shown>(line: &mut Line, message: &M, kind: u8) -> Result<(), OutOfMemory>
-    ensures { OnOk result (line.new.text.items ≡ line.old.text.items ++ (name_by M.family.table kind ++ (each_said said_words (family_said M.family message.now) ++ codes "\n"))) }
+    ensures { OnOk result (line.new.text.items ≡ line.old.text.items ++ (name_by M.family.table kind
+        ++ (each_said said_words (family_said M.family message.now) ++ codes "\n"))) }
 {
     put(&mut line.text, M::name(kind))?;
     message.tell_to(line)?;
@@ -51,7 +52,8 @@ pub(crate) fn put_line<M: Shown>(
     kind: u8,
     body: &[u8],
 ) -> Result<(), Bad>
-    ensures shown { OnOk result (Appends (text_by M.family (record { kind = kind; body = body.now })) line.old.text.items line.new.text.items) }
+    ensures shown { OnOk result (Appends (text_by M.family (record { kind = kind; body = body.now }))
+        line.old.text.items line.new.text.items) }
     ensures nothing { (at : ℕ) → result ≡ Err (Malformed at) → text_by M.family (record { kind = kind; body = body.now }) ≡ None }
     ensures place { (at : ℕ) → result ≡ Err (Malformed at) → StopsBy M.family.table kind body.now at }
 {

@@ -69,7 +69,10 @@ fn a_text_has_at_most_its_limit(rt: HostRuntime) -> Result<(), Fail> {
         let (kind, front, limit, behind) = *row;
         assert!(rt; limit < 1000, "number {kind}");
         let longest = with_text(rt.alloc(), front, limit, behind)?;
-        assert!(rt; AdminMsg::decode(rt.alloc(), kind, longest.as_slice()).is_ok(), "number {kind}");
+        assert!(rt;
+            AdminMsg::decode(rt.alloc(), kind, longest.as_slice()).is_ok(),
+            "number {kind}"
+        );
         let past = with_text(rt.alloc(), front, limit + 1, behind)?;
         assert_eq!(rt;
             place_of(rt.alloc(), kind, past.as_slice()),

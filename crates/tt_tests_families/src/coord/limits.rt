@@ -94,7 +94,10 @@ fn a_text_has_at_most_its_limit(rt: HostRuntime) -> Result<(), Fail> {
         let (family, kind, front, limit, behind) = *row;
         assert!(rt; limit < 255, "number {kind}");
         let longest = with_text(rt.alloc(), front, limit, behind)?;
-        assert!(rt; again(rt.alloc(), family, kind, longest.as_slice()).is_ok(), "number {kind}");
+        assert!(rt;
+            again(rt.alloc(), family, kind, longest.as_slice()).is_ok(),
+            "number {kind}"
+        );
         let past = with_text(rt.alloc(), front, limit + 1, behind)?;
         assert_eq!(rt;
             place_of(rt.alloc(), family, kind, past.as_slice()),

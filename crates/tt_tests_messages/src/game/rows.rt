@@ -164,7 +164,10 @@ fn a_digest_may_be_left_out(rt: HostRuntime) -> Result<(), Fail> {
 fn a_piece_of_a_map_has_1_to_1400_bytes(rt: HostRuntime) -> Result<(), Fail> {
     let bytes = [7; 1401];
     for count in [1, 2, 3, 4, 5, 1399, 1400] {
-        assert!(rt; GameMsg::decode(rt.alloc(), 17, &bytes[..count]).is_ok(), "{count} bytes");
+        assert!(rt;
+            GameMsg::decode(rt.alloc(), 17, &bytes[..count]).is_ok(),
+            "{count} bytes"
+        );
     }
     assert_eq!(rt; place_of(rt.alloc(), 17, &[]), Some(0));
     assert_eq!(rt; place_of(rt.alloc(), 17, &bytes), Some(0));

@@ -14,15 +14,19 @@ finish-requires-clause-size c = has_room TurnMsg turn_family turn_lawful c.args.
     (c.len-start.ensures ∙ c.args.out.now.ok.0) c.tell_parts-written.new.to.ok.0 c.tell_parts-written.ensures
 
 pub returns-clause-ok : goal.returns-clause-ok
-returns-clause-ok c = sealed_ok TurnMsg turn_family c.args.self.now c.tell_parts-written.result c.finish.result c.len-start.result c.args.out.now.items
-    c.tell_parts-written.new.to.items c.finish.new.out.items (c.len-start.ensures ∙ c.args.out.now.ok.0) c.finish.ensures.same c.tell_parts-written.ensures c.finish.ensures.exact
+returns-clause-ok c =
+    sealed_ok TurnMsg turn_family c.args.self.now c.tell_parts-written.result c.finish.result c.len-start.result _ _ _
+    (c.len-start.ensures ∙ c.args.out.now.ok.0) c.finish.ensures.same c.tell_parts-written.ensures c.finish.ensures.exact
 
 pub returns-clause-err : goal.returns-clause-err
-returns-clause-err c = sealed_err TurnMsg turn_family c.args.self.now c.tell_parts-written.result c.finish.result c.len-start.result c.args.out.now.items
-    c.tell_parts-written.new.to.items c.finish.new.out.items (c.len-start.ensures ∙ c.args.out.now.ok.0) c.finish.ensures.same c.tell_parts-written.ensures c.finish.ensures.err
+returns-clause-err c =
+    sealed_err TurnMsg turn_family c.args.self.now c.tell_parts-written.result c.finish.result c.len-start.result _ _ _
+    (c.len-start.ensures ∙ c.args.out.now.ok.0) c.finish.ensures.same c.tell_parts-written.ensures c.finish.ensures.err
 
 pub returns-clause-spelled : goal.returns-clause-spelled
-returns-clause-spelled c = told_spells TurnMsg turn_family turn_lawful c.args.self.now c.tell_parts-written.result _ _ c.tell_parts-written.ensures
+returns-clause-spelled c =
+    told_spells TurnMsg turn_family turn_lawful c.args.self.now c.tell_parts-written.result _ _ c.tell_parts-written.ensures
 
 pub returns-clause-size : goal.returns-clause-size
-returns-clause-size c = told_size TurnMsg turn_family turn_lawful c.args.self.now c.tell_parts-written.result _ _ c.tell_parts-written.ensures
+returns-clause-size c =
+    told_size TurnMsg turn_family turn_lawful c.args.self.now c.tell_parts-written.result _ _ c.tell_parts-written.ensures
