@@ -4,4 +4,4 @@ use Rattle.tt_tests_rules.proofs.outs.calls_by_chance_are_those_of_plain_lists.G
 
 -- two connections are opened
 abbrev pub invariant-loop-turn : goal.invariant-loop-turn
-invariant-loop-turn l = record { opened : opened l.outs ≡ 2 }
+invariant-loop-turn g l = record { opened : opened l.outs ≡ 2 }
