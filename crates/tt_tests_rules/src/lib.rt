@@ -12,6 +12,8 @@ mod log;
 #[cfg(test)]
 mod map;
 #[cfg(test)]
+mod outs;
+#[cfg(test)]
 mod rules;
 #[cfg(test)]
 mod world;
