@@ -26,10 +26,13 @@ pub mod Queue
 pub mod Judged
 pub mod Ending
 pub mod PacketRules
+pub mod Polls
+pub mod Console
 pub mod Desk
 pub mod Tick
 pub mod Events
 pub mod History
+pub mod Reports
 pub mod Tellings
 pub mod Told
 pub mod Stamps

@@ -16,6 +16,7 @@
 
 pub mod deed;
 mod laws;
+pub mod report;
 pub mod script;
 
 pub use laws::{
