@@ -1,8 +1,9 @@
 -- The one walk over the rules: a property of what a rule does (of the table before it, what it tells, and the table behind it)
 -- that holds of each part that rules are made of, and joins, holds of every event.
-use Rattle.std.proofs.Common.{◌≡◌, ◌⊎◌, inl, inr, ℕ, ◌+◌, ◌≤◌, List, [], ◌∷◌, ◌++◌, refl, ap, sym, ◌∙◌, subst, true, false, Bool, Option, Some}
+use Rattle.std.proofs.Common.{◌≡◌, ◌⊎◌, inl, inr, ℕ, ◌+◌, ◌≤◌, List, [], ◌∷◌, ◌++◌, refl, ap, sym, ◌∙◌, subst, true, false, Bool}
+use Rattle.std.proofs.Common.{Option, Some}
 use Rattle.std.proofs.Common.{None, arith, zero, suc}
-use Rattle.std.specs.Prelude.{position, ◌*◌, ◌==◌, drop, take, length, nat_lt, nat_le, map, find, filter, cond, ◌%◌, not, ◌&&◌, ◌||◌}
+use Rattle.std.specs.Prelude.{position, ◌*◌, ◌==◌, drop, take, length, nat_lt, nat_le, map, filter, cond, ◌%◌, not, ◌&&◌, ◌||◌}
 use Rattle.std.proofs.lemmas.Bool.{eqb-true, leb-true}
 use Rattle.tt_edge.specs.declared.event.Door.TheVariants.{Main, Side}
 use Rattle.tt_edge.specs.declared.event.Event.{Event}
@@ -45,10 +46,10 @@ use Rattle.tt_log.specs.Ending.{Farewell, Quitting, Failing, tells_farewell, lea
 use Rattle.tt_log.specs.PacketRules.{client_info, welcomes, company_step_by, password_step_by, enters, becomes_active, asks_company}
 use Rattle.tt_log.specs.PacketRules.{new_company, acknowledged, acknowledges, has_caught_up, closed_token, chats, is_in_scope, renames}
 use Rattle.tt_log.specs.PacketRules.{moves, does}
-use Rattle.tt_log.specs.Polls.{tells_admin, answers, due_reports, each_told, day_told, admins_told}
-use Rattle.tt_log.specs.Console.{ConsoleCommand, pauses, kicks, says, command_in, lines_of, pause, kicks_out, console_does, obeys}
-use Rattle.tt_log.specs.Desk.{admin_opens, admin_leaves, admin_ends, admin_judged, admin_joins, admin_does, by_admin_verdict, admin_hears}
-use Rattle.tt_log.specs.Desk.{read_admin, is_slow, admin_limited, each_admin_limited, admins_limited}
+use Rattle.tt_log.specs.Polls.{tells_admin, poll_answers, due_reports, each_told, day_told, admins_told}
+use Rattle.tt_log.specs.Console.{ConsoleCommand, pauses, kicks, announces, command_in, lines_of, pause, kicks_out, console_does, obeys}
+use Rattle.tt_log.specs.Desk.{admin_opens, admin_leaves, admin_ends, admin_judged, admin_greeting, admin_joins, admin_does}
+use Rattle.tt_log.specs.Desk.{by_admin_verdict, admin_hears, read_admin, is_slow, admin_limited, each_admin_limited, admins_limited}
 use Rattle.tt_log.specs.Tick.{stamps, drawn, tells_entries, stamped, frame_runs_by, frame_runs, foundings, all_moved, founders_moved}
 use Rattle.tt_log.specs.Tick.{synced, next_pieces, finishes_map, mapped, left_of, late, limited, each_limited, timed, frame_follows, ticked}
 use Rattle.tt_log.specs.Events.{read_msg, opened, by_verdict, heard, to_named, on_conn, by_event, charged, stops, closed, shut_down, taken}
@@ -336,7 +337,8 @@ module _ (o : Origin) (e : Event) (P : Table → List Step → Table → Type 0)
         let others : Within to (playing t) = λ c h. all-filter (IsOther c) (λ x. not (x == m.conn)) (playing t) h in
         let told : P t (step to (Msg (ServerJoin m.client)) ∷ []) u =
         w.base.joins t t u _ _ (w.base.tells_some t to (Msg (ServerJoin m.client)) others tt) (w.base.turns plays t m on at tt) in
-        let seen : P t (step to (Msg (ServerJoin m.client)) ∷ step (watching client_updates u) (ToAdmin (admins.ServerClientJoin m.client))
+        let news : Report = Message (admins.ServerClientJoin m.client) in
+        let seen : P t (step to (Msg (ServerJoin m.client)) ∷ step (watching client_updates u) (ToAdmin news)
         ∷ []) u = w.base.joins t u u _ _ told (of-watched w.base client_updates _ u) in
         w.base.joins t u _ _ _ seen (of-where w.base (m.asked == founder) (asks_company (turned plays t m)) u
         (λ is. w.orders u (new_company (turned plays t m)) (inl (turned plays t m, on-turned w.base plays t m on, refl)) still))
@@ -444,7 +446,7 @@ module _ (o : Origin) (e : Event) (P : Table → List Step → Table → Type 0)
     of-console (pauses paused) t still = w.orders t (pause paused) (inr (paused, refl)) still
     of-console (kicks client) t still = of-some w.base (member_with client t) kicks_out t (λ m is. of-ends t m 12
         (found-among (λ m. m.client == client) m t.members is))
-    of-console (says text) t still = of-chats t 1 0 0 text
+    of-console (announces text) t still = of-chats t 1 0 0 text
     of-console other t still = w.base.still t
 
     of-obeys : (command : ConsoleCommand) (text : List ℕ) (t : Table) (a : Admin) → OnAdmin t a → is_tick e ≡ false
@@ -459,16 +461,17 @@ module _ (o : Origin) (e : Event) (P : Table → List Step → Table → Type 0)
     of-admin-joins t a on =
         let b : Admin = record a { joined = true } in
         let u : Table = with_admin b t in
-        w.base.joins t u u [] _ (w.settles t a b on (refl, refl)) (of-reports w.base _ u b (put-admin-among b a t.admins refl on))
+        w.base.joins t u u [] _ (w.settles t a b on (refl, refl)) (of-reports w.base admin_greeting u b
+        (put-admin-among b a t.admins refl on))
 
     of-admin-does : (msg : AdminMsg) (t : Table) (a : Admin) → OnAdmin t a → is_tick e ≡ false → Of t (admin_does a msg t)
     of-admin-does (admins.AdminJoin password application version) t a on still = of-admin-joins t a on
     of-admin-does admins.AdminQuit t a on still = w.goes_aside t a on
     of-admin-does (admins.AdminUpdateFrequency kind bits) t a on still = w.settles t a _ on (refl, refl)
-    of-admin-does (admins.AdminPoll kind id) t a on still = of-reports w.base (answers kind id t) t a on
+    of-admin-does (admins.AdminPoll kind id) t a on still = of-reports w.base (poll_answers kind id t) t a on
     of-admin-does (admins.AdminChat scope to text) t a on still = of-chats t 1 scope to text
     of-admin-does (admins.AdminRcon text) t a on still = of-obeys (command_in text) text t a on still
-    of-admin-does (admins.AdminPing id) t a on still = of-reports w.base _ t a on
+    of-admin-does (admins.AdminPing id) t a on still = of-reports w.base (Message (admins.ServerPong id) ∷ []) t a on
     of-admin-does other t a on still = w.base.still t
 
     of-admin-verdict : (v : Verdict) (said : Option AdminMsg) (t : Table) (a : Admin) → OnAdmin t a → is_tick e ≡ false
@@ -568,7 +571,8 @@ module _ (o : Origin) (e : Event) (P : Table → List Step → Table → Type 0)
     of-packet : (conn kind : ℕ) (body : List ℕ) (t : Table) → e ≡ Packet conn kind body → Of t (by_event o (Packet conn kind body) t)
     of-packet conn kind body t is =
         of-conn conn _ _ t (λ m on at. of-heard (read_msg kind body) t m on (is-packet (read_msg kind body) kind body m refl (is
-        ∙ ap (λ (c : ℕ). Packet c kind body) (sym at)))) (λ a on. of-admin-hears (read_admin kind body) t a on (ap (λ (d : Event). is_tick d) is))
+        ∙ ap (λ (c : ℕ). Packet c kind body) (sym at)))) (λ a on. of-admin-hears (read_admin kind body) t a on
+        (ap (λ (d : Event). is_tick d) is))
 
     -- an event of a connection, or a stop
     of-event-by : (d : Event) (t : Table) → e ≡ d → is_tick d ≡ false → is_open d ≡ false → Of t (by_event o d t)

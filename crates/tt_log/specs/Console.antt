@@ -24,7 +24,7 @@ pub data ConsoleCommand : Type 0 where
   -- a client is ended
   kicks : (client : ℕ) → ConsoleCommand
   -- the server says something to all
-  says : (text : List ℕ) → ConsoleCommand
+  announces : (text : List ℕ) → ConsoleCommand
   -- the clients, and the companies, are listed
   clients companies : ConsoleCommand
   -- the game is over
@@ -35,7 +35,7 @@ pub data ConsoleCommand : Type 0 where
 -- what is said is at least one byte
 abbrev pub said : List ℕ → ConsoleCommand
 said [] = unknown
-said (b ∷ bytes) = says (b ∷ bytes)
+said (b ∷ bytes) = announces (b ∷ bytes)
 
 -- the commands: the word that each is known by, and what stands behind it. Words are parted by exactly one blank, and what is
 -- said is all that stands behind the blank
@@ -73,7 +73,7 @@ client_line m = decimal m.client ++ codes " " ++ decimal m.company ++ codes " " 
 abbrev pub lines_of : ConsoleCommand → Table → List Report
 lines_of (pauses paused) t = answer (codes "ok") ∷ []
 lines_of (kicks client) t = kick_answer (member_with client t) ∷ []
-lines_of (says text) t = answer (codes "ok") ∷ []
+lines_of (announces text) t = answer (codes "ok") ∷ []
 lines_of clients t = map (λ m. answer (client_line m)) (welcomed t)
 lines_of companies t = CompanyLines ∷ []
 lines_of quits t = answer (codes "ok") ∷ []
@@ -94,7 +94,7 @@ kicks_out m t = ends m kicked t
 abbrev pub console_does : ConsoleCommand → Table → Deed
 console_does (pauses paused) t = orders (pause paused) t
 console_does (kicks client) t = where_some (member_with client t) kicks_out t
-console_does (says text) t = chats 1 0 0 text t
+console_does (announces text) t = chats 1 0 0 text t
 console_does other t = becomes t
 
 -- ---- RCON

@@ -1,6 +1,6 @@
 -- The side door: what an event does to an admin, and the limit of one that does not join. Those that play see nothing of it
 -- but chats and what the console does.
-use Rattle.std.specs.Prelude.{ℕ, ◌+◌, ◌-◌, Bool, true, false, not, ◌&&◌, ◌||◌, nat_le, nat_lt, List, [], ◌∷◌, ◌++◌, map, length, slice_set}
+use Rattle.std.specs.Prelude.{ℕ, ◌+◌, ◌-◌, Bool, true, false, not, ◌&&◌, ◌||◌, nat_le, nat_lt, List, [], ◌∷◌, ◌++◌, length, slice_set}
 use Rattle.std.specs.Prelude.{Option, Some, None, bytes_eq}
 use Rattle.std.specs.Result.{result_ok}
 use Rattle.tt_frame.specs.Unread.{whole}
@@ -18,6 +18,7 @@ use Rattle.tt_rules.specs.Codes.{illegal_packet, not_expected, wrong_password, t
 use Rattle.tt_rules.specs.Reasons.{◌⇒◌, ◌or_else◌}
 use Rattle.tt_rules.specs.Verdict.{verdict_of}
 use Rattle.tt_log.specs.declared.deed.What.TheVariants.{End}
+use Rattle.tt_log.specs.declared.report.Report.{Report}
 use Rattle.tt_log.specs.declared.report.Report.TheVariants.{Message, Welcome}
 use Rattle.tt_log.specs.Origin.{Origin}
 use Rattle.tt_log.specs.Member.{Member}
@@ -26,7 +27,7 @@ use Rattle.tt_log.specs.Table.{Table, member_of, admin_of, with_admin, without_a
 use Rattle.tt_log.specs.Deed.{Deed, ◌▹◌, becomes, where_, where_some, tells_what}
 use Rattle.tt_log.specs.Judged.{is_empty}
 use Rattle.tt_log.specs.PacketRules.{chats}
-use Rattle.tt_log.specs.Polls.{tells_admin, answers}
+use Rattle.tt_log.specs.Polls.{tells_admin, poll_answers}
 use Rattle.tt_log.specs.Console.{command_in, rcon, is_quit_line}
 
 -- ---- an opening
@@ -103,10 +104,13 @@ types_from kind (bits ∷ more) = (kind, (bits, tt)) ∷ types_from (kind + 1) m
 abbrev pub admin_protocol : ℕ
 admin_protocol = 3
 
--- JOIN: it is told the protocol, and the game
+-- the protocol, and the game
+abbrev pub admin_greeting : List Report
+admin_greeting = Message (ServerProtocol admin_protocol (types_from 0 allowed_bits)) ∷ Welcome ∷ []
+
+-- JOIN: it is greeted
 abbrev pub admin_joins : Admin → Table → Deed
-admin_joins a t = tells_admin a.conn (Message (ServerProtocol admin_protocol (types_from 0 allowed_bits)) ∷ Welcome ∷ [])
-    (with_admin (record a { joined = true }) t)
+admin_joins a t = tells_admin a.conn admin_greeting (with_admin (record a { joined = true }) t)
 
 -- UPDATE_FREQUENCY: the bits of the type are these from now on
 abbrev pub admin_asks : Admin → ℕ → ℕ → Table → Deed
@@ -117,7 +121,7 @@ abbrev pub admin_does : Admin → AdminMsg → Table → Deed
 admin_does a (AdminJoin password application version) t = admin_joins a t
 admin_does a AdminQuit t = admin_leaves a t
 admin_does a (AdminUpdateFrequency kind bits) t = admin_asks a kind bits t
-admin_does a (AdminPoll kind id) t = tells_admin a.conn (answers kind id t) t
+admin_does a (AdminPoll kind id) t = tells_admin a.conn (poll_answers kind id t) t
 admin_does a (AdminChat scope to text) t = chats 1 scope to text t
 admin_does a (AdminRcon text) t = rcon a.conn text t
 admin_does a (AdminPing id) t = tells_admin a.conn (Message (ServerPong id) ∷ []) t

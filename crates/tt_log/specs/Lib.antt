@@ -37,6 +37,7 @@ pub mod Tellings
 pub mod Told
 pub mod Stamps
 pub mod Endings
+pub mod Doors
 pub mod Marks
 pub mod Foundings
 pub mod Shown

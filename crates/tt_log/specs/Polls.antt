@@ -51,8 +51,8 @@ command_names =
     ∷ []
 
 -- of a type: what of it is told of an id, or of all. The day and the names are no one's
-abbrev pub answers : ℕ → ℕ → Table → List Report
-answers kind id t =
+abbrev pub poll_answers : ℕ → ℕ → Table → List Report
+poll_answers kind id t =
     if kind == date_updates then Date ∷ []
     else if kind == client_updates then client_reports id t
     else if kind == company_updates then CompanyInfo id ∷ []
@@ -69,7 +69,7 @@ period_types = date_updates ∷ economy_updates ∷ stats_updates ∷ []
 
 -- what an admin is told of a type on a day: all of it where a bit is set whose period divides the day
 abbrev pub due_of : ℕ → Admin → Table → ℕ → List Report
-due_of day a t kind = if is_due day (slice_index a.bits kind) then answers kind everyone t else []
+due_of day a t kind = if is_due day (slice_index a.bits kind) then poll_answers kind everyone t else []
 
 abbrev pub due_reports : ℕ → Admin → Table → List Report
 due_reports day a t = flat_map (due_of day a t) period_types
