@@ -33,7 +33,7 @@ counts-base o e = record {
   turns = λ k t m on may by. record { openings = refl; cost = refl };
   tells_one = λ t m msg on talk. record { openings = refl; cost = refl };
   tells_some = λ t to w there news. record { openings = refl; cost = refl };
-  tells_admins = λ t to msg there. record { openings = refl; cost = refl };
+  tells_admins = λ t to r may. record { openings = refl; cost = refl };
 }
 
 counts-moves : (o : Origin) (e : Event) → Moves o e KeepsCounts

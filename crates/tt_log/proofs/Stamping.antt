@@ -30,7 +30,7 @@ use Rattle.tt_log.specs.Events.{arrives, counted_in, by_verdict, by_event, charg
 use Rattle.tt_log.specs.Events.{stepped, read_msg, heard, to_named}
 use Rattle.tt_log.specs.History.{table_of, journal_of, AreRising}
 use Rattle.tt_log.specs.Stamps.{accepted, accepted_by, accepted_from, accepted_of, commands_in, for_company, if_allowed, if_so, stamped_of}
-use Rattle.tt_log.proofs.Lists.{Among, NotIn, all-append, all-so, among-all, found-among}
+use Rattle.tt_log.proofs.Lists.{Among, NotIn, all-append, all-so, among-all, found-among, found-passes}
 use Rattle.tt_log.proofs.Crew.{On, put, on-found, found-on, conns}
 use Rattle.tt_log.proofs.Changes.{Says, By, Change, wants_password, is_let_in, gets_token, gets_frame, answers, plays, commands, has_name}
 use Rattle.tt_log.proofs.Changes.{goes_to, founds, gets_pieces, has_all, turned, turned-conn, turned-client, moved, moved-conn}
@@ -214,7 +214,7 @@ stamp-base c said o e quiet = record {
   );
   tells_one = λ t m msg on talk r h. (r, h);
   tells_some = λ t to w there news r h. (r, h);
-  tells_admins = λ t to msg there r h. (r, h);
+  tells_admins = λ t to report may r h. (r, h);
 }
 
 stamp-moves : (c : ℕ) (said : List (ℕ × Command)) (o : Origin) (e : Event) → Moves o e (KeepsStamps c said)
@@ -462,6 +462,9 @@ waits-kept c said t m w r on own h =
     conns-under k [] a = tt
     conns-under k (y ∷ ys) a = (a.0, conns-under k ys a.1)
 
+broken-quiet : (c : ℕ) → IsQuiet (Broken c) c
+broken-quiet c m company code number to text at (kind, body, is, said) = absurd cc
+
 stop-quiet : (c : ℕ) → IsQuiet Stop c
 stop-quiet c m company code number to text at (kind, body, is, said) = absurd cc
 
@@ -499,8 +502,8 @@ named-by None c said o t kind body company code number to text msg is r h =
   where
     by : (x : Option Admin) → admin_of t c ≡ x → Kept c said (where_some x (admin_hears o (read_admin kind body)) t).table
     by None at = h
-    by (Some a) at = (of-admin-hears o Stop (KeepsStamps c said) (stamp-walk c said o Stop (stop-quiet c)) (read_admin kind body) t a
-        (found-among (is_admin_on c) a t.admins at) refl r h).1
+    by (Some a) at = (of-admin-hears o (Broken c) (KeepsStamps c said) (stamp-walk c said o (Broken c) (broken-quiet c)) (read_admin kind body) t a
+        (found-among (is_admin_on c) a t.admins at) (sym (eqb-true a.conn c (found-passes (is_admin_on c) a t.admins at))) refl r h).1
 named-by (Some m) c said o t kind body company code number to text msg is r h =
     let P : Option GameMsg → Type 0 = λ x. Kept c (said ++ accepted_of o t (Some m) x) (heard o x m t).table in
     subst P (sym msg) (command-by (judged o t m (Some (ClientCommand company code number to text))) c said o t m company code number to text
