@@ -28,14 +28,14 @@ use Rattle.tt_log.specs.Frames.{tells_fresh, tells_frame_by, tells_frame, frames
 use Rattle.tt_log.specs.Queue.{begins, begins_for, begins_where, waits, moved_up, asks, left_place, leaves_queue}
 use Rattle.tt_log.specs.Judged.{judged, founder}
 use Rattle.tt_log.specs.Ending.{Farewell, Quitting, Failing, tells_farewell, leaves, ends}
-use Rattle.tt_log.specs.PacketRules.{client_info, company_step_by, company_step, password_step_by, password_step, enters, asks_company}
+use Rattle.tt_log.specs.PacketRules.{client_info, company_step_by, company_step, password_step_by, enters, asks_company}
 use Rattle.tt_log.specs.PacketRules.{becomes_active, acknowledged, acknowledges, has_caught_up, command_waits, moves, does}
 use Rattle.tt_log.specs.Polls.{tells_admin, each_told, day_told, due_reports, admins_told}
 use Rattle.tt_log.specs.Desk.{is_slow, admin_ends, admin_limited, each_admin_limited, admins_limited}
 use Rattle.tt_log.specs.Quiet.{bare}
 use Rattle.tt_log.specs.Tick.{stamps, tells_entries, stamped, frame_runs_by, frame_runs, foundings, all_moved, founders_moved, synced}
-use Rattle.tt_log.specs.Tick.{finishes_map, next_pieces, mapped, left_by, left_of, late, limited, each_limited, timed, frame_follows, ticked}
-use Rattle.tt_log.specs.Tick.{pieces_of}
+use Rattle.tt_log.specs.Tick.{finishes_map, next_pieces, mapped, left_by, left_of, late, limited, each_limited, timed, frame_follows}
+use Rattle.tt_log.specs.Tick.{ticked, pieces_of}
 use Rattle.tt_log.specs.Events.{by_verdict, heard, arrives, counted_in, opened}
 use Rattle.tt_log.proofs.Walk.{stamping, running}
 
@@ -64,9 +64,9 @@ pub inside-append : (xs ys : List Step) → inside (xs ++ ys) ≡ inside xs ++ i
 inside-append [] ys = refl
 inside-append (x ∷ xs) ys = elim (is_inside x.what) as (λ b. cond b (x ∷ inside (xs ++ ys)) (inside (xs ++ ys))
     ≡ cond b (x ∷ inside xs) (inside xs) ++ inside ys) [
-  | true ↦ ap (λ (zs : List Step). x ∷ zs) (inside-append xs ys)
-  | false ↦ inside-append xs ys
-]
+      | true ↦ ap (λ (zs : List Step). x ∷ zs) (inside-append xs ys)
+      | false ↦ inside-append xs ys
+    ]
 
 pub like-then : (d e : Deed) (r q : Table → Deed) → Like d e → ((v w : Table) → bare v ≡ bare w → Like (r v) (q w)) → Like (d ▹ r) (e ▹ q)
 like-then d e r q a b =

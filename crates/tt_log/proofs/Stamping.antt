@@ -502,7 +502,8 @@ named-by None c said o t kind body company code number to text msg is r h =
   where
     by : (x : Option Admin) → admin_of t c ≡ x → Kept c said (where_some x (admin_hears o (read_admin kind body)) t).table
     by None at = h
-    by (Some a) at = (of-admin-hears o (Broken c) (KeepsStamps c said) (stamp-walk c said o (Broken c) (broken-quiet c)) (read_admin kind body) t a
+    by (Some a) at = (of-admin-hears o (Broken c) (KeepsStamps c said) (stamp-walk c said o (Broken c) (broken-quiet c))
+        (read_admin kind body) t a
         (found-among (is_admin_on c) a t.admins at) (sym (eqb-true a.conn c (found-passes (is_admin_on c) a t.admins at))) refl r h).1
 named-by (Some m) c said o t kind body company code number to text msg is r h =
     let P : Option GameMsg → Type 0 = λ x. Kept c (said ++ accepted_of o t (Some m) x) (heard o x m t).table in

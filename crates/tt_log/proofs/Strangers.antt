@@ -1,8 +1,8 @@
 -- An admin that has not joined is told nothing but how it is let in or why it ends; and there are at most sixteen admins.
 use Rattle.std.proofs.Common.{◌≡◌, ◌⊎◌, inl, inr, ℕ, ◌+◌, ◌≤◌, ◌<◌, List, [], ◌∷◌, ◌++◌, refl, ap, ap₂, sym, ◌∙◌, subst, true, false, Bool}
-use Rattle.std.proofs.Common.{Option, Some, None, arith, suc}
-use Rattle.std.specs.Prelude.{◌==◌, ◌&&◌, ◌||◌, not, cond, filter, find, length, map, nat_le}
-use Rattle.std.specs.List.{AllByRecursion, list_any}
+use Rattle.std.proofs.Common.{Option, Some, None, arith}
+use Rattle.std.specs.Prelude.{◌==◌, ◌&&◌, ◌||◌, not, cond, filter, find, length, nat_le}
+use Rattle.std.specs.List.{AllByRecursion}
 use Rattle.std.proofs.lemmas.Bool.{eqb-true, eq-eqb, ne_eqb, leb-false}
 use Rattle.std.proofs.lemmas.List.{length-append, length-map}
 use Rattle.tt_edge.specs.declared.event.Door.TheVariants.{Main, Side}
@@ -22,18 +22,18 @@ use Rattle.tt_log.specs.Member.{Member}
 use Rattle.tt_log.specs.Admin.{Admin, new_admin}
 use Rattle.tt_log.specs.Table.{Table, first, member_of, admin_of, is_admin_on}
 use Rattle.tt_log.specs.Deed.{Deed, ◌▹◌, where_}
-use Rattle.tt_log.specs.Desk.{admin_arrives, counted_aside, most_admins, admin_join_refused, admin_ends, admin_leaves, behind_join, read_admin}
-use Rattle.tt_log.specs.Desk.{admin_judged, by_admin_verdict, admin_hears}
+use Rattle.tt_log.specs.Desk.{admin_arrives, counted_aside, most_admins, admin_join_refused, admin_ends, behind_join, read_admin}
+use Rattle.tt_log.specs.Desk.{by_admin_verdict, admin_hears}
 use Rattle.tt_log.specs.Doors.{is_join, says_join, IsFirst, IsFirstWord}
 use Rattle.tt_log.specs.Events.{arrives, counted_in, read_msg, heard, to_named, by_event, charged, stops, shut_down, taken, takes, deed}
 use Rattle.tt_log.specs.Events.{stepped, last_frame}
 use Rattle.tt_log.specs.History.{table_of, AreRising}
 use Rattle.tt_log.specs.Tellings.{Filling, filling, said_by}
-use Rattle.tt_log.specs.Told.{told_by, told}
-use Rattle.tt_log.proofs.Lists.{Among, Within, NotIn, IsOther, all-append, all-so, all-filter, found-among, any-not}
-use Rattle.tt_log.proofs.Crew.{conns, admin_conns, put_admin, live-conns}
+use Rattle.tt_log.specs.Told.{told}
+use Rattle.tt_log.proofs.Lists.{Among, Within, NotIn, all-append, all-so, all-filter, found-among, any-not}
+use Rattle.tt_log.proofs.Crew.{conns, admin_conns, put_admin}
 use Rattle.tt_log.proofs.Changes.{steps_with}
-use Rattle.tt_log.proofs.Walk.{Base, Walk, Doors, Closing, Moves, Ticks, running, told_moved, Names, joined_conns, IsOwn, MayTell, of-asks}
+use Rattle.tt_log.proofs.Walk.{Base, Walk, Closing, Moves, Ticks, running, told_moved, Names, joined_conns, IsOwn, MayTell, of-asks}
 use Rattle.tt_log.proofs.Walk.{of-enters, of-leaves, of-event, of-ticked, of-deed-by, of-deed}
 use Rattle.tt_log.proofs.Clock.{from-all}
 use Rattle.tt_log.proofs.Ordered.{Ordered, is-ordered, rising-not}
@@ -41,7 +41,7 @@ use Rattle.tt_log.proofs.Ended.{is-kept, place-gone}
 use Rattle.tt_log.proofs.Malformed.{none-member}
 use Rattle.tt_log.proofs.Hearing.{Says, heard-all}
 use Rattle.tt_log.proofs.AdminEnds.{no-member}
-use Rattle.tt_log.proofs.Families.{IsAside, IsInside, Aside, Inside, Out, KeepsOut, Spares, with-inside, news-inside, moved-inside, out-deed}
+use Rattle.tt_log.proofs.Families.{IsAside, IsInside, Aside, Inside, Out, Spares, with-inside, news-inside, moved-inside, out-deed}
 
 -- ---- at most sixteen
 
@@ -241,8 +241,10 @@ shy-walk joins c o e = record {
   asks_map = λ t m on at. of-asks o e (KeepsShy joins c e) (shy-base joins c o e) (shy-moves joins c o e) t m on at;
   enters_game = λ t m on at. of-enters o e (KeepsShy joins c e) (shy-base joins c o e) (shy-moves joins c o e) t m on at;
   goes = λ t m farewell on. of-leaves o e (KeepsShy joins c e) (shy-base joins c o e) (shy-moves joins c o e) t m farewell on;
-  settles = λ t a b on is apart h. (put-stranger c b t.admins (other-conn c b.conn e apart (subst (λ (x : ℕ). Names e x) (sym is.0) is.2)) h,
-      tt);
+  settles = λ t a b on is apart h. (
+    put-stranger c b t.admins (other-conn c b.conn e apart (subst (λ (x : ℕ). Names e x) (sym is.0) is.2)) h,
+    tt,
+  );
   goes_aside = λ t a on apart h. (
     all-filter (λ (x : Admin). (x.conn == c) ≡ true → x.joined ≡ false) (λ b. not (is_admin_on a.conn b)) t.admins h,
     (λ aside. inr tt, tt),
@@ -272,15 +274,19 @@ shy-main false joins c e t apart h = (h, tt)
 shy-side : (full joins : Bool) (c : ℕ) (e : Event) (t : Table) → KeepsShy joins c e t (admin_arrives full (counted_aside t)).told
     (admin_arrives full (counted_aside t)).table
 shy-side true joins c e t apart h = (h, (λ aside. inr tt, (λ aside. inr tt, tt)))
-shy-side false joins c e t apart h = (all-append (λ (x : Admin). (x.conn == c) ≡ true → x.joined ≡ false) t.admins _ h
-    (λ at. refl, tt), tt)
+shy-side false joins c e t apart h = (
+  all-append (λ (x : Admin). (x.conn == c) ≡ true → x.joined ≡ false) t.admins _ h
+      (λ at. refl, tt),
+  tt,
+)
 
 shy-event : (joins : Bool) (c : ℕ) (o : Origin) (e : Event) (t : Table) → KeepsShy joins c e t (by_event o e t).told (by_event o e t).table
 shy-event joins c o (Open Main peer) t = shy-main (nat_le o.setup.max_clients (length t.members)) joins c (Open Main peer) t
 shy-event joins c o (Open Side peer) t = shy-side (nat_le most_admins (length t.admins)) joins c (Open Side peer) t
 shy-event joins c o (Packet conn kind body) t = let e : Event = Packet conn kind body in
     of-event o e (KeepsShy joins c e) (shy-walk joins c o e) t refl refl
-shy-event joins c o (Broken conn) t = of-event o (Broken conn) (KeepsShy joins c (Broken conn)) (shy-walk joins c o (Broken conn)) t refl refl
+shy-event joins c o (Broken conn) t = of-event o (Broken conn) (KeepsShy joins c (Broken conn)) (shy-walk joins c o (Broken conn)) t refl
+    refl
 shy-event joins c o (Shut conn) t = of-event o (Shut conn) (KeepsShy joins c (Shut conn)) (shy-walk joins c o (Shut conn)) t refl refl
 shy-event joins c o Tick t = of-ticked o Tick (KeepsShy joins c Tick) (shy-walk joins c o Tick) (shy-ticks joins c o Tick) t
 shy-event joins c o Stop t = of-event o Stop (KeepsShy joins c Stop) (shy-walk joins c o Stop) t refl refl
@@ -319,7 +325,8 @@ module _ (c : ℕ) (o : Origin) (a : Admin) (t : Table) (off : a.joined ≡ fals
   shy-word (admins.AdminRcon text) = shy-behind false None (Some (admins.AdminRcon text))
   shy-word (admins.AdminGamescript text) = shy-behind false None (Some (admins.AdminGamescript text))
   shy-word (admins.AdminPing id) = shy-behind false None (Some (admins.AdminPing id))
-  shy-word (admins.AdminExternalChat source colour user text) = shy-behind false None (Some (admins.AdminExternalChat source colour user text))
+  shy-word (admins.AdminExternalChat source colour user text) = shy-behind false None
+      (Some (admins.AdminExternalChat source colour user text))
   shy-word other = shy-ends false 7
 
   shy-hears : (said : Option AdminMsg) → AreShy (is_join said) (admin_hears o said a t)

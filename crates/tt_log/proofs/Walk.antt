@@ -32,7 +32,8 @@ use Rattle.tt_log.specs.declared.deed.What.TheVariants.{Msg, ToAdmin, MapBegin, 
 use Rattle.tt_log.specs.declared.report.Report.{Report}
 use Rattle.tt_log.specs.declared.report.Report.TheVariants.{Message, CompanyNews}
 use Rattle.tt_log.specs.Origin.{Origin, at_frame}
-use Rattle.tt_log.specs.Admin.{Admin, is_automatic, has_bit, automatic_bit, client_updates, company_updates, chat_updates, console_updates, command_updates}
+use Rattle.tt_log.specs.Admin.{Admin, is_automatic, has_bit, automatic_bit, client_updates, company_updates, chat_updates, console_updates}
+use Rattle.tt_log.specs.Admin.{command_updates}
 use Rattle.tt_log.specs.Member.{Member, is_in, is_playing, is_welcomed}
 use Rattle.tt_log.specs.Table.{Table, member_of, admin_of, is_admin_on, with_member, without_member, digest_of, with_digest, now_in}
 use Rattle.tt_log.specs.Table.{playing, welcomed, world_of, member_with, with_admin, downloader, first_loading, if_loading}
@@ -54,7 +55,8 @@ use Rattle.tt_log.specs.Tick.{stamps, drawn, tells_entries, stamped, frame_runs_
 use Rattle.tt_log.specs.Tick.{synced, next_pieces, finishes_map, mapped, left_of, late, limited, each_limited, timed, frame_follows, ticked}
 use Rattle.tt_log.specs.Events.{read_msg, opened, by_verdict, heard, to_named, on_conn, by_event, charged, stops, closed, shut_down, taken}
 use Rattle.tt_log.specs.Events.{takes, deed, last_frame}
-use Rattle.tt_log.proofs.Lists.{Among, Within, NotIn, IsOther, found-among, found-passes, map-filter-not, all-of-filter, all-filter, all-among}
+use Rattle.tt_log.proofs.Lists.{Among, Within, NotIn, IsOther, found-among, found-passes, map-filter-not, all-of-filter, all-filter}
+use Rattle.tt_log.proofs.Lists.{all-among}
 use Rattle.tt_log.proofs.Crew.{On, OnAdmin, on-found, found-on, put-among, put-admin-among, admin_conns}
 use Rattle.tt_log.proofs.Changes.{step, Allows, allows, Says, By, Change, wants_password, is_let_in, gets_token, gets_frame, answers, plays}
 use Rattle.tt_log.proofs.Changes.{commands, has_name, goes_to, founds, gets_pieces, has_all, Move, queues, begins_map, loads, Asks, May}
@@ -224,7 +226,8 @@ module _ (o : Origin) (e : Event) (P : Table → List Step → Table → Type 0)
     among-conn c (x ∷ xs) a (inl here) h = subst (λ (y : Admin). IsOther c y.conn) here h.0
     among-conn c (x ∷ xs) a (inr later) h = among-conn c xs a later h.1
 
-    of-told : (reports : List Report) (t : Table) (conn : ℕ) → ((r : Report) → MayTell e t (conn ∷ []) r) → Of t (tells_admin conn reports t)
+    of-told : (reports : List Report) (t : Table) (conn : ℕ) → ((r : Report) → MayTell e t (conn ∷ []) r)
+        → Of t (tells_admin conn reports t)
     of-told [] t conn may = w.still t
     of-told (r ∷ reports) t conn may = w.joins t t t _ _ (w.tells_admins t (conn ∷ []) r (may r)) (of-told reports t conn may)
 
