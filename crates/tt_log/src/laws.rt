@@ -241,6 +241,9 @@ pub fn admins_are_unseen()
     ensures players { (o : Origin) (es fs : List Event) (conn : ℕ) → (table_of o es).over ≡ false → (table_of o fs).over ≡ false
         → loud o es ≡ loud o fs → (door_of es conn ≡ Some Side → ⊥) → (door_of fs conn ≡ Some Side → ⊥)
         → heard o es conn ≡ heard o fs conn }
+    ensures sent { (o : Origin) (es fs : List Event) (conn : ℕ) → (table_of o es).over ≡ false → (table_of o fs).over ≡ false
+        → loud o es ≡ loud o fs → (door_of es conn ≡ Some Side → ⊥) → (door_of fs conn ≡ Some Side → ⊥)
+        → sent o es conn ≡ sent o fs conn }
 {}
 
 /// An admin that has not joined is told nothing but the protocol and the game, where it joins, why it ends, and that the game
