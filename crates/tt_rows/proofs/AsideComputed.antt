@@ -14,6 +14,7 @@ use Rattle.tt_log.specs.Rows.{number_at as line_number_at}
 use Rattle.tt_rows.specs.Games.{ComesTo}
 use Rattle.tt_rows.specs.AsideGames.{joins_and_pings, pings_first, joins_without, is_told_weekly, quits_the_game, pauses_the_world}
 use Rattle.tt_rows.specs.AsideGames.{kicks_a_client, sees_a_company, lists_companies, comes_seventeenth, says_to_all}
+use Rattle.tt_rows.specs.AsideGames.{joins_twice, sees_a_client, sees_a_name, is_told_annually, is_not_told_monthly, lists_clients, goes_on}
 
 pub computed : ComesTo joins_and_pings
     × ComesTo pings_first
@@ -26,6 +27,13 @@ pub computed : ComesTo joins_and_pings
     × ComesTo lists_companies
     × ComesTo comes_seventeenth
     × ComesTo says_to_all
+    × ComesTo joins_twice
+    × ComesTo sees_a_client
+    × ComesTo sees_a_name
+    × ComesTo is_told_annually
+    × ComesTo is_not_told_monthly
+    × ComesTo lists_clients
+    × ComesTo goes_on
 unfolding number_at within_at truth_at fixed_at before_zero text_at digest_at optional_digest_at raw_at items_at marked_at is_text
     is_digest is_utf8 chars encode digits block_words rounds compress hash_after digest_bytes md5 encode_with new_id new_name
     word_at rest_at number_in line_number_at
@@ -77,5 +85,12 @@ computed = (
     refl,
     refl,
   ),
+  ((refl, refl, tt), refl, refl, refl),
+  ((refl, refl, tt), refl, refl, refl),
+  ((refl, refl, tt), refl, refl, refl),
+  ((refl, refl, tt), refl, refl, refl),
+  ((refl, refl, tt), refl, refl, refl),
+  ((refl, refl, tt), refl, refl, refl),
+  ((refl, refl, (refl, refl, tt)), refl, refl, refl),
   ((refl, refl, tt), refl, refl, refl),
 )

@@ -4,6 +4,8 @@ ghost use Rattle.tt_rows.specs.AsideGames.{joins_and_pings, pings_first, joins_w
 ghost use Rattle.tt_rows.specs.AsideGames.{quits_the_game, pauses_the_world, kicks_a_client};
 ghost use Rattle.tt_rows.specs.AsideGames.{sees_a_company, lists_companies};
 ghost use Rattle.tt_rows.specs.AsideGames.{comes_seventeenth, says_to_all};
+ghost use Rattle.tt_rows.specs.AsideGames.{joins_twice, sees_a_client, sees_a_name, is_told_annually};
+ghost use Rattle.tt_rows.specs.AsideGames.{is_not_told_monthly, lists_clients, goes_on};
 
 /// An admin joins, is told what it asks for, and steers by the console.
 pub fn admins_come_to()
@@ -18,4 +20,11 @@ pub fn admins_come_to()
     ensures lists_companies { ComesTo lists_companies }
     ensures comes_seventeenth { ComesTo comes_seventeenth }
     ensures says_to_all { ComesTo says_to_all }
+    ensures joins_twice { ComesTo joins_twice }
+    ensures sees_a_client { ComesTo sees_a_client }
+    ensures sees_a_name { ComesTo sees_a_name }
+    ensures is_told_annually { ComesTo is_told_annually }
+    ensures is_not_told_monthly { ComesTo is_not_told_monthly }
+    ensures lists_clients { ComesTo lists_clients }
+    ensures goes_on { ComesTo goes_on }
 {}

@@ -33,3 +33,24 @@ returns-clause-comes_seventeenth c = computed.9
 
 pub returns-clause-says_to_all : goal.returns-clause-says_to_all
 returns-clause-says_to_all c = computed.10
+
+pub returns-clause-joins_twice : goal.returns-clause-joins_twice
+returns-clause-joins_twice c = computed.11
+
+pub returns-clause-sees_a_client : goal.returns-clause-sees_a_client
+returns-clause-sees_a_client c = computed.12
+
+pub returns-clause-sees_a_name : goal.returns-clause-sees_a_name
+returns-clause-sees_a_name c = computed.13
+
+pub returns-clause-is_told_annually : goal.returns-clause-is_told_annually
+returns-clause-is_told_annually c = computed.14
+
+pub returns-clause-is_not_told_monthly : goal.returns-clause-is_not_told_monthly
+returns-clause-is_not_told_monthly c = computed.15
+
+pub returns-clause-lists_clients : goal.returns-clause-lists_clients
+returns-clause-lists_clients c = computed.16
+
+pub returns-clause-goes_on : goal.returns-clause-goes_on
+returns-clause-goes_on c = computed.17
