@@ -97,8 +97,11 @@ pauses_the_world = record {
   origin = guarded_game;
   events = opens_aside ∷ admin_joins 1 ∷ says 1 (codes "07000206004000") ∷ says 1 (codes "07000208004000") ∷ commands 1 (codes "pause")
       ∷ Tick ∷ [];
-  conns = (welcomed_on 0 ++ hex (codes "0f007961646d696e0070617573650008007800006f6b0009007d7061757365000e007f01000000ff070001000000"), true)
-      ∷ [];
+  conns = (
+    welcomed_on 0 ++ hex (codes "0f007961646d696e0070617573650008007800006f6b0009007d706175736500")
+        ++ hex (codes "0e007f01000000ff070001000000"),
+    true,
+  ) ∷ [];
   journal = entry 1 1 255 Pause 1 0 [] ∷ [];
   frames = (1, 1);
 }
@@ -147,15 +150,12 @@ lists_companies = record {
   frames = (0, 0);
 }
 
--- Sixteen admins are there, and the next one is told that there is no room.
-abbrev pub comes_seventeenth : Game
-comes_seventeenth = record {
-  origin = guarded_game;
-  events = replicate 17 opens_aside;
-  conns = replicate 16 ([], true) ++ (hex (codes "030064"), false) ∷ [];
-  journal = [];
-  frames = (0, 0);
-}
+-- Seventeen come in: sixteen are admins, and the last one is told that there is no room.
+abbrev pub seventeen : List Event
+seventeen = replicate 17 opens_aside
+
+abbrev pub told_full : List ℕ
+told_full = hex (codes "030064")
 
 -- The server says something to all that play, and to the admins that watch chats; it comes behind the answer.
 abbrev pub says_to_all : Game
