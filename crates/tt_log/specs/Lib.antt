@@ -32,6 +32,7 @@ pub mod Events
 pub mod History
 pub mod Tellings
 pub mod Told
+pub mod Spelled
 pub mod Stamps
 pub mod Endings
 pub mod Marks
