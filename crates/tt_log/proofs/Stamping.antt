@@ -32,6 +32,7 @@ use Rattle.tt_log.specs.History.{table_of, journal_of, AreRising}
 use Rattle.tt_log.specs.Stamps.{accepted, accepted_by, accepted_from, accepted_of, commands_in, for_company, if_allowed, if_so, stamped_of}
 use Rattle.tt_log.proofs.Lists.{Among, NotIn, all-append, all-so, among-all}
 use Rattle.tt_log.proofs.Crew.{On, put, on-found, found-on, conns}
+use Rattle.tt_log.proofs.Codes.{IsCodeOf, judged-code}
 use Rattle.tt_log.proofs.Changes.{Says, By, Change, wants_password, is_let_in, gets_token, gets_frame, answers, plays, commands, has_name}
 use Rattle.tt_log.proofs.Changes.{goes_to, founds, gets_pieces, has_all, turned, turned-conn, turned-client, moved, moved-conn}
 use Rattle.tt_log.proofs.Changes.{moved-client, Move, queues, begins_map, loads}
@@ -213,7 +214,7 @@ stamp-base c said o e quiet = record {
   );
   tells_one = λ t m msg on talk r h. (r, h);
   tells_some = λ t to w there news r h. (r, h);
-  tells_admins = λ t to msg there r h. (r, h);
+  tells_admins = λ t to msg there notice r h. (r, h);
 }
 
 stamp-moves : (c : ℕ) (said : List (ℕ × Command)) (o : Origin) (e : Event) → Moves o e (KeepsStamps c said)
@@ -232,6 +233,7 @@ stamp-moves c said o e = record {
   waits_on = λ t conn n there r h. (r, h);
   stands = λ t m on r h. (r, record { live = h.live; early = h.early; senders = h.senders });
   cuts = λ t place r h. (r, record { live = h.live; early = h.early; senders = h.senders });
+  ends_one = λ t m on r h. (r, h);
   parts = λ t m on r h. (
     (order-moves o e).parts t m on r,
     record {
@@ -259,7 +261,7 @@ stamp-walk c said o e quiet = record {
   orders = λ t k is still r h. (r, record { live = h.live; early = h.early; senders = h.senders });
   asks_map = λ t m on at. of-asks o e (KeepsStamps c said) (stamp-base c said o e quiet) (stamp-moves c said o e) t m on at;
   enters_game = λ t m on at. of-enters o e (KeepsStamps c said) (stamp-base c said o e quiet) (stamp-moves c said o e) t m on at;
-  goes = λ t m farewell on. of-leaves o e (KeepsStamps c said) (stamp-base c said o e quiet) (stamp-moves c said o e) t m farewell on;
+  goes = λ t m farewell on is. of-leaves o e (KeepsStamps c said) (stamp-base c said o e quiet) (stamp-moves c said o e) t m farewell on is;
   goes_aside = λ t a on r h. ((order-walk o e).goes_aside t a on r, record { live = h.live; early = h.early; senders = h.senders });
 }
 
@@ -474,13 +476,13 @@ closing-kept c said o e t u d is h = by _ (record d.table { cost = d.table.cost 
     by false v k = k
 
 command-by : (v : Verdict) (c : ℕ) (said : List (ℕ × Command)) (o : Origin) (t : Table) (m : Member) (company code number to : ℕ)
-    (text : List ℕ) → Ordered t → On t m → m.conn ≡ c → Kept c said t
+    (text : List ℕ) → IsCodeOf v → Ordered t → On t m → m.conn ≡ c → Kept c said t
     → Kept c (said ++ if_allowed v (for_company company (command_of code number to text)))
     (by_verdict v o m (Some (ClientCommand company code number to text)) t).table
-command-by (Ends code) c said o t m company k number to text r on own h =
+command-by (Ends code) c said o t m company k number to text low r on own h =
     subst (λ (ws : List (ℕ × Command)). Kept c ws (ends m code t).table) (sym (append-nil said)) (of-ends o Stop (KeepsStamps c said)
-    (stamp-walk c said o Stop (stop-quiet c)) t m code on r h).1
-command-by Allowed c said o t m company code number to text r on own h = by (command_of code number to text)
+    (stamp-walk c said o Stop (stop-quiet c)) t m code on low r h).1
+command-by Allowed c said o t m company code number to text low r on own h = by (command_of code number to text)
   where
     by : (x : Option Command) → Kept c (said ++ for_company company x) (where_some x (command_waits m company) t).table
     by None = subst (λ (ws : List (ℕ × Command)). Kept c ws t) (sym (append-nil said)) h
@@ -501,7 +503,7 @@ named-by None c said o t kind body company code number to text msg is r h =
 named-by (Some m) c said o t kind body company code number to text msg is r h =
     let P : Option GameMsg → Type 0 = λ x. Kept c (said ++ accepted_of o t (Some m) x) (heard o x m t).table in
     subst P (sym msg) (command-by (judged o t m (Some (ClientCommand company code number to text))) c said o t m company code number to text
-    r (on-found t c m is) (found-on c t.members m is) h)
+    (judged-code o t m (Some (ClientCommand company code number to text))) r (on-found t c m is) (found-on c t.members m is) h)
 
 -- what a packet of the connection brings where it is not taken
 untaken : (o : Origin) (t : Table) (c kind : ℕ) (body : List ℕ) → takes t (Packet c kind body) ≡ false

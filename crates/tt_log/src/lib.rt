@@ -15,9 +15,11 @@
 #![tactic(auto)]
 
 pub mod deed;
+mod facts;
 mod laws;
 pub mod script;
 
+pub use facts::{all_is_spelled, few_clients};
 pub use laws::{
     a_tick_is_a_frame, ended_stays, foundings_are_the_worlds, frame_and_top, journal_rises,
     malformed_ends_its_own, members_are_marked, members_in_order, new_game_is_one,

@@ -1,0 +1,207 @@
+-- What is in range of a table, and that each message told of it has its spelling.
+use Rattle.std.proofs.Common.{◌≡◌, ℕ, zero, suc, ◌+◌, ◌<◌, ◌≤◌, Bool, true, false, List, [], ◌∷◌, ◌++◌, arith, lit<, refl}
+use Rattle.std.specs.Prelude.{◌*◌, ◌^◌, nat_lt, cond, take, drop, length, map}
+use Rattle.std.specs.List.{AllByRecursion}
+use Rattle.std.proofs.lemmas.List.{length-take}
+use Rattle.tt_frame.specs.Apart.{PartedFits}
+use Rattle.tt_frame.specs.Packet.{packet}
+use Rattle.tt_frame.specs.Text.{IsShort, is_text}
+use Rattle.tt_frame.proofs.FamilyLaws.{family_spells}
+use Rattle.tt_frame.proofs.SizeLaws.{body_size, body_size_but, is_one_of}
+use Rattle.tt_frame.proofs.TextLaws.{IsText-from_is_text, length_of_text}
+use Rattle.tt_game.specs.declared.message.GameMsg.{GameMsg}
+use Rattle.tt_game.specs.declared.message.GameMsg.TheVariants.{ServerMapBegin, ServerMapSize, ServerMapData, ServerMapDone, ServerSync}
+use Rattle.tt_game.specs.Apart as games
+use Rattle.tt_game.specs.Messages as game_rows
+use Rattle.tt_game.proofs.MessageLaws.{game_lawful}
+use Rattle.tt_admin.specs.declared.message.AdminMsg.{AdminMsg}
+use Rattle.tt_admin.specs.Apart as admins
+use Rattle.tt_admin.specs.Messages as admin_rows
+use Rattle.tt_admin.proofs.MessageLaws.{admin_lawful}
+use Rattle.tt_world.specs.declared.command.Code.{Code}
+use Rattle.tt_world.specs.declared.command.Code.TheVariants.{IncreaseLoan, DecreaseLoan, Give, PlaceSign, RenameSign, RenameCompany}
+use Rattle.tt_world.specs.declared.command.Code.TheVariants.{RenamePresident, Pause, NewCompany}
+use Rattle.tt_world.specs.declared.command.Command.{Command}
+use Rattle.tt_world.specs.declared.command.Entry.{Entry}
+use Rattle.tt_world.specs.Sound.{IsSound}
+use Rattle.tt_map.specs.Layout.{map_of}
+use Rattle.tt_map.proofs.WritingLaws.{map_length}
+use Rattle.tt_rules.specs.Commands.{number_of}
+use Rattle.tt_log.specs.declared.deed.Step.{Step}
+use Rattle.tt_log.specs.declared.deed.What.{What}
+use Rattle.tt_log.specs.declared.deed.What.TheVariants.{Msg, ToAdmin, MapBegin, MapPieces, Sync, Entries, Stamp, End}
+use Rattle.tt_log.specs.Origin.{Origin, above}
+use Rattle.tt_log.specs.Member.{Member}
+use Rattle.tt_log.specs.Table.{Table}
+use Rattle.tt_log.specs.Deed.{Said, game, admin}
+use Rattle.tt_log.specs.PacketRules.{told_command}
+use Rattle.tt_log.specs.Tick.{pieces_of}
+use Rattle.tt_log.specs.Tellings.{Filling, Telling, telling, filled, piece_messages, said_by}
+use Rattle.tt_log.specs.Told.{kept_if, told_to}
+use Rattle.tt_log.specs.Spelled.{IsSmall, IsSpelled}
+use Rattle.tt_log.proofs.Lists.{all-append}
+
+-- ---- what is sent
+
+-- it has its spelling, and is small
+abbrev pub IsSent : Said → Type 0
+IsSent s = IsSpelled s × IsSmall s
+
+abbrev pub AreSent : List Said → Type 0
+AreSent said = AllByRecursion IsSent said
+
+-- ---- ranges
+
+pub record FitsCommand (c : Command) : Type 0 where
+  pub number : c.number < 2 ^ 32
+  pub to : c.to < 2 ^ 8
+  pub text : is_text 31 c.text ≡ true
+
+pub record FitsEntry (e : Entry) : Type 0 where
+  pub frame : e.frame < 2 ^ 32
+  pub sender : e.sender < 2 ^ 32
+  pub company : e.company < 2 ^ 8
+  pub command : FitsCommand e.command
+
+abbrev pub FitsWaiting : ℕ × Command → Type 0
+FitsWaiting w = (w.0 < 2 ^ 8) × FitsCommand w.1
+
+pub record FitsMember (m : Member) : Type 0 where
+  pub client : m.client < 2 ^ 32
+  pub asked : m.asked < 2 ^ 8
+  pub company : m.company < 2 ^ 8
+  pub name : is_text 24 m.name ≡ true
+  pub waiting : AllByRecursion FitsWaiting m.waiting
+
+pub record FitsTable (o : Origin) (t : Table) : Type 0 where
+  pub members : AllByRecursion FitsMember t.members
+  pub few : length t.members ≤ 255
+  pub own : AllByRecursion FitsCommand t.own
+  pub journal : AllByRecursion FitsEntry t.journal
+  pub near : t.top ≤ t.frame + o.setup.frame_freq
+
+-- what is filled in
+pub record FitsFilling (f : Filling) : Type 0 where
+  pub frame : f.frame < 2 ^ 32
+  pub sound : IsSound f.world
+  pub word : f.world.words.0 < 2 ^ 32
+  pub journal : AllByRecursion FitsEntry f.journal
+
+abbrev pub FitsWhat : What → Type 0
+FitsWhat (Msg m) = IsSent (game m)
+FitsWhat (ToAdmin m) = IsSent (admin m)
+FitsWhat (Stamp e) = FitsEntry e
+FitsWhat other = Unit
+
+abbrev pub FitsSteps : List Step → Type 0
+FitsSteps steps = AllByRecursion (λ (s : Step). FitsWhat s.what) steps
+
+pub short-text : (text : List ℕ) → is_text 31 text ≡ true → IsShort text
+short-text text is = record { text = IsText-from_is_text 31 text is; fits = length_of_text 31 text is }
+
+-- ---- messages
+
+-- a packet is three bytes longer than its body
+small-packet : (kind : ℕ) (body : List ℕ) → length body ≤ 1457 → length (packet kind body) ≤ 1460
+small-packet kind body l = omega (arith, l)
+
+-- a message whose fields are in their ranges
+pub game-spelled : (m : GameMsg) → PartedFits game_rows.messages (games.apart m) → IsSent (game m)
+game-spelled m fits =
+    let is : IsSpelled (game m) = family_spells GameMsg games.game_family game_lawful m fits in
+    (is, small-packet (games.kind_of m) (games.body_bytes m) (body_size GameMsg 1457 game_rows.messages m (games.kind_of m)
+    (games.body_bytes m) refl is))
+
+-- and one of the admin family, but for the names of commands
+pub admin-spelled : (m : AdminMsg) → is_one_of (122 ∷ []) (admins.kind_of m) ≡ false → PartedFits admin_rows.messages (admins.apart m)
+    → IsSent (admin m)
+admin-spelled m other fits =
+    let is : IsSpelled (admin m) = family_spells AdminMsg admins.admin_family admin_lawful m fits in
+    (is, small-packet (admins.kind_of m) (admins.body_bytes m) (body_size_but AdminMsg (122 ∷ []) 1457 admin_rows.messages m
+    (admins.kind_of m) (admins.body_bytes m) refl other is))
+
+pub code-small : (code : Code) → number_of code < 2 ^ 16
+code-small IncreaseLoan = lit< tt
+code-small DecreaseLoan = lit< tt
+code-small Give = lit< tt
+code-small PlaceSign = lit< tt
+code-small RenameSign = lit< tt
+code-small RenameCompany = lit< tt
+code-small RenamePresident = lit< tt
+code-small Pause = lit< tt
+code-small NewCompany = lit< tt
+
+pub low-code : {n : ℕ} → n ≤ 20 → (n ≤ 20) × (n < 2 ^ 8)
+low-code l = (l, omega (arith, l))
+
+pub low-scope : {n : ℕ} → n ≤ 2 → (n ≤ 2) × (n < 2 ^ 8)
+low-scope l = (l, omega (arith, l))
+
+pub low-byte : {n : ℕ} → n ≤ 255 → n < 2 ^ 8
+low-byte l = omega (arith, l)
+
+-- ---- what is filled in
+
+command-spelled : (e : Entry) → FitsEntry e → IsSent (game (told_command e))
+command-spelled e h = game-spelled (told_command e) (h.company, (code-small e.command.code, (h.command.number, (h.command.to,
+    (h.command.text, (h.frame, (h.sender, tt)))))))
+
+commands-spelled : (es : List Entry) → AllByRecursion FitsEntry es → AreSent (map (λ e. game (told_command e)) es)
+commands-spelled [] a = tt
+commands-spelled (e ∷ es) a = (command-spelled e a.0, commands-spelled es a.1)
+
+above-one : (b : Bool) (e : Entry) (rest : List Entry) → FitsEntry e → AllByRecursion FitsEntry rest
+    → AllByRecursion FitsEntry (cond b (e ∷ rest) rest)
+above-one true e rest h a = (h, a)
+above-one false e rest h a = a
+
+above-fits : (o : Origin) (s : ℕ) (es : List Entry) → AllByRecursion FitsEntry es → AllByRecursion FitsEntry (above o s es)
+above-fits o s [] a = tt
+above-fits o s (e ∷ es) a = above-one (nat_lt s e.frame) e (above o s es) a.0 (above-fits o s es a.1)
+
+piece-spelled : (b : ℕ) (bs : List ℕ) → IsSent (game (ServerMapData (take 1400 (b ∷ bs))))
+piece-spelled b bs = let n = length-take 1400 (b ∷ bs) in
+    game-spelled (ServerMapData (take 1400 (b ∷ bs))) (omega (arith, n), omega (arith, n))
+
+pieces-spelled : (n : ℕ) (left : List ℕ) (more : List GameMsg) → AreSent (map game more)
+    → AreSent (map game (map ServerMapData (pieces_of n left) ++ more))
+pieces-spelled n [] more a = a
+pieces-spelled zero (b ∷ bs) more a = a
+pieces-spelled (suc n) (b ∷ bs) more a = (piece-spelled b bs, pieces-spelled n (drop 1400 (b ∷ bs)) more a)
+
+done-spelled : (b : Bool) → AreSent (map game (cond b [] (ServerMapDone ∷ [])))
+done-spelled true = tt
+done-spelled false = (game-spelled ServerMapDone tt, tt)
+
+low-size : {n : ℕ} → n ≤ 40280 → n < 2 ^ 32
+low-size l = omega (arith, l)
+
+what-spelled : (o : Origin) (f : Filling) (w : What) → FitsFilling f → FitsWhat w → AreSent (said_by o f w)
+what-spelled o f (Msg m) h a = (a, tt)
+what-spelled o f (ToAdmin m) h a = (a, tt)
+what-spelled o f (Stamp e) h a = (command-spelled e a, tt)
+what-spelled o f MapBegin h a = (
+  game-spelled (ServerMapBegin f.frame) (h.frame, tt),
+  (game-spelled (ServerMapSize (length (map_of f.world))) (low-size (map_length f.world h.sound), tt), tt),
+)
+what-spelled o f MapPieces h a = pieces-spelled 4 f.left _ (done-spelled (nat_lt (4 * 1400) (length f.left)))
+what-spelled o f Sync h a = (game-spelled (ServerSync f.frame f.world.words.0) (h.frame, (h.word, tt)), tt)
+what-spelled o f (Entries frame) h a = commands-spelled (above o frame f.journal) (above-fits o frame f.journal h.journal)
+what-spelled o f End h a = tt
+
+kept-spelled : (b : Bool) (s : Said) (rest : List Said) → IsSent s → AreSent rest → AreSent (kept_if b s rest)
+kept-spelled true s rest is a = (is, a)
+kept-spelled false s rest is a = a
+
+step-spelled : (c : ℕ) (to : List ℕ) (said : List Said) (more : List Telling) → AreSent said → AreSent (told_to c more)
+    → AreSent (told_to c (map (telling to) said ++ more))
+step-spelled c to [] more is a = a
+step-spelled c to (s ∷ said) more is a = kept-spelled _ s (told_to c (map (telling to) said ++ more)) is.0
+    (step-spelled c to said more is.1 a)
+
+-- what steps in range tell a connection has its spelling
+pub told-spelled : (c : ℕ) (o : Origin) (f : Filling) (steps : List Step) → FitsFilling f → FitsSteps steps
+    → AreSent (told_to c (filled o f steps))
+told-spelled c o f [] h a = tt
+told-spelled c o f (s ∷ steps) h a = step-spelled c s.to (said_by o f s.what) (filled o f steps) (what-spelled o f s.what h a.0)
+    (told-spelled c o f steps h a.1)
