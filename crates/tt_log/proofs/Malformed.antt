@@ -31,7 +31,7 @@ use Rattle.tt_log.proofs.Lists.{IsOther, NotIn, all-append, any-not, all-of-filt
 use Rattle.tt_log.proofs.Crew.{On, put, put-conns, conns, admin_conns, live-conns, live-admins, found-on, on-found, find-put-here}
 use Rattle.tt_log.proofs.Crew.{find-put-other, find-others, none-left}
 use Rattle.tt_log.proofs.Changes.{step, turned, moved}
-use Rattle.tt_log.proofs.Walk.{Base, Moves, of-leaves, of-leaves-queue}
+use Rattle.tt_log.proofs.Walk.{Base, Moves, of-leaves-queue}
 use Rattle.tt_log.proofs.Clock.{SameClock, KeepsClock, same-base, same-moves, over-is-empty}
 use Rattle.tt_log.proofs.Ordered.{is-ordered, no-admin}
 use Rattle.tt_log.proofs.Phases.{OnceIn, place_in, removed-is, cut-none, none-behind, place-once}
@@ -355,7 +355,8 @@ module _ (o : Origin) (t : Table) (m : Member) (code : ℕ) (on : On t m) (apart
   left-game : IsSameGame t Left
   left-game =
       let u : Table = gone m t in
-      let clock : SameClock t Left = of-leaves o Stop KeepsClock (same-base o Stop) (same-moves o Stop) t m (Failing code) on in
+      let clock : SameClock u Left = subst (λ (v : Table). SameClock u (leaves_queue m.conn v).table)
+      (sym (farewell-told (is_welcomed m) m code u)) (of-leaves-queue o Stop KeepsClock (same-base o Stop) (same-moves o Stop) m.conn u) in
       let rest : Rest 0 u Left = rest-of 0 in
       record {
         frame = clock.frame;
