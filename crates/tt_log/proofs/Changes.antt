@@ -1,6 +1,7 @@
 -- What rules are made of: how a member changes and what it is told with it, and what others are told.
 use Rattle.std.proofs.Common.{◌≡◌, ◌⊎◌, ℕ, ◌+◌, ◌≤◌, ◌<◌, Bool, true, false, List, [], ◌∷◌, ◌++◌, Option, Some, None, refl}
-use Rattle.std.specs.Prelude.{length, map, cond, ◌==◌}
+use Rattle.std.specs.Prelude.{codes, length, map, cond, ◌==◌}
+use Rattle.tt_frame.specs.Text.{is_plain}
 use Rattle.tt_edge.specs.declared.event.Event.{Event}
 use Rattle.tt_edge.specs.declared.event.Event.TheVariants.{Packet}
 use Rattle.tt_game.specs.declared.message.GameMsg.{GameMsg}
@@ -22,7 +23,10 @@ use Rattle.tt_rules.specs.declared.status.Status.TheVariants.{AuthGame, AuthComp
 use Rattle.tt_log.specs.declared.deed.Step.{Step}
 use Rattle.tt_log.specs.declared.deed.What.{What}
 use Rattle.tt_log.specs.declared.deed.What.TheVariants.{Msg, MapPieces, Sync, Stamp}
+use Rattle.tt_log.specs.declared.report.Report.{Report}
+use Rattle.tt_log.specs.declared.report.Report.TheVariants.{Message}
 use Rattle.tt_log.specs.Origin.{Origin}
+use Rattle.tt_log.specs.Admin.{Admin, allowed_bits}
 use Rattle.tt_log.specs.Member.{Member, standing_of}
 use Rattle.tt_log.specs.Table.{Table, living_in, count_living, now_in, with_member}
 use Rattle.tt_log.specs.Names.{given_name}
@@ -32,6 +36,9 @@ use Rattle.tt_log.specs.Judged.{refused, unless, judged}
 use Rattle.tt_log.specs.PacketRules.{first_company, acknowledged, closed_token}
 use Rattle.tt_log.specs.Tick.{pieces_of}
 use Rattle.tt_log.specs.Ending.{Farewell, Quitting, Failing}
+use Rattle.tt_log.specs.Polls.{command_names}
+use Rattle.tt_log.specs.Console.{announces, client_line, command_in}
+use Rattle.tt_log.specs.Desk.{admin_protocol, read_admin, types_from}
 use Rattle.tt_log.specs.Events.{read_msg}
 use Rattle.tt_log.proofs.Lists.{Among}
 use Rattle.tt_log.proofs.Crew.{On}
@@ -186,9 +193,17 @@ abbrev pub IsFarewell : Event → Member → Farewell → Type 0
 IsFarewell e m Quitting = Unit
 IsFarewell e m (Failing code) = IsReason e m code
 
--- what a member says in a scope
+-- the event is the packet of this admin that spells the message
+abbrev pub SaysAside : Event → Admin → AdminMsg → Type 0
+SaysAside e a msg = (kind : ℕ) × (body : List ℕ) × (e ≡ Packet a.conn kind body) × (read_admin kind body ≡ Some msg)
+
+-- what a member says in a scope, or the server itself: an admin's chat, and what the console announces to all
 abbrev pub IsChat : Event → Table → ℕ → ℕ → List ℕ → Type 0
-IsChat e t client scope text = (m : Member) × On t m × (client ≡ m.client) × (to : ℕ) × Says e m (ClientChat scope to text)
+IsChat e t client scope text =
+    ((m : Member) × On t m × (client ≡ m.client) × (to : ℕ) × Says e m (ClientChat scope to text))
+    ⊎ ((client ≡ 1) × (a : Admin) × (to : ℕ) × SaysAside e a (admins.AdminChat scope to text))
+    ⊎ ((client ≡ 1) × (scope ≡ 0) × (a : Admin) × (line : List ℕ) × SaysAside e a (admins.AdminRcon line)
+    × (command_in line ≡ announces text))
 
 -- a message of a dialogue that moves nothing: no command, no frame, nothing of the map
 abbrev pub IsTalk : Origin → Event → Table → GameMsg → Type 0
@@ -210,6 +225,10 @@ IsNews o e t (Stamp entry) = Among entry t.journal
 IsNews o e t Sync = Unit
 IsNews o e t other = ⊥
 
+-- a line of the console: a short one, or that of a member
+abbrev pub IsAnswer : Table → List ℕ → Type 0
+IsAnswer t text = ((is_plain text ≡ true) × (length text ≤ 899)) ⊎ ((m : Member) × On t m × (text ≡ client_line m))
+
 -- what admins are told
 abbrev pub IsNotice : Origin → Event → Table → AdminMsg → Type 0
 IsNotice o e t (admins.ServerError code) = code ≤ 20
@@ -222,7 +241,18 @@ IsNotice o e t (admins.ServerChat scope client text) = IsChat e t client scope t
 IsNotice o e t (admins.ServerCmdLogging client company code frame) =
     (entry : Entry) × Among entry t.journal × (client ≡ entry.sender) × (company ≡ entry.company)
     × (code ≡ number_of entry.command.code) × (frame ≡ entry.frame)
+IsNotice o e t (admins.ServerProtocol version items) = (version ≡ admin_protocol) × (items ≡ types_from 0 allowed_bits)
+IsNotice o e t (admins.ServerPong id) = (a : Admin) × SaysAside e a (admins.AdminPing id)
+IsNotice o e t (admins.ServerConsole origin text) = (origin ≡ codes "admin") × (a : Admin) × SaysAside e a (admins.AdminRcon text)
+IsNotice o e t (admins.ServerRcon colour text) = (colour ≡ 0) × IsAnswer t text
+IsNotice o e t (admins.ServerRconEnd text) = (a : Admin) × SaysAside e a (admins.AdminRcon text)
+IsNotice o e t (admins.ServerCmdNames names) = names ≡ command_names
 IsNotice o e t other = ⊥
+
+-- what reports are made of is filled in at the end of the event
+abbrev pub IsReport : Origin → Event → Table → Report → Type 0
+IsReport o e t (Message msg) = IsNotice o e t msg
+IsReport o e t other = Unit
 
 -- ---- each change keeps who the member is
 

@@ -7,7 +7,7 @@ use Rattle.tt_edge.specs.declared.event.Event.TheVariants.{Open, Packet, Broken,
 use Rattle.tt_edge.specs.Event.{is_tick}
 use Rattle.tt_log.specs.declared.deed.Step.{Step}
 use Rattle.tt_log.specs.Origin.{Origin}
-use Rattle.tt_log.specs.Table.{Table, first}
+use Rattle.tt_log.specs.Table.{Table, first, world_of}
 use Rattle.tt_log.specs.Deed.{Deed, where_}
 use Rattle.tt_log.specs.Desk.{admin_arrives, counted_aside, most_admins}
 use Rattle.tt_log.specs.Tick.{stamps, stamped, frame_runs_by, left_of, ticked}
@@ -16,6 +16,7 @@ use Rattle.tt_log.specs.History.{table_of}
 use Rattle.tt_log.proofs.Walk.{stamping, running, Base, Walk, Doors, Moves, of-entries, of-frames, of-asks, of-enters, of-leaves}
 use Rattle.tt_log.proofs.Walk.{of-follows, of-still}
 use Rattle.tt_log.proofs.Lists.{last-among}
+use Rattle.tt_log.proofs.Places.{world-places}
 
 -- ---- what leaves the clock
 
@@ -62,6 +63,7 @@ same-walk o e = record {
   asks_map = λ t m on at. of-asks o e KeepsClock (same-base o e) (same-moves o e) t m on at;
   enters_game = λ t m on at. of-enters o e KeepsClock (same-base o e) (same-moves o e) t m on at;
   goes = λ t m farewell on is. of-leaves o e KeepsClock (same-base o e) (same-moves o e) t m farewell on is;
+  settles = λ t a b on is. record { frame = refl; top = refl; over = refl; journal = refl };
   goes_aside = λ t a on. record { frame = refl; top = refl; over = refl; journal = refl };
 }
 
@@ -124,7 +126,7 @@ ticked-is o t =
     let b : Bool = nat_lt s.top (s.frame + 1) in
     let u : Table = (frame_runs_by b o s).table in
     ticked-by b o t s u (ticked o t).table (stamped-same o t) refl (runs-same o b s) (of-follows o Tick KeepsClock (same-walk o Tick)
-    t (left_of o t) u)
+    (world_of o t) (left_of o t) u (world-places o t.journal t.frame))
 
 -- ---- what follows the rule of an event
 

@@ -4,6 +4,9 @@ use Rattle.std.specs.Prelude.{◌||◌, ◌==◌, ◌-◌, not, nat_le, nat_lt, 
 use Rattle.tt_game.specs.declared.message.GameMsg.{GameMsg}
 use Rattle.tt_game.specs.declared.message.GameMsg.TheVariants.{ClientJoin, ClientGamePassword, ClientCompanyPassword, ClientSetName}
 use Rattle.tt_game.specs.declared.message.GameMsg.TheVariants.{ClientMove, ClientAck, ClientCommand, ClientSetPassword}
+use Rattle.tt_admin.specs.declared.message.AdminMsg.{AdminMsg}
+use Rattle.tt_admin.specs.declared.message.AdminMsg.TheVariants.{AdminJoin, AdminQuit, AdminUpdateFrequency, AdminPoll, AdminChat}
+use Rattle.tt_admin.specs.declared.message.AdminMsg.TheVariants.{AdminRcon, AdminGamescript, AdminPing, AdminExternalChat}
 use Rattle.tt_world.specs.declared.setup.Setup.{Setup}
 use Rattle.tt_rules.specs.Reasons.{◌⇒◌, ◌or_else◌}
 use Rattle.tt_rules.specs.Commands.{is_own_code}
@@ -18,6 +21,8 @@ use Rattle.tt_rules.specs.declared.status.Verdict.{Verdict}
 use Rattle.tt_rules.specs.declared.status.Verdict.TheVariants.{Allowed, Ends}
 use Rattle.tt_log.specs.Origin.{Origin}
 use Rattle.tt_log.specs.Member.{Member, standing_of}
+use Rattle.tt_log.specs.Admin.{Admin, may_be_told, may_be_polled}
+use Rattle.tt_log.specs.Desk.{admin_judged, admin_refused}
 use Rattle.tt_log.specs.Table.{Table, living_in, digest_of}
 use Rattle.tt_log.specs.Names.{given_name, is_too_long}
 use Rattle.tt_log.specs.Judged.{is_same_game, is_empty, may_ask_for, is_same_digest, opens, refused, unless, judged}
@@ -84,6 +89,27 @@ judged-code o t m (Some msg) =
     let live : List Bool = living_in o t in
     unless-code (verdict s live msg) (refused o live t m msg) (verdict-code (first_reason (permits msg s.status) (refusal s live msg))
     (first-code (permits msg s.status) (refusal s live msg) (refusal-code s live msg))) (refused-code o live t m msg)
+
+-- and of an admin
+admin-refused-code : (o : Origin) (a : Admin) (msg : AdminMsg) → IsCode (admin_refused o a msg)
+admin-refused-code o a (AdminJoin password application version) =
+    code-then a.joined 7 _ (omega arith) (code-then (is_empty application || is_empty version) 4 _ (omega arith)
+    (code-if (is_empty o.setup.admin_password || not (bytes_eq password o.setup.admin_password)) 10 (omega arith)))
+admin-refused-code o a AdminQuit = tt
+admin-refused-code o a (AdminUpdateFrequency kind bits) =
+    code-then (not a.joined) 7 _ (omega arith) (code-if (not (may_be_told kind bits)) 4 (omega arith))
+admin-refused-code o a (AdminPoll kind id) =
+    code-then (not a.joined) 7 _ (omega arith) (code-if (not (may_be_polled kind)) 4 (omega arith))
+admin-refused-code o a (AdminChat scope to text) = code-then (not a.joined) 7 None (omega arith) tt
+admin-refused-code o a (AdminRcon text) = code-then (not a.joined) 7 None (omega arith) tt
+admin-refused-code o a (AdminGamescript text) = code-then (not a.joined) 7 None (omega arith) tt
+admin-refused-code o a (AdminPing id) = code-then (not a.joined) 7 None (omega arith) tt
+admin-refused-code o a (AdminExternalChat source colour user text) = code-then (not a.joined) 7 None (omega arith) tt
+admin-refused-code o a other = omega arith
+
+pub admin-judged-code : (o : Origin) (a : Admin) (said : Option AdminMsg) → IsCodeOf (admin_judged o a said)
+admin-judged-code o a None = omega arith
+admin-judged-code o a (Some msg) = verdict-code (admin_refused o a msg) (admin-refused-code o a msg)
 
 -- and the limits of each status
 late-in-code : (s : Status) (setup : Setup) (f : ℕ) (m : Member) → IsCode (late_in s setup f m)

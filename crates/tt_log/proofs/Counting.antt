@@ -61,6 +61,7 @@ counts-walk o e = record {
   asks_map = λ t m on at. of-asks o e KeepsCounts (counts-base o e) (counts-moves o e) t m on at;
   enters_game = λ t m on at. of-enters o e KeepsCounts (counts-base o e) (counts-moves o e) t m on at;
   goes = λ t m farewell on is. of-leaves o e KeepsCounts (counts-base o e) (counts-moves o e) t m farewell on is;
+  settles = λ t a b on is. record { openings = refl; clients = refl; cost = refl };
   goes_aside = λ t a on. record { openings = refl; clients = refl; cost = refl };
 }
 

@@ -355,6 +355,7 @@ mark-walk o e = record {
   asks_map = λ t m on at. of-asks o e KeepsMarks (mark-base o e) (mark-moves o e) t m on at;
   enters_game = λ t m on at. of-enters o e KeepsMarks (mark-base o e) (mark-moves o e) t m on at;
   goes = λ t m farewell on is. of-leaves o e KeepsMarks (mark-base o e) (mark-moves o e) t m farewell on is;
+  settles = λ t a b on is h. h;
   goes_aside = λ t a on h. h;
 }
 

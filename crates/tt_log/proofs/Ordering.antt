@@ -9,7 +9,7 @@ use Rattle.tt_world.specs.declared.command.Command.{Command}
 use Rattle.tt_world.specs.declared.command.Entry.{Entry}
 use Rattle.tt_log.specs.declared.deed.Step.{Step}
 use Rattle.tt_log.specs.Origin.{Origin}
-use Rattle.tt_log.specs.Table.{Table, first}
+use Rattle.tt_log.specs.Table.{Table, first, world_of}
 use Rattle.tt_log.specs.Deed.{where_}
 use Rattle.tt_log.specs.Desk.{admin_arrives, counted_aside, most_admins}
 use Rattle.tt_log.specs.Tick.{stamps, own_entry, stamped, frame_runs_by, left_of, ticked}
@@ -19,6 +19,7 @@ use Rattle.tt_log.specs.Stamps.{ordered, ordered_by, ordered_from, owned, stampe
 use Rattle.tt_log.proofs.Walk.{Base, Walk, Doors, Moves, running, stamping, of-asks, of-enters, of-leaves, of-still, of-entries, of-frames}
 use Rattle.tt_log.proofs.Walk.{of-follows}
 use Rattle.tt_log.proofs.Lists.{last-among}
+use Rattle.tt_log.proofs.Places.{world-places}
 use Rattle.tt_log.proofs.Clock.{Ticked, ticked-is, event-same, taken-run}
 use Rattle.tt_log.proofs.Ordered.{Ordered, is-ordered, step-ordered}
 use Rattle.tt_log.proofs.Stamping.{stamped-append, drawing, drawing-none, drop-front, rising-none}
@@ -72,6 +73,7 @@ own-walk o e = record {
   asks_map = λ t m on at. of-asks o e (KeepsOwn e) (own-base o e) (own-moves o e) t m on at;
   enters_game = λ t m on at. of-enters o e (KeepsOwn e) (own-base o e) (own-moves o e) t m on at;
   goes = λ t m farewell on is. of-leaves o e (KeepsOwn e) (own-base o e) (own-moves o e) t m farewell on is;
+  settles = λ t a b on is. same e t _ refl;
   goes_aside = λ t a on. same e t _ refl;
 }
 
@@ -107,7 +109,8 @@ ticked-own o t =
     let s : Table = (stamped t).table in
     let b : Bool = nat_lt s.top (s.frame + 1) in
     let u : Table = (frame_runs_by b o s).table in
-    none-more u (ticked o t).table (of-follows o Tick (KeepsOwn Tick) (own-walk o Tick) t (left_of o t) u)
+    none-more u (ticked o t).table (of-follows o Tick (KeepsOwn Tick) (own-walk o Tick) (world_of o t) (left_of o t) u
+    (world-places o t.journal t.frame))
     ∙ none-more (running b o s) u (runs-own o b s) ∙ running-own o b s
     ∙ none-more (stamping t) s (of-entries o Tick (KeepsOwn Tick) (own-base o Tick) (stamps t) (stamping t)
     (last-among t.journal (stamps t)))

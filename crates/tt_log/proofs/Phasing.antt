@@ -182,6 +182,7 @@ further-walk c o e = record {
   asks_map = λ t m on at p h. asks-by (m.conn == c) c p m t refl at (among-all (Suits c p) m t.members on h.suits) on h;
   enters_game = λ t m on at p h. enters-by (m.conn == c) c p m t refl h;
   goes = λ t m farewell on is p h. leaves-by (m.conn == c) c p m farewell t refl h;
+  settles = λ t a b on is p h. goes-quiet c p _ _ [] (record { suits = h.suits; place = h.place }) tt;
   goes_aside = λ t a on p h. goes-quiet c p _ _ _ (record { suits = h.suits; place = h.place }) (refl, tt);
 }
 

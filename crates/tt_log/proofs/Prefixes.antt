@@ -105,6 +105,7 @@ only-walk c k o e = record {
   asks_map = λ t m on at. of-asks o e (KeepsOnly c k) (only-base c k o e) (only-moves c k o e) t m on at;
   enters_game = λ t m on at. of-enters o e (KeepsOnly c k) (only-base c k o e) (only-moves c k o e) t m on at;
   goes = λ t m farewell on is. of-leaves o e (KeepsOnly c k) (only-base c k o e) (only-moves c k o e) t m farewell on is;
+  settles = λ t a b on is h. record { only = h.only; known = h.known };
   goes_aside = λ t a on h. record { only = h.only; known = h.known };
 }
 
