@@ -1,15 +1,16 @@
 -- Whatever the rules tell has its spelling, and what is in range stays so.
-use Rattle.std.proofs.Common.{◌≡◌, inl, inr, ℕ, suc, ◌+◌, ◌<◌, ◌≤◌, Bool, true, false, List, [], ◌∷◌, ◌++◌, Option, Some, None, refl, ap, sym}
+use Rattle.std.proofs.Common.{◌≡◌, inl, inr, ℕ, suc, ◌+◌, ◌<◌, ◌≤◌, Bool, true, false, List, [], ◌∷◌, ◌++◌, Option, Some, None, refl, ap, ap₂, sym}
 use Rattle.std.proofs.Common.{◌∙◌, subst, arith, lit<}
-use Rattle.std.specs.Prelude.{◌^◌, ◌==◌, codes, cond, drop, filter, flat_map, length, map, min, nat_le, nat_lt, not, take}
+use Rattle.std.specs.Prelude.{◌^◌, ◌==◌, codes, cond, decimal, drop, filter, flat_map, length, map, min, nat_le, nat_lt, not, take}
 use Rattle.std.specs.List.{AllByRecursion}
 use Rattle.std.proofs.Math.Nat.{min-le_right}
 use Rattle.std.proofs.lemmas.Bool.{leb-false}
 use Rattle.std.proofs.lemmas.List.{length-append, length-map}
 use Rattle.std.proofs.lemmas.Str.{IsUtf8-nil}
 use Rattle.std.proofs.lemmas.List.Elements.{All-nil}
-use Rattle.tt_frame.specs.Text.{IsName, is_text}
-use Rattle.tt_frame.proofs.TextLaws.{is_text-from_IsText, IsText-from_is_plain}
+use Rattle.std.proofs.lemmas.Fmt.{length-decimal-le}
+use Rattle.tt_frame.specs.Text.{IsName, IsText, is_text}
+use Rattle.tt_frame.proofs.TextLaws.{is_text-from_IsText, IsText-from_is_plain, IsText-from_is_text, length_of_text}
 use Rattle.tt_edge.specs.declared.event.Event.{Event}
 use Rattle.tt_game.specs.declared.message.GameMsg.{GameMsg}
 use Rattle.tt_game.specs.declared.message.GameMsg.TheVariants.{ServerFull, ServerError, ServerGameInfo, ServerNeedGamePassword}
@@ -26,6 +27,8 @@ use Rattle.tt_rules.specs.Reasons.{◌⇒◌, ◌or_else◌}
 use Rattle.tt_log.specs.declared.deed.Step.{Step}
 use Rattle.tt_log.specs.declared.deed.What.{What}
 use Rattle.tt_log.specs.declared.deed.What.TheVariants.{Msg, Stamp, Sync}
+use Rattle.tt_log.specs.declared.report.Report.{Report}
+use Rattle.tt_log.specs.declared.report.Report.TheVariants.{Message}
 use Rattle.tt_log.specs.Origin.{Origin, IsOrigin}
 use Rattle.tt_log.specs.Member.{Member, new_member}
 use Rattle.tt_log.specs.Table.{Table, count_living, is_on, living_in, with_member}
@@ -44,13 +47,19 @@ use Rattle.tt_log.proofs.Places.{living-places}
 use Rattle.tt_log.proofs.Changes.{Allows, By, Says, Change, wants_password, is_let_in, gets_token, gets_frame, answers, plays, commands}
 use Rattle.tt_log.proofs.Changes.{has_name, goes_to, founds, gets_pieces, has_all, Asks, May, turned, turned_in, steps_with, moved, Move}
 use Rattle.tt_log.proofs.Changes.{queues, begins_map, loads, IsClient, IsSeated, IsReason, IsEnd, IsChat, IsTalk, IsNews, IsNotice}
+use Rattle.tt_log.proofs.Changes.{IsAnswer, IsReport}
 use Rattle.tt_log.proofs.Walk.{running, told_moved, IsOrdered, Base, Walk, Doors, Closing, Moves, Ticks, of-asks, of-enters}
 use Rattle.tt_log.proofs.Walk.{of-leaves, of-deed}
 use Rattle.tt_log.proofs.Marking.{fresh-low, none-first}
-use Rattle.tt_log.proofs.Reading.{join-fits, command-fits, chat-fits, name-fits, move-fits, error-fits}
+use Rattle.tt_log.proofs.Reading.{join-fits, command-fits, chat-fits, name-fits, move-fits, error-fits, ping-fits, rcon-fits}
+use Rattle.tt_log.proofs.Reading.{aside-fits}
 use Rattle.tt_log.proofs.GivenNames.{given-fits}
-use Rattle.tt_log.proofs.Ranges.{FitsCommand, FitsEntry, FitsWaiting, FitsMember, FitsTable, FitsSteps, FitsWhat, IsSent, game-spelled}
-use Rattle.tt_log.proofs.Ranges.{admin-spelled, code-small, low-code, low-scope, low-byte}
+use Rattle.tt_log.proofs.GivenNames.{decimal-text, text-append}
+use Rattle.tt_log.proofs.Announced.{announced-fits}
+use Rattle.tt_log.proofs.Companies.{empty-text, filter-short, name-text}
+use Rattle.tt_log.proofs.Sending.{IsSent, admin-spelled, game-spelled, names-sent, protocol-sent}
+use Rattle.tt_log.proofs.Ranges.{FitsCommand, FitsEntry, FitsWaiting, FitsMember, FitsTable, FitsReport, FitsSteps, FitsWhat}
+use Rattle.tt_log.proofs.Ranges.{code-small, low-code, low-scope, low-byte}
 
 -- ---- what was not refused
 
@@ -69,27 +78,11 @@ join-short o e t m revision grf name company a =
 
 -- ---- texts
 
-name-text : (bytes : List ℕ) → IsName bytes → is_text 31 bytes ≡ true
-name-text bytes h = is_text-from_IsText 31 bytes h.text h.fits
-
-empty-text : is_text 31 [] ≡ true
-empty-text = is_text-from_IsText 31 [] (record { utf8 = IsUtf8-nil; shown = All-nil _ }) (omega arith)
-
 question : is_text 24 (codes "?") ≡ true
 question = is_text-from_IsText 24 (codes "?") (IsText-from_is_plain (codes "?") refl) (omega arith)
 
 first-small : (asked : ℕ) → asked < 2 ^ 8 → first_company asked < 2 ^ 8
 first-small asked l = elim (asked == founder) as (λ b. cond b 255 asked < 2 ^ 8) [ true ↦ lit< tt | false ↦ l ]
-
--- ---- lists
-
-filter-step : {A : Type 0} (b : Bool) (x : A) (rest : List A) (n : ℕ) → length rest ≤ n → length (cond b (x ∷ rest) rest) ≤ suc n
-filter-step true x rest n l = omega (arith, l)
-filter-step false x rest n l = omega (arith, l)
-
-filter-short : {A : Type 0} (p : A → Bool) (xs : List A) → length (filter p xs) ≤ length xs
-filter-short p [] = omega arith
-filter-short p (x ∷ xs) = filter-step (p x) x (filter p xs) (length xs) (filter-short p xs)
 
 -- ---- members
 
@@ -133,6 +126,30 @@ low-frame l = omega (arith, l)
 
 before-next : {n : ℕ} → n + 1 < 2 ^ 32 → n < 2 ^ 32
 before-next l = omega (arith, l)
+
+-- a client's line on the console
+line-text : (client company : ℕ) (name : List ℕ) → client < 2 ^ 32 → company < 2 ^ 8 → is_text 24 name ≡ true
+    → is_text 899 (decimal client ++ codes " " ++ decimal company ++ codes " " ++ name) ≡ true
+line-text client company name few low is =
+    let blank : IsText (codes " ") = IsText-from_is_plain (codes " ") refl in
+    let a : List ℕ = decimal client in
+    let b : List ℕ = decimal company in
+    let la = length-decimal-le 20 client (omega arith) (omega (arith, few)) (omega (arith, few)) in
+    let lb = length-decimal-le 20 company (omega arith) (omega (arith, low)) (omega (arith, low)) in
+    let n1 = length-append a (codes " ") in
+    let n2 = length-append (a ++ codes " ") b in
+    let n3 = length-append (a ++ codes " " ++ b) (codes " ") in
+    let n4 = length-append (a ++ codes " " ++ b ++ codes " ") name in
+    let t1 : IsText (a ++ codes " ") = text-append a (codes " ") (decimal-text client (omega (arith, few))) blank in
+    let t2 : IsText (a ++ codes " " ++ b) = text-append (a ++ codes " ") b t1 (decimal-text company (omega (arith, low))) in
+    let t3 : IsText (a ++ codes " " ++ b ++ codes " ") = text-append (a ++ codes " " ++ b) (codes " ") t2 blank in
+    let t4 : IsText (a ++ codes " " ++ b ++ codes " " ++ name) =
+    text-append (a ++ codes " " ++ b ++ codes " ") name t3 (IsText-from_is_text 24 name is) in
+    let short = length_of_text 24 name is in
+    is_text-from_IsText 899 (a ++ codes " " ++ b ++ codes " " ++ name) t4 (omega (arith, la, lb, n1, n2, n3, n4, short))
+
+origin-text : is_text 31 (codes "admin") ≡ true
+origin-text = is_text-from_IsText 31 (codes "admin") (IsText-from_is_plain (codes "admin") refl) (omega arith)
 
 module _ (o : Origin) (e : Event) (ok : IsOrigin o) (bytes : IsEvent e) where
   asked-fits : (t : Table) (m : Member) (name : List ℕ) (asked : ℕ) → Asks o e t m name asked → FitsTable o t → FitsMember m
@@ -234,8 +251,18 @@ module _ (o : Origin) (e : Event) (ok : IsOrigin o) (bytes : IsEvent e) where
 
   talk-of-chat : (t : Table) (client scope : ℕ) (text : List ℕ) → IsChat e t client scope text → FitsTable o t
       → (client < 2 ^ 32) × (scope ≤ 2) × (is_text 899 text ≡ true)
-  talk-of-chat t client scope text (m, on, is, to, says) h = let f = chat-fits e m scope to text bytes says in
+  talk-of-chat t client scope text (inl (m, on, is, to, says)) h = let f = chat-fits e m scope to text bytes says in
       (client-fits t client (m, on, is) h, f.0, f.1)
+  talk-of-chat t client scope text (inr (inl (is, a, to, says))) h = let f = aside-fits e a scope to text bytes says in
+      (omega (arith, is), f.0, f.1)
+  talk-of-chat t client scope text (inr (inr (is, zero_scope, a, line, says, found))) h =
+      (omega (arith, is), omega (arith, zero_scope), announced-fits line text (rcon-fits e a line bytes says) found)
+
+  -- a line of the console
+  answer-fits : (t : Table) (text : List ℕ) → IsAnswer t text → FitsTable o t → is_text 899 text ≡ true
+  answer-fits t text (inl plain) h = is_text-from_IsText 899 text (IsText-from_is_plain text plain.0) plain.1
+  answer-fits t text (inr (m, on, is)) h = let f = found-fits o t m on h in
+      subst (λ (s : List ℕ). is_text 899 s ≡ true) (sym is) (line-text m.client m.company m.name f.client f.company f.name)
 
   few-live : (t : Table) → count_living (living_in o t) < 2 ^ 8
   few-live t =
@@ -285,7 +312,21 @@ module _ (o : Origin) (e : Event) (ok : IsOrigin o) (bytes : IsEvent e) where
       let f = among-all FitsEntry entry t.journal there h.journal in
       admin-spelled (admins.ServerCmdLogging client company code frame) refl
       (rw a f.sender, (rw b f.company, (rw d (code-small entry.command.code), (rw g f.frame, tt))))
+  notice-fits t (admins.ServerProtocol version items) is h = subst (λ (m : AdminMsg). IsSent (admin m))
+      (ap₂ (λ (v : ℕ) (xs : List (ℕ × (ℕ × Unit))). admins.ServerProtocol v xs) (sym is.0) (sym is.1)) protocol-sent
+  notice-fits t (admins.ServerPong id) (a, says) h = admin-spelled (admins.ServerPong id) refl (ping-fits e a id bytes says, tt)
+  notice-fits t (admins.ServerConsole origin text) (is, a, says) h = admin-spelled (admins.ServerConsole origin text) refl
+      (subst (λ (s : List ℕ). is_text 31 s ≡ true) (sym is) origin-text, (rcon-fits e a text bytes says, tt))
+  notice-fits t (admins.ServerRcon colour text) is h = admin-spelled (admins.ServerRcon colour text) refl
+      (let c = is.0 in omega (arith, c), (answer-fits t text is.1 h, tt))
+  notice-fits t (admins.ServerRconEnd text) (a, says) h = admin-spelled (admins.ServerRconEnd text) refl (rcon-fits e a text bytes says, tt)
+  notice-fits t (admins.ServerCmdNames names) is h = subst (λ (xs : List (ℕ × (List ℕ × Unit))). IsSent (admin (admins.ServerCmdNames xs)))
+      (sym is) names-sent
   notice-fits t other is h = absurd is
+
+  report-fits : (t : Table) (r : Report) → IsReport o e t r → FitsTable o t → FitsReport r
+  report-fits t (Message msg) is h = notice-fits t msg is h
+  report-fits t other is h = tt
 
   -- ---- the walk
 
@@ -328,7 +369,7 @@ module _ (o : Origin) (e : Event) (ok : IsOrigin o) (bytes : IsEvent e) where
         (put-fits t o (turned c t m) _ (turned-fits c t m may by h f) h, with-fits c t m low h f));
     tells_one = λ t m msg on talk. at-once t t _ refl refl (λ low h. (h, (talk-fits t msg talk low h, tt)));
     tells_some = λ t to w there news. at-once t t _ refl refl (λ low h. (h, (news-fits t w news low h, tt)));
-    tells_admins = λ t to msg there notice. at-once t t _ refl refl (λ low h. (h, (notice-fits t msg notice h, tt)));
+    tells_admins = λ t to r there is. at-once t t _ refl refl (λ low h. (h, (report-fits t r is h, tt)));
   }
 
   told-moved : (v : Move) (m : Member) → FitsSteps (told_moved v m)
@@ -359,7 +400,9 @@ module _ (o : Origin) (e : Event) (ok : IsOrigin o) (bytes : IsEvent e) where
   }
 
   order-fits : (t : Table) (c : Command) → IsOrdered t c → FitsTable o t → FitsCommand c
-  order-fits t c (m, on, is) h = let f = found-fits o t m on h in
+  order-fits t c (inr (true, is)) h = subst FitsCommand (sym is) (record { number = lit< tt; to = lit< tt; text = empty-text })
+  order-fits t c (inr (false, is)) h = subst FitsCommand (sym is) (record { number = lit< tt; to = lit< tt; text = empty-text })
+  order-fits t c (inl (m, on, is)) h = let f = found-fits o t m on h in
       subst FitsCommand (sym is) (record { number = f.client; to = lit< tt; text = empty-text })
 
   fitting-walk : Walk o e Fitting
@@ -376,6 +419,7 @@ module _ (o : Origin) (e : Event) (ok : IsOrigin o) (bytes : IsEvent e) where
     asks_map = λ t m on at. of-asks o e Fitting fitting-base fitting-moves t m on at;
     enters_game = λ t m on at. of-enters o e Fitting fitting-base fitting-moves t m on at;
     goes = λ t m farewell on is. of-leaves o e Fitting fitting-base fitting-moves t m farewell on is;
+    settles = λ t a b on is. at-once t _ [] refl refl (λ low h. (same-table t _ refl refl refl refl refl h, tt));
     goes_aside = λ t a on. at-once t _ _ refl refl (λ low h. (same-table t _ refl refl refl refl refl h, (tt, tt)));
   }
 
@@ -406,15 +450,15 @@ module _ (o : Origin) (e : Event) (ok : IsOrigin o) (bytes : IsEvent e) where
         }, tt);
       }
 
-  aside-fits : (full : Bool) (t : Table) → Fitting t (admin_arrives full (counted_aside t)).told (admin_arrives full (counted_aside t)).table
-  aside-fits true t = at-once t _ _ refl refl (λ low h.
+  side-fits : (full : Bool) (t : Table) → Fitting t (admin_arrives full (counted_aside t)).told (admin_arrives full (counted_aside t)).table
+  side-fits true t = at-once t _ _ refl refl (λ low h.
       (same-table t _ refl refl refl refl refl h, (admin-spelled admins.ServerFull refl tt, (tt, tt))))
-  aside-fits false t = at-once t _ [] refl refl (λ low h. (same-table t _ refl refl refl refl refl h, tt))
+  side-fits false t = at-once t _ [] refl refl (λ low h. (same-table t _ refl refl refl refl refl h, tt))
 
   fitting-doors : Doors o e Fitting
   fitting-doors = record {
     comes = λ t. arrives-fits (nat_le o.setup.max_clients (length t.members)) t refl;
-    comes_aside = λ t. aside-fits (nat_le most_admins (length t.admins)) t;
+    comes_aside = λ t. side-fits (nat_le most_admins (length t.admins)) t;
   }
 
   -- ---- stamps

@@ -13,6 +13,13 @@ use Rattle.tt_frame.proofs.TextLaws.{IsText-from_is_text, is_text-from_IsText, I
 use Rattle.tt_log.specs.Table.{Table}
 use Rattle.tt_log.specs.Names.{is_taken, numbered, first_free_name, given_name, is_too_long}
 
+-- two texts are one
+pub text-append : (xs ys : List ℕ) → IsText xs → IsText ys → IsText (xs ++ ys)
+text-append xs ys a b = record {
+  utf8 = IsUtf8-append xs ys a.utf8 b.utf8;
+  shown = All-append (λ byte. 32 ≤ byte) xs ys a.shown b.shown;
+}
+
 space-text : IsText (codes " #")
 space-text = IsText-from_is_plain (codes " #") refl
 
@@ -20,7 +27,7 @@ each-byte : (xs : List ℕ) → ((i : ℕ) → i < length xs → 32 ≤ get_or x
 each-byte [] h = tt
 each-byte (x ∷ xs) h = (h 0 (omega arith), each-byte xs (λ i l. h (suc i) (omega (arith, l))))
 
-decimal-text : (i : ℕ) → i < 2 ^ 64 → IsText (decimal i)
+pub decimal-text : (i : ℕ) → i < 2 ^ 64 → IsText (decimal i)
 decimal-text i l =
     record {
       utf8 = IsUtf8-from_ascii (decimal i) (IsAscii-decimal i l);
@@ -29,13 +36,7 @@ decimal-text i l =
     }
 
 numbered-text : (name : List ℕ) (i : ℕ) → i < 2 ^ 64 → IsText name → IsText (numbered name i)
-numbered-text name i l h =
-    let digits : IsText (decimal i) = decimal-text i l in
-    record {
-      utf8 = IsUtf8-append (name ++ codes " #") (decimal i) (IsUtf8-append name (codes " #") h.utf8 space-text.utf8) digits.utf8;
-      shown = All-append (λ byte. 32 ≤ byte) (name ++ codes " #") (decimal i)
-          (All-append (λ byte. 32 ≤ byte) name (codes " #") h.shown space-text.shown) digits.shown;
-    }
+numbered-text name i l h = text-append (name ++ codes " #") (decimal i) (text-append name (codes " #") h space-text) (decimal-text i l)
 
 free-text : (t : Table) (conn : ℕ) (name : List ℕ) (i n : ℕ) → i + n < 2 ^ 64 → IsText name → IsText (first_free_name t conn name i n)
 free-text t conn name i zero l h = numbered-text name i (omega (arith, l)) h

@@ -1,54 +1,38 @@
 -- What is in range of a table, and that each message told of it has its spelling.
 use Rattle.std.proofs.Common.{◌≡◌, ℕ, zero, suc, ◌+◌, ◌<◌, ◌≤◌, Bool, true, false, List, [], ◌∷◌, ◌++◌, arith, lit<, refl}
-use Rattle.std.specs.Prelude.{◌*◌, ◌^◌, nat_lt, cond, take, drop, length, map}
+use Rattle.std.specs.Prelude.{◌*◌, ◌^◌, ◌==◌, nat_lt, cond, take, drop, length, map}
 use Rattle.std.specs.List.{AllByRecursion}
 use Rattle.std.proofs.lemmas.List.{length-take}
-use Rattle.tt_frame.specs.Apart.{PartedFits}
-use Rattle.tt_frame.specs.Packet.{packet}
 use Rattle.tt_frame.specs.Text.{IsShort, is_text}
-use Rattle.tt_frame.proofs.FamilyLaws.{family_spells}
-use Rattle.tt_frame.proofs.SizeLaws.{body_size, body_size_but, is_one_of}
 use Rattle.tt_frame.proofs.TextLaws.{IsText-from_is_text, length_of_text}
 use Rattle.tt_game.specs.declared.message.GameMsg.{GameMsg}
 use Rattle.tt_game.specs.declared.message.GameMsg.TheVariants.{ServerMapBegin, ServerMapSize, ServerMapData, ServerMapDone, ServerSync}
-use Rattle.tt_game.specs.Apart as games
-use Rattle.tt_game.specs.Messages as game_rows
-use Rattle.tt_game.proofs.MessageLaws.{game_lawful}
-use Rattle.tt_admin.specs.declared.message.AdminMsg.{AdminMsg}
-use Rattle.tt_admin.specs.Apart as admins
-use Rattle.tt_admin.specs.Messages as admin_rows
-use Rattle.tt_admin.proofs.MessageLaws.{admin_lawful}
 use Rattle.tt_world.specs.declared.command.Code.{Code}
 use Rattle.tt_world.specs.declared.command.Code.TheVariants.{IncreaseLoan, DecreaseLoan, Give, PlaceSign, RenameSign, RenameCompany}
 use Rattle.tt_world.specs.declared.command.Code.TheVariants.{RenamePresident, Pause, NewCompany}
 use Rattle.tt_world.specs.declared.command.Command.{Command}
 use Rattle.tt_world.specs.declared.command.Entry.{Entry}
-use Rattle.tt_world.specs.Sound.{IsSound}
 use Rattle.tt_map.specs.Layout.{map_of}
 use Rattle.tt_map.proofs.WritingLaws.{map_length}
 use Rattle.tt_rules.specs.Commands.{number_of}
 use Rattle.tt_log.specs.declared.deed.Step.{Step}
 use Rattle.tt_log.specs.declared.deed.What.{What}
 use Rattle.tt_log.specs.declared.deed.What.TheVariants.{Msg, ToAdmin, MapBegin, MapPieces, Sync, Entries, Stamp, End}
-use Rattle.tt_log.specs.Origin.{Origin, above}
+use Rattle.tt_log.specs.Origin.{Origin, IsOrigin, above, at_frame}
 use Rattle.tt_log.specs.Member.{Member}
 use Rattle.tt_log.specs.Table.{Table}
 use Rattle.tt_log.specs.Deed.{Said, game, admin}
 use Rattle.tt_log.specs.PacketRules.{told_command}
 use Rattle.tt_log.specs.Tick.{pieces_of}
-use Rattle.tt_log.specs.Tellings.{Filling, Telling, telling, filled, piece_messages, said_by}
+use Rattle.tt_log.specs.Tellings.{Filling, Telling, telling, filled, reported, said_by}
 use Rattle.tt_log.specs.Told.{kept_if, told_to}
-use Rattle.tt_log.specs.Spelled.{IsSmall, IsSpelled}
-use Rattle.tt_log.proofs.Lists.{all-append}
-
--- ---- what is sent
-
--- it has its spelling, and is small
-abbrev pub IsSent : Said → Type 0
-IsSent s = IsSpelled s × IsSmall s
-
-abbrev pub AreSent : List Said → Type 0
-AreSent said = AllByRecursion IsSent said
+use Rattle.tt_log.specs.declared.report.Report.{Report}
+use Rattle.tt_log.specs.declared.report.Report.TheVariants.{Message, Welcome, Date, CompanyInfo, CompanyEconomy, CompanyStats}
+use Rattle.tt_log.specs.declared.report.Report.TheVariants.{CompanyLines, CompanyNews}
+use Rattle.tt_log.proofs.Lists.{all-append, all-so}
+use Rattle.tt_log.proofs.Sending.{AreSent, IsSent, game-spelled}
+use Rattle.tt_log.proofs.Worlds.{AreShort, IsGood, frame-short}
+use Rattle.tt_log.proofs.Companies.{all-stats-sent, date-sent, economies-sent, infos-sent, lines-sent, news-sent, welcome-sent}
 
 -- ---- ranges
 
@@ -83,13 +67,17 @@ pub record FitsTable (o : Origin) (t : Table) : Type 0 where
 -- what is filled in
 pub record FitsFilling (f : Filling) : Type 0 where
   pub frame : f.frame < 2 ^ 32
-  pub sound : IsSound f.world
-  pub word : f.world.words.0 < 2 ^ 32
+  pub world : IsGood f.world
+  pub before : IsGood f.before
   pub journal : AllByRecursion FitsEntry f.journal
+
+abbrev pub FitsReport : Report → Type 0
+FitsReport (Message m) = IsSent (admin m)
+FitsReport other = Unit
 
 abbrev pub FitsWhat : What → Type 0
 FitsWhat (Msg m) = IsSent (game m)
-FitsWhat (ToAdmin m) = IsSent (admin m)
+FitsWhat (ToAdmin r) = FitsReport r
 FitsWhat (Stamp e) = FitsEntry e
 FitsWhat other = Unit
 
@@ -100,25 +88,6 @@ pub short-text : (text : List ℕ) → is_text 31 text ≡ true → IsShort text
 short-text text is = record { text = IsText-from_is_text 31 text is; fits = length_of_text 31 text is }
 
 -- ---- messages
-
--- a packet is three bytes longer than its body
-small-packet : (kind : ℕ) (body : List ℕ) → length body ≤ 1457 → length (packet kind body) ≤ 1460
-small-packet kind body l = omega (arith, l)
-
--- a message whose fields are in their ranges
-pub game-spelled : (m : GameMsg) → PartedFits game_rows.messages (games.apart m) → IsSent (game m)
-game-spelled m fits =
-    let is : IsSpelled (game m) = family_spells GameMsg games.game_family game_lawful m fits in
-    (is, small-packet (games.kind_of m) (games.body_bytes m) (body_size GameMsg 1457 game_rows.messages m (games.kind_of m)
-    (games.body_bytes m) refl is))
-
--- and one of the admin family, but for the names of commands
-pub admin-spelled : (m : AdminMsg) → is_one_of (122 ∷ []) (admins.kind_of m) ≡ false → PartedFits admin_rows.messages (admins.apart m)
-    → IsSent (admin m)
-admin-spelled m other fits =
-    let is : IsSpelled (admin m) = family_spells AdminMsg admins.admin_family admin_lawful m fits in
-    (is, small-packet (admins.kind_of m) (admins.body_bytes m) (body_size_but AdminMsg (122 ∷ []) 1457 admin_rows.messages m
-    (admins.kind_of m) (admins.body_bytes m) refl other is))
 
 pub code-small : (code : Code) → number_of code < 2 ^ 16
 code-small IncreaseLoan = lit< tt
@@ -176,18 +145,43 @@ done-spelled false = (game-spelled ServerMapDone tt, tt)
 low-size : {n : ℕ} → n ≤ 40280 → n < 2 ^ 32
 low-size l = omega (arith, l)
 
-what-spelled : (o : Origin) (f : Filling) (w : What) → FitsFilling f → FitsWhat w → AreSent (said_by o f w)
-what-spelled o f (Msg m) h a = (a, tt)
-what-spelled o f (ToAdmin m) h a = (a, tt)
-what-spelled o f (Stamp e) h a = (command-spelled e a, tt)
-what-spelled o f MapBegin h a = (
+pub short-entries : (es : List Entry) → AllByRecursion FitsEntry es → AreShort es
+short-entries es a = all-so FitsEntry (λ (e : Entry). IsShort e.command.text) es (λ (e : Entry) h. short-text e.command.text h.command.text) a
+
+-- entries of a frame, each with its company
+frame-companies-by : (b : Bool) (e : Entry) (rest : List Entry) → e.company < 2 ^ 8 → AllByRecursion (λ (x : Entry). x.company < 2 ^ 8) rest
+    → AllByRecursion (λ (x : Entry). x.company < 2 ^ 8) (cond b (e ∷ rest) rest)
+frame-companies-by true e rest l a = (l, a)
+frame-companies-by false e rest l a = a
+
+frame-companies : (o : Origin) (f : ℕ) (es : List Entry) → AllByRecursion FitsEntry es
+    → AllByRecursion (λ (x : Entry). x.company < 2 ^ 8) (at_frame o f es)
+frame-companies o f [] a = tt
+frame-companies o f (e ∷ es) a = frame-companies-by (e.frame == f) e (at_frame o f es) a.0.company (frame-companies o f es a.1)
+
+report-spelled : (o : Origin) (f : Filling) (r : Report) → IsOrigin o → FitsFilling f → FitsReport r → AreSent (map admin (reported o f r))
+report-spelled o f (Message m) ok h a = (a, tt)
+report-spelled o f Welcome ok h a = (welcome-sent o.setup f.world.day ok.name ok.revision ok.seed h.world.day, tt)
+report-spelled o f Date ok h a = (date-sent f.world.day h.world.day, tt)
+report-spelled o f (CompanyInfo id) ok h a = infos-sent f.digests id f.world h.world.sound
+report-spelled o f (CompanyEconomy id) ok h a = economies-sent id f.world h.world.sound
+report-spelled o f (CompanyStats id) ok h a = all-stats-sent id f.world h.world.sound
+report-spelled o f CompanyLines ok h a = lines-sent f.world h.world.sound
+report-spelled o f CompanyNews ok h a = news-sent f.digests f.before (at_frame o f.frame f.journal) h.before
+    (frame-short o f.frame f.journal (short-entries f.journal h.journal)) (frame-companies o f.frame f.journal h.journal)
+
+what-spelled : (o : Origin) (f : Filling) (w : What) → IsOrigin o → FitsFilling f → FitsWhat w → AreSent (said_by o f w)
+what-spelled o f (Msg m) ok h a = (a, tt)
+what-spelled o f (ToAdmin r) ok h a = report-spelled o f r ok h a
+what-spelled o f (Stamp e) ok h a = (command-spelled e a, tt)
+what-spelled o f MapBegin ok h a = (
   game-spelled (ServerMapBegin f.frame) (h.frame, tt),
-  (game-spelled (ServerMapSize (length (map_of f.world))) (low-size (map_length f.world h.sound), tt), tt),
+  (game-spelled (ServerMapSize (length (map_of f.world))) (low-size (map_length f.world h.world.sound), tt), tt),
 )
-what-spelled o f MapPieces h a = pieces-spelled 4 f.left _ (done-spelled (nat_lt (4 * 1400) (length f.left)))
-what-spelled o f Sync h a = (game-spelled (ServerSync f.frame f.world.words.0) (h.frame, (h.word, tt)), tt)
-what-spelled o f (Entries frame) h a = commands-spelled (above o frame f.journal) (above-fits o frame f.journal h.journal)
-what-spelled o f End h a = tt
+what-spelled o f MapPieces ok h a = pieces-spelled 4 f.left _ (done-spelled (nat_lt (4 * 1400) (length f.left)))
+what-spelled o f Sync ok h a = (game-spelled (ServerSync f.frame f.world.words.0) (h.frame, (h.world.words.0, tt)), tt)
+what-spelled o f (Entries frame) ok h a = commands-spelled (above o frame f.journal) (above-fits o frame f.journal h.journal)
+what-spelled o f End ok h a = tt
 
 kept-spelled : (b : Bool) (s : Said) (rest : List Said) → IsSent s → AreSent rest → AreSent (kept_if b s rest)
 kept-spelled true s rest is a = (is, a)
@@ -200,8 +194,8 @@ step-spelled c to (s ∷ said) more is a = kept-spelled _ s (told_to c (map (tel
     (step-spelled c to said more is.1 a)
 
 -- what steps in range tell a connection has its spelling
-pub told-spelled : (c : ℕ) (o : Origin) (f : Filling) (steps : List Step) → FitsFilling f → FitsSteps steps
+pub told-spelled : (c : ℕ) (o : Origin) (f : Filling) (steps : List Step) → IsOrigin o → FitsFilling f → FitsSteps steps
     → AreSent (told_to c (filled o f steps))
-told-spelled c o f [] h a = tt
-told-spelled c o f (s ∷ steps) h a = step-spelled c s.to (said_by o f s.what) (filled o f steps) (what-spelled o f s.what h a.0)
-    (told-spelled c o f steps h a.1)
+told-spelled c o f [] ok h a = tt
+told-spelled c o f (s ∷ steps) ok h a = step-spelled c s.to (said_by o f s.what) (filled o f steps) (what-spelled o f s.what ok h a.0)
+    (told-spelled c o f steps ok h a.1)

@@ -4,37 +4,50 @@ use Rattle.std.specs.Prelude.{Result, Ok, Err, ◌^◌}
 use Rattle.std.specs.Result.{result_ok}
 use Rattle.tt_frame.specs.Text.{is_text}
 use Rattle.tt_frame.specs.Packet.{IsBytes}
-use Rattle.tt_frame.specs.Tables.{SpelledBy, read_by, rule_of}
+use Rattle.tt_frame.specs.Families.{Family, family_kind}
+use Rattle.tt_frame.specs.Tables.{Rule, SpelledBy, read_by, rule_of}
 use Rattle.tt_frame.specs.Unread.{whole}
-use Rattle.tt_frame.proofs.FamilyLaws.{kind_is}
+use Rattle.tt_frame.proofs.FamilyLaws.{Lawful, kind_is}
 use Rattle.tt_frame.proofs.RowLaws.{row_takes}
 use Rattle.tt_game.specs.declared.message.GameMsg.{GameMsg}
 use Rattle.tt_game.specs.declared.message.GameMsg.TheVariants.{ClientJoin, ClientCommand, ClientChat, ClientSetName, ClientMove, ClientError}
 use Rattle.tt_game.specs.Apart.{game_family, kind_of}
 use Rattle.tt_game.specs.Messages.{messages}
 use Rattle.tt_game.proofs.MessageLaws.{game_lawful}
+use Rattle.tt_admin.specs.declared.message.AdminMsg.{AdminMsg}
+use Rattle.tt_admin.specs.declared.message.AdminMsg.TheVariants.{AdminChat, AdminRcon, AdminPing}
+use Rattle.tt_admin.specs.Apart.{admin_family}
+use Rattle.tt_admin.specs.Messages as admins
+use Rattle.tt_admin.proofs.MessageLaws.{admin_lawful}
 use Rattle.tt_edge.specs.declared.event.Event.{Event}
-use Rattle.tt_edge.specs.declared.event.Event.TheVariants.{Packet}
 use Rattle.tt_log.specs.Member.{Member}
-use Rattle.tt_log.specs.Events.{read_msg}
+use Rattle.tt_log.specs.Admin.{Admin}
 use Rattle.tt_log.specs.History.{IsEvent}
-use Rattle.tt_log.proofs.Changes.{Says}
+use Rattle.tt_log.proofs.Changes.{Says, SaysAside}
 
 ok-of : {M : Type 0} (r : Result M ℕ) (m : M) → result_ok r ≡ Some m → r ≡ Ok m
 ok-of (Ok n) m is = cc
 ok-of (Err at) m is = absurd cc
 
 -- it is spelled so, under its own number
-spelled-as : (m : GameMsg) (kind : ℕ) (body : List ℕ) → IsBytes body → read_msg kind body ≡ Some m → SpelledBy messages m (kind_of m) body
-spelled-as m kind body bytes is =
-    let read : SpelledBy messages m kind body = row_takes (rule_of messages kind).fields (rule_of messages kind).make (whole body) m bytes
-    (ok-of (read_by messages kind (whole body)) m is) in
-    subst (λ (k : ℕ). SpelledBy messages m k body) (sym (kind_is GameMsg game_family game_lawful m kind body read)) read
+spelled-as : (M : Type 0) (family : Family M) → Lawful family → (m : M) (kind : ℕ) (body : List ℕ) → IsBytes body
+    → result_ok (read_by family.table kind (whole body)) ≡ Some m → SpelledBy family.table m (family_kind family m) body
+spelled-as M family lawful m kind body bytes is =
+    let l : Rule M = rule_of family.table kind in
+    let read : SpelledBy family.table m kind body = row_takes l.fields l.make (whole body) m bytes
+    (ok-of (read_by family.table kind (whole body)) m is) in
+    subst (λ (k : ℕ). SpelledBy family.table m k body) (sym (kind_is M family lawful m kind body read)) read
 
--- what a member says is spelled by its packet
+-- what a member says is spelled by its packet, and so is what an admin says
 pub said-spelled : (e : Event) (m : Member) (msg : GameMsg) → IsEvent e → Says e m msg → (body : List ℕ)
     × SpelledBy messages msg (kind_of msg) body
-said-spelled e m msg bytes (kind, body, is, read) = (body, spelled-as msg kind body (subst IsEvent is bytes) read)
+said-spelled e m msg bytes (kind, body, is, read) =
+    (body, spelled-as GameMsg game_family game_lawful msg kind body (subst IsEvent is bytes) read)
+
+pub aside-spelled : (e : Event) (a : Admin) (msg : AdminMsg) → IsEvent e → SaysAside e a msg → (body : List ℕ)
+    × SpelledBy admins.messages msg (family_kind admin_family msg) body
+aside-spelled e a msg bytes (kind, body, is, read) =
+    (body, spelled-as AdminMsg admin_family admin_lawful msg kind body (subst IsEvent is bytes) read)
 
 join-row : (revision : List ℕ) (grf : ℕ) (name : List ℕ) (company : ℕ) (body : List ℕ)
     → SpelledBy messages (ClientJoin revision grf name company) 2 body → (is_text 24 name ≡ true) × (company < 2 ^ 8)
@@ -95,3 +108,28 @@ error-row code body (x, (b, (f, p, (same, done)))) = let one : code ≡ x = cc i
 
 pub error-fits : (e : Event) (m : Member) (code : ℕ) → IsEvent e → Says e m (ClientError code) → code ≤ 20
 error-fits e m code bytes says = let s = said-spelled e m (ClientError code) bytes says in error-row code s.0 s.1
+
+-- ---- of admins
+
+ping-row : (id : ℕ) (body : List ℕ) → SpelledBy admins.messages (AdminPing id) 7 body → id < 2 ^ 32
+ping-row id body (x, (b, (f, p, (same, done)))) = let one : id ≡ x = cc in subst (λ (n : ℕ). n < 2 ^ 32) (sym one) f
+
+pub ping-fits : (e : Event) (a : Admin) (id : ℕ) → IsEvent e → SaysAside e a (AdminPing id) → id < 2 ^ 32
+ping-fits e a id bytes says = let s = aside-spelled e a (AdminPing id) bytes says in ping-row id s.0 s.1
+
+rcon-row : (text body : List ℕ) → SpelledBy admins.messages (AdminRcon text) 5 body → is_text 899 text ≡ true
+rcon-row text body (x, (b, (f, p, (same, done)))) = let one : text ≡ x = cc in subst (λ (t : List ℕ). is_text 899 t ≡ true) (sym one) f
+
+pub rcon-fits : (e : Event) (a : Admin) (text : List ℕ) → IsEvent e → SaysAside e a (AdminRcon text) → is_text 899 text ≡ true
+rcon-fits e a text bytes says = let s = aside-spelled e a (AdminRcon text) bytes says in rcon-row text s.0 s.1
+
+aside-row : (scope to : ℕ) (text body : List ℕ) → SpelledBy admins.messages (AdminChat scope to text) 4 body
+    → (scope ≤ 2) × (is_text 899 text ≡ true)
+aside-row scope to text body (x, (b, (f, p, (y, (c, (g, q, (z, (d, (h, r, (same, done)))))))))) =
+    let one : scope ≡ x = cc in let two : text ≡ z = cc in
+    (subst (λ (n : ℕ). n ≤ 2) (sym one) f.0, subst (λ (t : List ℕ). is_text 899 t ≡ true) (sym two) h)
+
+pub aside-fits : (e : Event) (a : Admin) (scope to : ℕ) (text : List ℕ) → IsEvent e → SaysAside e a (AdminChat scope to text)
+    → (scope ≤ 2) × (is_text 899 text ≡ true)
+aside-fits e a scope to text bytes says =
+    let s = aside-spelled e a (AdminChat scope to text) bytes says in aside-row scope to text s.0 s.1

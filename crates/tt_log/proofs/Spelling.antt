@@ -4,7 +4,6 @@ use Rattle.std.specs.Prelude.{◌^◌, Result, fold}
 use Rattle.std.specs.Result.{result_ok}
 use Rattle.std.specs.List.{AllByRecursion}
 use Rattle.tt_frame.specs.Tables.{rule_of}
-use Rattle.tt_frame.specs.Text.{IsShort}
 use Rattle.tt_frame.proofs.RowLaws.{row_again}
 use Rattle.tt_edge.specs.declared.event.Event.{Event}
 use Rattle.tt_game.specs.declared.message.GameMsg.{GameMsg}
@@ -13,21 +12,21 @@ use Rattle.tt_game.specs.Messages as game_rows
 use Rattle.tt_admin.specs.declared.message.AdminMsg.{AdminMsg}
 use Rattle.tt_admin.specs.Apart as admins
 use Rattle.tt_admin.specs.Messages as admin_rows
-use Rattle.tt_world.specs.declared.command.Entry.{Entry}
 use Rattle.tt_log.specs.declared.deed.Step.{Step}
 use Rattle.tt_log.specs.Origin.{Origin, IsOrigin}
 use Rattle.tt_log.specs.Table.{Table, first}
 use Rattle.tt_log.specs.Deed.{Said, game, admin, Deed}
 use Rattle.tt_log.specs.Tellings.{Filling, filling}
-use Rattle.tt_log.specs.Events.{deed, last_frame, read_admin, read_msg, stepped, takes}
+use Rattle.tt_log.specs.Events.{deed, last_frame, stepped, takes}
 use Rattle.tt_log.specs.History.{AreEvents, IsEvent, table_of}
 use Rattle.tt_log.specs.Told.{heard, heard_from, told_by}
 use Rattle.tt_log.specs.Spelled.{AreSpelled, IsReadAgain, IsSmall, IsSpelled}
 use Rattle.tt_log.proofs.Lists.{all-append, all-so}
 use Rattle.tt_log.proofs.Counting.{Low, low-by}
 use Rattle.tt_log.proofs.Numbers.{IsPaid, step-paid, first-paid}
-use Rattle.tt_log.proofs.Ranges.{AreSent, FitsEntry, FitsFilling, FitsSteps, FitsTable, IsSent, short-text, told-spelled}
-use Rattle.tt_log.proofs.Worlds.{AreShort, IsGood, world-good}
+use Rattle.tt_log.proofs.Sending.{AreSent, IsSent}
+use Rattle.tt_log.proofs.Ranges.{FitsFilling, FitsSteps, FitsTable, short-entries, told-spelled}
+use Rattle.tt_log.proofs.Worlds.{world-good}
 use Rattle.tt_log.proofs.Fitting.{Fitting, deed-fits}
 
 -- ---- histories
@@ -38,14 +37,14 @@ pub record Lasts (o : Origin) (t : Table) : Type 0 where
   pub low : Low t
   pub paid : IsPaid o t
 
-short-entries : (es : List Entry) → AllByRecursion FitsEntry es → AreShort es
-short-entries es a = all-so FitsEntry (λ (e : Entry). IsShort e.command.text) es (λ (e : Entry) h. short-text e.command.text h.command.text) a
-
-filling-fits : (o : Origin) (before behind : Table) → IsOrigin o → behind.frame ≤ last_frame → FitsTable o behind
+filling-fits : (o : Origin) (before behind : Table) → IsOrigin o → behind.frame ≤ last_frame → FitsTable o before → FitsTable o behind
     → FitsFilling (filling o before behind)
-filling-fits o before behind ok low h =
-    let good : IsGood (filling o before behind).world = world-good o behind.journal behind.frame ok (short-entries behind.journal h.journal) in
-    record { frame = omega (arith, low); sound = good.sound; word = good.words.0; journal = h.journal }
+filling-fits o before behind ok low old h = record {
+  frame = omega (arith, low);
+  world = world-good o behind.journal behind.frame ok (short-entries behind.journal h.journal);
+  before = world-good o before.journal before.frame ok (short-entries before.journal old.journal);
+  journal = h.journal;
+}
 
 -- what an event makes of it, and what it tells
 pub record Tells (o : Origin) (t : Table) (e : Event) : Type 0 where
@@ -84,7 +83,7 @@ heard-sent o c (e ∷ es) t ok are h =
     let f : Filling = filling o t d.table in
     let p : Tells o t e = event-tells o e t ok are.0 h in
     all-append IsSent (told_by o t e c) (heard_from o (stepped o t e) es c)
-    (told-spelled c o f d.told (filling-fits o t d.table ok p.lasts.low.least p.lasts.fits) p.said)
+    (told-spelled c o f d.told ok (filling-fits o t d.table ok p.lasts.low.least h.fits p.lasts.fits) p.said)
     (heard-sent o c es (stepped o t e) ok are.1 p.lasts)
 
 all-sent : (o : Origin) (es : List Event) (c : ℕ) → IsOrigin o → AreEvents es → AreSent (heard o es c)

@@ -7,7 +7,8 @@ use Rattle.tt_game.specs.Messages as games_rows
 use Rattle.tt_admin.specs.Apart as admins
 use Rattle.tt_admin.specs.Messages as admin_rows
 use Rattle.tt_log.specs.Deed.{Said, game, admin, spelled}
-use Rattle.tt_log.specs.Events.{read_msg, read_admin}
+use Rattle.tt_log.specs.Desk.{read_admin}
+use Rattle.tt_log.specs.Events.{read_msg}
 
 -- what is sent of it spells it
 abbrev pub IsSpelled : Said → Type 0
