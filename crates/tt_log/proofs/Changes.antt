@@ -1,6 +1,7 @@
 -- What rules are made of: how a member changes and what it is told with it, and what others are told.
 use Rattle.std.proofs.Common.{◌≡◌, ◌⊎◌, ℕ, ◌+◌, ◌≤◌, ◌<◌, Bool, true, false, List, [], ◌∷◌, ◌++◌, Option, Some, None, refl}
 use Rattle.std.specs.Prelude.{codes, length, map, cond, ◌==◌}
+use Rattle.tt_frame.specs.Packet.{IsBytes}
 use Rattle.tt_frame.specs.Text.{is_plain}
 use Rattle.tt_edge.specs.declared.event.Event.{Event}
 use Rattle.tt_edge.specs.declared.event.Event.TheVariants.{Packet}
@@ -26,7 +27,7 @@ use Rattle.tt_log.specs.declared.deed.What.TheVariants.{Msg, MapPieces, Sync, St
 use Rattle.tt_log.specs.declared.report.Report.{Report}
 use Rattle.tt_log.specs.declared.report.Report.TheVariants.{Message}
 use Rattle.tt_log.specs.Origin.{Origin}
-use Rattle.tt_log.specs.Admin.{Admin, allowed_bits}
+use Rattle.tt_log.specs.Admin.{allowed_bits}
 use Rattle.tt_log.specs.Member.{Member, standing_of}
 use Rattle.tt_log.specs.Table.{Table, living_in, count_living, now_in, with_member}
 use Rattle.tt_log.specs.Names.{given_name}
@@ -40,6 +41,7 @@ use Rattle.tt_log.specs.Polls.{command_names}
 use Rattle.tt_log.specs.Console.{announces, client_line, command_in}
 use Rattle.tt_log.specs.Desk.{admin_protocol, read_admin, types_from}
 use Rattle.tt_log.specs.Events.{read_msg}
+use Rattle.tt_log.specs.History.{IsEvent}
 use Rattle.tt_log.proofs.Lists.{Among}
 use Rattle.tt_log.proofs.Crew.{On}
 
@@ -193,16 +195,16 @@ abbrev pub IsFarewell : Event → Member → Farewell → Type 0
 IsFarewell e m Quitting = Unit
 IsFarewell e m (Failing code) = IsReason e m code
 
--- the event is the packet of this admin that spells the message
-abbrev pub SaysAside : Event → Admin → AdminMsg → Type 0
-SaysAside e a msg = (kind : ℕ) × (body : List ℕ) × (e ≡ Packet a.conn kind body) × (read_admin kind body ≡ Some msg)
+-- a packet spells the message, whose body is bytes where the event is an event of bytes
+abbrev pub SaysAside : Event → AdminMsg → Type 0
+SaysAside e msg = (kind : ℕ) × (body : List ℕ) × (IsEvent e → IsBytes body) × (read_admin kind body ≡ Some msg)
 
 -- what a member says in a scope, or the server itself: an admin's chat, and what the console announces to all
 abbrev pub IsChat : Event → Table → ℕ → ℕ → List ℕ → Type 0
 IsChat e t client scope text =
     ((m : Member) × On t m × (client ≡ m.client) × (to : ℕ) × Says e m (ClientChat scope to text))
-    ⊎ ((client ≡ 1) × (a : Admin) × (to : ℕ) × SaysAside e a (admins.AdminChat scope to text))
-    ⊎ ((client ≡ 1) × (scope ≡ 0) × (a : Admin) × (line : List ℕ) × SaysAside e a (admins.AdminRcon line)
+    ⊎ ((client ≡ 1) × (to : ℕ) × SaysAside e (admins.AdminChat scope to text))
+    ⊎ ((client ≡ 1) × (scope ≡ 0) × (line : List ℕ) × SaysAside e (admins.AdminRcon line)
     × (command_in line ≡ announces text))
 
 -- a message of a dialogue that moves nothing: no command, no frame, nothing of the map
@@ -242,10 +244,10 @@ IsNotice o e t (admins.ServerCmdLogging client company code frame) =
     (entry : Entry) × Among entry t.journal × (client ≡ entry.sender) × (company ≡ entry.company)
     × (code ≡ number_of entry.command.code) × (frame ≡ entry.frame)
 IsNotice o e t (admins.ServerProtocol version items) = (version ≡ admin_protocol) × (items ≡ types_from 0 allowed_bits)
-IsNotice o e t (admins.ServerPong id) = (a : Admin) × SaysAside e a (admins.AdminPing id)
-IsNotice o e t (admins.ServerConsole origin text) = (origin ≡ codes "admin") × (a : Admin) × SaysAside e a (admins.AdminRcon text)
+IsNotice o e t (admins.ServerPong id) = SaysAside e (admins.AdminPing id)
+IsNotice o e t (admins.ServerConsole origin text) = (origin ≡ codes "admin") × SaysAside e (admins.AdminRcon text)
 IsNotice o e t (admins.ServerRcon colour text) = (colour ≡ 0) × IsAnswer t text
-IsNotice o e t (admins.ServerRconEnd text) = (a : Admin) × SaysAside e a (admins.AdminRcon text)
+IsNotice o e t (admins.ServerRconEnd text) = SaysAside e (admins.AdminRcon text)
 IsNotice o e t (admins.ServerCmdNames names) = names ≡ command_names
 IsNotice o e t other = ⊥
 

@@ -253,10 +253,10 @@ module _ (o : Origin) (e : Event) (ok : IsOrigin o) (bytes : IsEvent e) where
       → (client < 2 ^ 32) × (scope ≤ 2) × (is_text 899 text ≡ true)
   talk-of-chat t client scope text (inl (m, on, is, to, says)) h = let f = chat-fits e m scope to text bytes says in
       (client-fits t client (m, on, is) h, f.0, f.1)
-  talk-of-chat t client scope text (inr (inl (is, a, to, says))) h = let f = aside-fits e a scope to text bytes says in
+  talk-of-chat t client scope text (inr (inl (is, to, says))) h = let f = aside-fits e scope to text bytes says in
       (omega (arith, is), f.0, f.1)
-  talk-of-chat t client scope text (inr (inr (is, zero_scope, a, line, says, found))) h =
-      (omega (arith, is), omega (arith, zero_scope), announced-fits line text (rcon-fits e a line bytes says) found)
+  talk-of-chat t client scope text (inr (inr (is, zero_scope, line, says, found))) h =
+      (omega (arith, is), omega (arith, zero_scope), announced-fits line text (rcon-fits e line bytes says) found)
 
   -- a line of the console
   answer-fits : (t : Table) (text : List ℕ) → IsAnswer t text → FitsTable o t → is_text 899 text ≡ true
@@ -314,12 +314,12 @@ module _ (o : Origin) (e : Event) (ok : IsOrigin o) (bytes : IsEvent e) where
       (rw a f.sender, (rw b f.company, (rw d (code-small entry.command.code), (rw g f.frame, tt))))
   notice-fits t (admins.ServerProtocol version items) is h = subst (λ (m : AdminMsg). IsSent (admin m))
       (ap₂ (λ (v : ℕ) (xs : List (ℕ × (ℕ × Unit))). admins.ServerProtocol v xs) (sym is.0) (sym is.1)) protocol-sent
-  notice-fits t (admins.ServerPong id) (a, says) h = admin-spelled (admins.ServerPong id) refl (ping-fits e a id bytes says, tt)
-  notice-fits t (admins.ServerConsole origin text) (is, a, says) h = admin-spelled (admins.ServerConsole origin text) refl
-      (subst (λ (s : List ℕ). is_text 31 s ≡ true) (sym is) origin-text, (rcon-fits e a text bytes says, tt))
+  notice-fits t (admins.ServerPong id) says h = admin-spelled (admins.ServerPong id) refl (ping-fits e id bytes says, tt)
+  notice-fits t (admins.ServerConsole origin text) (is, says) h = admin-spelled (admins.ServerConsole origin text) refl
+      (subst (λ (s : List ℕ). is_text 31 s ≡ true) (sym is) origin-text, (rcon-fits e text bytes says, tt))
   notice-fits t (admins.ServerRcon colour text) is h = admin-spelled (admins.ServerRcon colour text) refl
       (let c = is.0 in omega (arith, c), (answer-fits t text is.1 h, tt))
-  notice-fits t (admins.ServerRconEnd text) (a, says) h = admin-spelled (admins.ServerRconEnd text) refl (rcon-fits e a text bytes says, tt)
+  notice-fits t (admins.ServerRconEnd text) says h = admin-spelled (admins.ServerRconEnd text) refl (rcon-fits e text bytes says, tt)
   notice-fits t (admins.ServerCmdNames names) is h = subst (λ (xs : List (ℕ × (List ℕ × Unit))). IsSent (admin (admins.ServerCmdNames xs)))
       (sym is) names-sent
   notice-fits t other is h = absurd is

@@ -111,7 +111,7 @@ low-byte l = omega (arith, l)
 
 -- ---- what is filled in
 
-command-spelled : (e : Entry) → FitsEntry e → IsSent (game (told_command e))
+pub command-spelled : (e : Entry) → FitsEntry e → IsSent (game (told_command e))
 command-spelled e h = game-spelled (told_command e) (h.company, (code-small e.command.code, (h.command.number, (h.command.to,
     (h.command.text, (h.frame, (h.sender, tt)))))))
 

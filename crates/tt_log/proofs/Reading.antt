@@ -21,7 +21,6 @@ use Rattle.tt_admin.specs.Messages as admins
 use Rattle.tt_admin.proofs.MessageLaws.{admin_lawful}
 use Rattle.tt_edge.specs.declared.event.Event.{Event}
 use Rattle.tt_log.specs.Member.{Member}
-use Rattle.tt_log.specs.Admin.{Admin}
 use Rattle.tt_log.specs.History.{IsEvent}
 use Rattle.tt_log.proofs.Changes.{Says, SaysAside}
 
@@ -44,10 +43,9 @@ pub said-spelled : (e : Event) (m : Member) (msg : GameMsg) → IsEvent e → Sa
 said-spelled e m msg bytes (kind, body, is, read) =
     (body, spelled-as GameMsg game_family game_lawful msg kind body (subst IsEvent is bytes) read)
 
-pub aside-spelled : (e : Event) (a : Admin) (msg : AdminMsg) → IsEvent e → SaysAside e a msg → (body : List ℕ)
+pub aside-spelled : (e : Event) (msg : AdminMsg) → IsEvent e → SaysAside e msg → (body : List ℕ)
     × SpelledBy admins.messages msg (family_kind admin_family msg) body
-aside-spelled e a msg bytes (kind, body, is, read) =
-    (body, spelled-as AdminMsg admin_family admin_lawful msg kind body (subst IsEvent is bytes) read)
+aside-spelled e msg bytes (kind, body, fits, read) = (body, spelled-as AdminMsg admin_family admin_lawful msg kind body (fits bytes) read)
 
 join-row : (revision : List ℕ) (grf : ℕ) (name : List ℕ) (company : ℕ) (body : List ℕ)
     → SpelledBy messages (ClientJoin revision grf name company) 2 body → (is_text 24 name ≡ true) × (company < 2 ^ 8)
@@ -114,14 +112,14 @@ error-fits e m code bytes says = let s = said-spelled e m (ClientError code) byt
 ping-row : (id : ℕ) (body : List ℕ) → SpelledBy admins.messages (AdminPing id) 7 body → id < 2 ^ 32
 ping-row id body (x, (b, (f, p, (same, done)))) = let one : id ≡ x = cc in subst (λ (n : ℕ). n < 2 ^ 32) (sym one) f
 
-pub ping-fits : (e : Event) (a : Admin) (id : ℕ) → IsEvent e → SaysAside e a (AdminPing id) → id < 2 ^ 32
-ping-fits e a id bytes says = let s = aside-spelled e a (AdminPing id) bytes says in ping-row id s.0 s.1
+pub ping-fits : (e : Event) (id : ℕ) → IsEvent e → SaysAside e (AdminPing id) → id < 2 ^ 32
+ping-fits e id bytes says = let s = aside-spelled e (AdminPing id) bytes says in ping-row id s.0 s.1
 
 rcon-row : (text body : List ℕ) → SpelledBy admins.messages (AdminRcon text) 5 body → is_text 899 text ≡ true
 rcon-row text body (x, (b, (f, p, (same, done)))) = let one : text ≡ x = cc in subst (λ (t : List ℕ). is_text 899 t ≡ true) (sym one) f
 
-pub rcon-fits : (e : Event) (a : Admin) (text : List ℕ) → IsEvent e → SaysAside e a (AdminRcon text) → is_text 899 text ≡ true
-rcon-fits e a text bytes says = let s = aside-spelled e a (AdminRcon text) bytes says in rcon-row text s.0 s.1
+pub rcon-fits : (e : Event) (text : List ℕ) → IsEvent e → SaysAside e (AdminRcon text) → is_text 899 text ≡ true
+rcon-fits e text bytes says = let s = aside-spelled e (AdminRcon text) bytes says in rcon-row text s.0 s.1
 
 aside-row : (scope to : ℕ) (text body : List ℕ) → SpelledBy admins.messages (AdminChat scope to text) 4 body
     → (scope ≤ 2) × (is_text 899 text ≡ true)
@@ -129,7 +127,7 @@ aside-row scope to text body (x, (b, (f, p, (y, (c, (g, q, (z, (d, (h, r, (same,
     let one : scope ≡ x = cc in let two : text ≡ z = cc in
     (subst (λ (n : ℕ). n ≤ 2) (sym one) f.0, subst (λ (t : List ℕ). is_text 899 t ≡ true) (sym two) h)
 
-pub aside-fits : (e : Event) (a : Admin) (scope to : ℕ) (text : List ℕ) → IsEvent e → SaysAside e a (AdminChat scope to text)
+pub aside-fits : (e : Event) (scope to : ℕ) (text : List ℕ) → IsEvent e → SaysAside e (AdminChat scope to text)
     → (scope ≤ 2) × (is_text 899 text ≡ true)
-aside-fits e a scope to text bytes says =
-    let s = aside-spelled e a (AdminChat scope to text) bytes says in aside-row scope to text s.0 s.1
+aside-fits e scope to text bytes says =
+    let s = aside-spelled e (AdminChat scope to text) bytes says in aside-row scope to text s.0 s.1

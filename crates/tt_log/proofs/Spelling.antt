@@ -18,14 +18,16 @@ use Rattle.tt_log.specs.Table.{Table, first}
 use Rattle.tt_log.specs.Deed.{Said, game, admin, Deed}
 use Rattle.tt_log.specs.Tellings.{Filling, filling}
 use Rattle.tt_log.specs.Events.{deed, last_frame, stepped, takes}
-use Rattle.tt_log.specs.History.{AreEvents, IsEvent, table_of}
+use Rattle.tt_log.specs.History.{AreEvents, IsEvent, journal_of, table_of}
+use Rattle.tt_log.specs.PacketRules.{told_command}
+use Rattle.tt_world.specs.declared.command.Entry.{Entry}
 use Rattle.tt_log.specs.Told.{heard, heard_from, told_by}
 use Rattle.tt_log.specs.Spelled.{AreSpelled, IsReadAgain, IsSmall, IsSpelled}
 use Rattle.tt_log.proofs.Lists.{all-append, all-so}
 use Rattle.tt_log.proofs.Counting.{Low, low-by}
 use Rattle.tt_log.proofs.Numbers.{IsPaid, step-paid, first-paid}
 use Rattle.tt_log.proofs.Sending.{AreSent, IsSent}
-use Rattle.tt_log.proofs.Ranges.{FitsFilling, FitsSteps, FitsTable, short-entries, told-spelled}
+use Rattle.tt_log.proofs.Ranges.{FitsEntry, FitsFilling, command-spelled, FitsSteps, FitsTable, short-entries, told-spelled}
 use Rattle.tt_log.proofs.Worlds.{world-good}
 use Rattle.tt_log.proofs.Fitting.{Fitting, deed-fits}
 
@@ -107,3 +109,9 @@ spelled-again (admin m) is = ap (λ (r : Result AdminMsg ℕ). result_ok r) (row
 -- so it is read again
 pub all-read : (o : Origin) (es : List Event) (c : ℕ) → IsOrigin o → AreEvents es → AllByRecursion IsReadAgain (heard o es c)
 all-read o es c ok are = all-so IsSpelled IsReadAgain (heard o es c) spelled-again (all-spelled o es c ok are)
+
+-- what is told of each entry of the journal has its spelling
+pub journal-spelled : (o : Origin) (es : List Event) → IsOrigin o → AreEvents es
+    → AllByRecursion (λ (e : Entry). IsSpelled (game (told_command e))) (journal_of o es)
+journal-spelled o es ok are = all-so FitsEntry (λ (e : Entry). IsSpelled (game (told_command e))) (journal_of o es)
+    (λ (e : Entry) h. (command-spelled e h).0) (it-lasts o es ok are).fits.journal

@@ -37,7 +37,7 @@ use Rattle.tt_log.proofs.Changes.{Says, By, Change, wants_password, is_let_in, g
 use Rattle.tt_log.proofs.Changes.{goes_to, founds, gets_pieces, has_all, turned, turned-conn, turned-client, moved, moved-conn}
 use Rattle.tt_log.proofs.Changes.{moved-client, Move, queues, begins_map, loads}
 use Rattle.tt_log.proofs.Walk.{Base, Walk, Doors, Closing, Moves, Ticks, running, of-asks, of-enters, of-leaves, of-deed, of-ends}
-use Rattle.tt_log.proofs.Walk.{of-admin-hears}
+use Rattle.tt_log.proofs.Walk.{is-packet-aside, of-admin-hears}
 use Rattle.tt_log.proofs.Ordered.{Ordered, is-ordered, step-ordered, order-base, order-moves, order-walk, order-doors, order-ticks}
 use Rattle.tt_log.proofs.Ordered.{order-closing, rising-not}
 
@@ -499,10 +499,22 @@ named-by None c said o t kind body company code number to text msg is r h =
     subst (λ (ws : List (ℕ × Command)). Kept c ws (where_some (admin_of t c) (admin_hears o (read_admin kind body)) t).table)
     (sym (append-nil said)) (by (admin_of t c) refl)
   where
+    -- an event that is none of this connection's
+    other : Event
+    other = Packet (c + 1) kind body
+    quiet : IsQuiet other c
+    quiet m company code number to text at (k, b, is, said) = apart m at (ap conn_in is)
+      where
+        conn_in : Event → ℕ
+        conn_in (Packet conn k b) = conn
+        conn_in e = 0
+        apart : (m : Member) → m.conn ≡ c → c + 1 ≡ m.conn → ⊥
+        apart m at is = omega (arith, at, is)
     by : (x : Option Admin) → admin_of t c ≡ x → Kept c said (where_some x (admin_hears o (read_admin kind body)) t).table
     by None at = h
-    by (Some a) at = (of-admin-hears o Stop (KeepsStamps c said) (stamp-walk c said o Stop (stop-quiet c)) (read_admin kind body) t a
-        (found-among (is_admin_on c) a t.admins at) refl r h).1
+    by (Some a) at = (of-admin-hears o other (KeepsStamps c said) (stamp-walk c said o other quiet) (read_admin kind body) t a
+        (found-among (is_admin_on c) a t.admins at) refl (is-packet-aside o other (KeepsStamps c said) (stamp-walk c said o other quiet)
+        (read_admin kind body) kind body refl (λ bytes. bytes)) r h).1
 named-by (Some m) c said o t kind body company code number to text msg is r h =
     let P : Option GameMsg → Type 0 = λ x. Kept c (said ++ accepted_of o t (Some m) x) (heard o x m t).table in
     subst P (sym msg) (command-by (judged o t m (Some (ClientCommand company code number to text))) c said o t m company code number to text

@@ -7,6 +7,7 @@ use Rattle.std.specs.List.{AllByRecursion}
 use Rattle.std.proofs.Math.Nat.{min-le_right}
 use Rattle.std.proofs.lemmas.Bool.{eqb-true, leb-true}
 use Rattle.std.proofs.lemmas.List.{length-map}
+use Rattle.tt_frame.specs.Packet.{IsBytes}
 use Rattle.tt_edge.specs.declared.event.Door.TheVariants.{Main, Side}
 use Rattle.tt_edge.specs.declared.event.Event.{Event}
 use Rattle.tt_edge.specs.declared.event.Event.TheVariants.{Open, Packet, Broken, Shut, Tick, Stop}
@@ -56,6 +57,7 @@ use Rattle.tt_log.specs.Tick.{stamps, drawn, tells_entries, stamped, frame_runs_
 use Rattle.tt_log.specs.Tick.{synced, next_pieces, finishes_map, mapped, left_of, late, limited, each_limited, timed, frame_follows, ticked}
 use Rattle.tt_log.specs.Events.{read_msg, opened, by_verdict, heard, to_named, on_conn, by_event, charged, stops, closed, shut_down, taken}
 use Rattle.tt_log.specs.Events.{takes, deed, last_frame}
+use Rattle.tt_log.specs.History.{IsEvent}
 use Rattle.tt_log.proofs.Lists.{Among, Within, NotIn, IsOther, found-among, map-filter-not, all-of-filter, all-filter, all-among}
 use Rattle.tt_log.proofs.Lists.{last-among, all-append, found-passes}
 use Rattle.tt_log.proofs.Crew.{On, OnAdmin, conns, others, on-found, found-on, put-among, put-admin-among, admin_conns}
@@ -494,23 +496,23 @@ module _ (o : Origin) (e : Event) (P : Table → List Step → Table → Type 0)
     of-admin-ends t a code on low = of-then w.base t _ (admin_leaves a)
         (of-reports w.base (Message (admins.ServerError code) ∷ []) t a on (low, tt)) (w.goes_aside t a on)
 
-    of-console : (command : ConsoleCommand) (line : List ℕ) (t : Table) (a : Admin) → is_tick e ≡ false → SaysAside e a (AdminRcon line)
+    of-console : (command : ConsoleCommand) (line : List ℕ) (t : Table) → is_tick e ≡ false → SaysAside e (AdminRcon line)
         → command_in line ≡ command → Of t (console_does command t)
-    of-console (pauses paused) line t a still says is = w.orders t (pause paused) (inr (paused, refl)) still
-    of-console (kicks client) line t a still says is = of-some w.base (member_with client t) kicks_out t (λ m found. of-ends t m 12
+    of-console (pauses paused) line t still says is = w.orders t (pause paused) (inr (paused, refl)) still
+    of-console (kicks client) line t still says is = of-some w.base (member_with client t) kicks_out t (λ m found. of-ends t m 12
         (found-among (λ m. m.client == client) m t.members found) (omega arith))
-    of-console (announces text) line t a still says is = of-chats t 1 0 0 text (inr (inr (refl, refl, a, line, says, is)))
-    of-console other line t a still says is = w.base.still t
+    of-console (announces text) line t still says is = of-chats t 1 0 0 text (inr (inr (refl, refl, line, says, is)))
+    of-console other line t still says is = w.base.still t
 
     of-obeys : (command : ConsoleCommand) (text : List ℕ) (t : Table) (a : Admin) → OnAdmin t a → is_tick e ≡ false
-        → SaysAside e a (AdminRcon text) → command_in text ≡ command → Of t (obeys command a.conn text t)
+        → SaysAside e (AdminRcon text) → command_in text ≡ command → Of t (obeys command a.conn text t)
     of-obeys command text t a on still says is =
         let reports : List Report = lines_of command t ++ Message (admins.ServerRconEnd text) ∷ [] in
         let d : Deed = sees_console text t ▹ tells_admin a.conn reports in
         of-then w.base t d (console_does command) (w.base.joins t t t _ _ (of-watched w.base console_updates _ t
-        (refl, a, says)) (of-reports w.base reports t a on (all-append (IsReport o e t) (lines_of command t)
-        (Message (admins.ServerRconEnd text) ∷ []) (lines-known o e command t) ((a, says), tt))))
-        (of-console command text t a still says is)
+        (refl, says)) (of-reports w.base reports t a on (all-append (IsReport o e t) (lines_of command t)
+        (Message (admins.ServerRconEnd text) ∷ []) (lines-known o e command t) (says, tt))))
+        (of-console command text t still says is)
 
     of-admin-joins : (t : Table) (a : Admin) → OnAdmin t a → Of t (admin_joins a t)
     of-admin-joins t a on =
@@ -519,41 +521,41 @@ module _ (o : Origin) (e : Event) (P : Table → List Step → Table → Type 0)
         w.base.joins t u u [] _ (w.settles t a b on (refl, refl)) (of-reports w.base admin_greeting u b
         (put-admin-among b a t.admins refl on) ((refl, refl), (tt, tt)))
 
-    of-admin-does : (msg : AdminMsg) (t : Table) (a : Admin) → OnAdmin t a → is_tick e ≡ false → SaysAside e a msg
+    of-admin-does : (msg : AdminMsg) (t : Table) (a : Admin) → OnAdmin t a → is_tick e ≡ false → SaysAside e msg
         → Of t (admin_does a msg t)
     of-admin-does (admins.AdminJoin password application version) t a on still says = of-admin-joins t a on
     of-admin-does admins.AdminQuit t a on still says = w.goes_aside t a on
     of-admin-does (admins.AdminUpdateFrequency kind bits) t a on still says = w.settles t a _ on (refl, refl)
     of-admin-does (admins.AdminPoll kind id) t a on still says = of-reports w.base (poll_answers kind id t) t a on (polls-known o e kind id t)
-    of-admin-does (admins.AdminChat scope to text) t a on still says = of-chats t 1 scope to text (inr (inl (refl, a, to, says)))
+    of-admin-does (admins.AdminChat scope to text) t a on still says = of-chats t 1 scope to text (inr (inl (refl, to, says)))
     of-admin-does (admins.AdminRcon text) t a on still says = of-obeys (command_in text) text t a on still says refl
-    of-admin-does (admins.AdminPing id) t a on still says = of-reports w.base (Message (admins.ServerPong id) ∷ []) t a on ((a, says), tt)
+    of-admin-does (admins.AdminPing id) t a on still says = of-reports w.base (Message (admins.ServerPong id) ∷ []) t a on (says, tt)
     of-admin-does other t a on still says = w.base.still t
 
-    -- the packet of this admin that spells this, or nothing
-    abbrev pub IsPacketAside : Admin → Option AdminMsg → Type 0
-    IsPacketAside a None = Unit
-    IsPacketAside a (Some msg) = SaysAside e a msg
+    -- a packet spells this, or nothing
+    abbrev pub IsPacketAside : Option AdminMsg → Type 0
+    IsPacketAside None = Unit
+    IsPacketAside (Some msg) = SaysAside e msg
 
-    of-admin-said : (said : Option AdminMsg) (t : Table) (a : Admin) → OnAdmin t a → is_tick e ≡ false → IsPacketAside a said
+    of-admin-said : (said : Option AdminMsg) (t : Table) (a : Admin) → OnAdmin t a → is_tick e ≡ false → IsPacketAside said
         → Of t (where_some said (admin_does a) t)
     of-admin-said None t a on still says = w.base.still t
     of-admin-said (Some msg) t a on still says = of-admin-does msg t a on still says
 
     of-admin-verdict : (v : Verdict) (said : Option AdminMsg) (t : Table) (a : Admin) → OnAdmin t a → is_tick e ≡ false
-        → IsPacketAside a said → IsCodeOf v → Of t (by_admin_verdict v a said t)
+        → IsPacketAside said → IsCodeOf v → Of t (by_admin_verdict v a said t)
     of-admin-verdict Allowed said t a on still says low = of-admin-said said t a on still says
     of-admin-verdict (Ends code) said t a on still says low = of-admin-ends t a code on low
 
-    pub of-admin-hears : (said : Option AdminMsg) (t : Table) (a : Admin) → OnAdmin t a → is_tick e ≡ false → IsPacketAside a said
+    pub of-admin-hears : (said : Option AdminMsg) (t : Table) (a : Admin) → OnAdmin t a → is_tick e ≡ false → IsPacketAside said
         → Of t (admin_hears o said a t)
     of-admin-hears said t a on still says =
         of-admin-verdict (admin_judged o a said) said t a on still says (admin-judged-code o a said)
 
-    is-packet-aside : (said : Option AdminMsg) (kind : ℕ) (body : List ℕ) (a : Admin) → read_admin kind body ≡ said
-        → e ≡ Packet a.conn kind body → IsPacketAside a said
-    is-packet-aside None kind body a is by = tt
-    is-packet-aside (Some msg) kind body a is by = (kind, body, by, is)
+    pub is-packet-aside : (said : Option AdminMsg) (kind : ℕ) (body : List ℕ) → read_admin kind body ≡ said → (IsEvent e → IsBytes body)
+        → IsPacketAside said
+    is-packet-aside None kind body is by = tt
+    is-packet-aside (Some msg) kind body is by = (kind, body, by, is)
 
     of-admins-limited : (admins : List Admin) (t : Table) → Of t (each_admin_limited o admins t)
     of-admins-limited [] t = w.base.still t
@@ -649,8 +651,8 @@ module _ (o : Origin) (e : Event) (P : Table → List Step → Table → Type 0)
     of-packet conn kind body t is =
         of-conn conn _ _ t (λ m on at. of-heard (read_msg kind body) t m on (is-packet (read_msg kind body) kind body m refl (is
         ∙ ap (λ (c : ℕ). Packet c kind body) (sym at)))) (λ a on at. of-admin-hears (read_admin kind body) t a on
-        (ap (λ (d : Event). is_tick d) is) (is-packet-aside (read_admin kind body) kind body a refl (is
-        ∙ ap (λ (c : ℕ). Packet c kind body) (sym at))))
+        (ap (λ (d : Event). is_tick d) is) (is-packet-aside (read_admin kind body) kind body refl
+        (λ bytes. subst IsEvent is bytes)))
 
     -- an event of a connection, or a stop
     of-event-by : (d : Event) (t : Table) → e ≡ d → is_tick d ≡ false → is_open d ≡ false → Of t (by_event o d t)

@@ -36,6 +36,7 @@ pub mod Reports
 pub mod Tellings
 pub mod Told
 pub mod Spelled
+pub mod Senders
 pub mod Stamps
 pub mod Endings
 pub mod Doors

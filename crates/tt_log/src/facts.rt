@@ -2,10 +2,15 @@
 ghost use Rattle.std.specs.Prelude.{◌≤◌, ◌+◌, ◌^◌, ℕ, List};
 ghost use Rattle.std.specs.List.{AllByRecursion};
 ghost use Rattle.tt_edge.specs.declared.event.Event.{Event};
-ghost use Rattle.tt_log.specs.History.{AreEvents, table_of};
+ghost use Rattle.tt_log.specs.Deed.{game};
+ghost use Rattle.tt_log.specs.History.{AreEvents, journal_of, table_of};
 ghost use Rattle.tt_log.specs.Origin.{IsOrigin, Origin};
-ghost use Rattle.tt_log.specs.Spelled.{AreSpelled, IsReadAgain, IsSmall};
+ghost use Rattle.tt_log.specs.PacketRules.{told_command};
+ghost use Rattle.tt_log.specs.Senders.{IsKnown, IsOfSender};
+ghost use Rattle.tt_log.specs.Spelled.{AreSpelled, IsReadAgain, IsSmall, IsSpelled};
 ghost use Rattle.tt_log.specs.Told.{heard};
+ghost use Rattle.tt_world.specs.declared.command.Command.{Command};
+ghost use Rattle.tt_world.specs.declared.command.Entry.{Entry};
 
 /// Each message that is told fits its row: what is sent spells it, who reads that reads the same message, and no packet has more
 /// than 1,460 bytes.
@@ -18,4 +23,13 @@ pub fn all_is_spelled()
 /// Client numbers are few, since each opening costs 64 and no game goes on at its cost.
 pub fn few_clients()
     ensures { (o : Origin) (es : List Event) → IsOrigin o → (table_of o es).clients ≤ 2 ^ 24 + 1 }
+{}
+
+/// Each entry of the journal has a known code: the server orders pauses and new companies, and clients all else. What is told
+/// of it has its spelling, so each that is told it makes the same command of it.
+pub fn entries_are_of_senders()
+    ensures senders { (o : Origin) (es : List Event) → AllByRecursion IsOfSender (journal_of o es) }
+    ensures known { (c : Command) → IsKnown c }
+    ensures spelled { (o : Origin) (es : List Event) → IsOrigin o → AreEvents es
+        → AllByRecursion (λ (e : Entry). IsSpelled (game (told_command e))) (journal_of o es) }
 {}
