@@ -262,7 +262,7 @@ begun-stays : (x : Option Member) (c conn : ℕ) (t u : Table) → u.frame ≡ t
 begun-stays None c conn t u frame is = λ n there. (n, there, inl refl)
 begun-stays (Some m) c conn t u frame is = where-stays (is_in MapWait m) c conn t u m frame is
 
-later-stays : (c place : ℕ) (xs : List ℕ) (t : Table) → (moved_up (suc place) xs t).table ≡ t
+pub later-stays : (c place : ℕ) (xs : List ℕ) (t : Table) → (moved_up (suc place) xs t).table ≡ t
 later-stays c place [] t = refl
 later-stays c place (x ∷ xs) t = later-stays c (suc place) xs t
 

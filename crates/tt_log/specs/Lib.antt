@@ -37,6 +37,7 @@ pub mod Tellings
 pub mod Told
 pub mod Spelled
 pub mod Senders
+pub mod Downloads
 pub mod Stamps
 pub mod Endings
 pub mod Doors

@@ -3,6 +3,7 @@ ghost use Rattle.std.specs.Prelude.{◌≤◌, ◌+◌, ◌^◌, ℕ, List};
 ghost use Rattle.std.specs.List.{AllByRecursion};
 ghost use Rattle.tt_edge.specs.declared.event.Event.{Event};
 ghost use Rattle.tt_log.specs.Deed.{game};
+ghost use Rattle.tt_log.specs.Downloads.{IsQueue};
 ghost use Rattle.tt_log.specs.History.{AreEvents, journal_of, table_of};
 ghost use Rattle.tt_log.specs.Origin.{IsOrigin, Origin};
 ghost use Rattle.tt_log.specs.PacketRules.{told_command};
@@ -32,4 +33,9 @@ pub fn entries_are_of_senders()
     ensures known { (c : Command) → IsKnown c }
     ensures spelled { (o : Origin) (es : List Event) → IsOrigin o → AreEvents es
         → AllByRecursion (λ (e : Entry). IsSpelled (game (told_command e))) (journal_of o es) }
+{}
+
+/// The first of the queue is told its map, or has it and has not entered yet; all others wait.
+pub fn first_in_queue_downloads()
+    ensures { (o : Origin) (es : List Event) → IsQueue (table_of o es) (table_of o es).queue }
 {}
