@@ -53,12 +53,13 @@ use Rattle.tt_log.proofs.Walk.{of-leaves, of-deed}
 use Rattle.tt_log.proofs.Marking.{fresh-low, none-first}
 use Rattle.tt_log.proofs.Reading.{join-fits, command-fits, chat-fits, name-fits, move-fits, error-fits, ping-fits, rcon-fits}
 use Rattle.tt_log.proofs.Reading.{aside-fits}
-use Rattle.tt_log.proofs.GivenNames.{given-fits}
+use Rattle.tt_log.proofs.GivenNames.{given-fits, given-some}
 use Rattle.tt_log.proofs.GivenNames.{decimal-text, text-append}
 use Rattle.tt_log.proofs.Announced.{announced-fits}
 use Rattle.tt_log.proofs.Companies.{empty-text, filter-short, name-text}
 use Rattle.tt_log.proofs.Sending.{IsSent, admin-spelled, game-spelled, names-sent, protocol-sent}
-use Rattle.tt_log.proofs.Ranges.{FitsCommand, FitsEntry, FitsWaiting, FitsMember, FitsTable, FitsReport, FitsSteps, FitsWhat}
+use Rattle.tt_log.specs.Ranges.{FitsCommand, FitsEntry, FitsWaiting, FitsMember}
+use Rattle.tt_log.proofs.Ranges.{FitsTable, FitsReport, FitsSteps, FitsWhat}
 use Rattle.tt_log.proofs.Ranges.{code-small, low-code, low-scope, low-byte}
 
 -- ---- what was not refused
@@ -75,6 +76,15 @@ join-short o e t m revision grf name company a =
     let two = none-first (is_empty name) 20 _ one.1 in
     let three = none-first (not (may_ask_for live company)) 11 _ two.1 in
     last-none (is_too_long (given_name t m.conn name)) 9 three.1
+
+join-named : (o : Origin) (e : Event) (t : Table) (m : Member) (revision : List ℕ) (grf : ℕ) (name : List ℕ) (company : ℕ)
+    → Allows o e t m (ClientJoin revision grf name company) → is_empty name ≡ false
+join-named o e t m revision grf name company a =
+    let one = none-first (not (is_same_game o revision grf)) 8 _ a.table in (none-first (is_empty name) 20 _ one.1).0
+
+some-name : (name : List ℕ) → is_empty name ≡ false → 1 ≤ length name
+some-name [] is = absurd cc
+some-name (b ∷ bytes) is = omega arith
 
 -- ---- texts
 
@@ -93,6 +103,7 @@ same-member m n client asked company name waiting h = record {
   asked = rw asked h.asked;
   company = rw company h.company;
   name = rw name h.name;
+  some = rw name h.some;
   waiting = rw waiting h.waiting;
 }
 
@@ -153,13 +164,15 @@ origin-text = is_text-from_IsText 31 (codes "admin") (IsText-from_is_plain (code
 
 module _ (o : Origin) (e : Event) (ok : IsOrigin o) (bytes : IsEvent e) where
   asked-fits : (t : Table) (m : Member) (name : List ℕ) (asked : ℕ) → Asks o e t m name asked → FitsTable o t → FitsMember m
-      → (is_text 24 name ≡ true) × (asked < 2 ^ 8)
-  asked-fits t m name asked (inl before) h f = (rw before.0 f.name, rw before.1 f.asked)
+      → (is_text 24 name ≡ true) × (asked < 2 ^ 8) × (1 ≤ length name)
+  asked-fits t m name asked (inl before) h f = (rw before.0 f.name, rw before.1 f.asked, rw before.0 f.some)
   asked-fits t m name asked (inr (at, (revision, grf, wanted, is, allowed))) h f =
       let said = join-fits e m revision grf wanted asked bytes allowed.says in (
         subst (λ (s : List ℕ). is_text 24 s ≡ true) (sym is) (given-fits t m.conn wanted h.few said.0
             (join-short o e t m revision grf wanted asked allowed)),
         said.1,
+        subst (λ (s : List ℕ). 1 ≤ length s) (sym is) (given-some t m.conn wanted
+            (some-name wanted (join-named o e t m revision grf wanted asked allowed))),
       )
 
   acked-fits : (b : Bool) (frame : ℕ) (m : Member) → FitsMember m → FitsMember (record (cond b m (closed_token m)) { acked = frame })
@@ -168,11 +181,11 @@ module _ (o : Origin) (e : Event) (ok : IsOrigin o) (bytes : IsEvent e) where
 
   turned-fits : (c : Change) (t : Table) (m : Member) → May o e t m c → By e m c → FitsTable o t → FitsMember m → FitsMember (turned c t m)
   turned-fits (wants_password true name asked) t m may by h f = let a = asked-fits t m name asked may h f in
-      record { client = f.client; asked = a.1; company = f.company; name = a.0; waiting = f.waiting }
+      record { client = f.client; asked = a.1; company = f.company; name = a.0; some = a.2; waiting = f.waiting }
   turned-fits (wants_password false name asked) t m may by h f = let a = asked-fits t m name asked may h f in
-      record { client = f.client; asked = a.1; company = f.company; name = a.0; waiting = f.waiting }
+      record { client = f.client; asked = a.1; company = f.company; name = a.0; some = a.2; waiting = f.waiting }
   turned-fits (is_let_in name asked) t m may by h f = let a = asked-fits t m name asked may h f in
-      record { client = f.client; asked = a.1; company = first-small asked a.1; name = a.0; waiting = f.waiting }
+      record { client = f.client; asked = a.1; company = first-small asked a.1; name = a.0; some = a.2; waiting = f.waiting }
   turned-fits gets_token t m may by h f = same-member m _ refl refl refl refl refl f
   turned-fits gets_frame t m may by h f = same-member m _ refl refl refl refl refl f
   turned-fits (answers frame token) t m may by h f = acked-fits (token == 0) frame m f
@@ -184,6 +197,7 @@ module _ (o : Origin) (e : Event) (ok : IsOrigin o) (bytes : IsEvent e) where
         asked = f.asked;
         company = f.company;
         name = f.name;
+        some = f.some;
         waiting = all-append FitsWaiting m.waiting ((company, command) ∷ []) f.waiting
             ((said.0, command-by (code_of code) number to text command may.0 said.1 said.2 said.3), tt);
       }
@@ -195,13 +209,14 @@ module _ (o : Origin) (e : Event) (ok : IsOrigin o) (bytes : IsEvent e) where
         company = f.company;
         name = given-fits t m.conn name h.few (name-fits e m name bytes may.says)
             (last-none (is_too_long (given_name t m.conn name)) 9 one.1);
+        some = given-some t m.conn name (some-name name one.0);
         waiting = f.waiting;
       }
   turned-fits (goes_to company digest) t m may by h f =
-      record { client = f.client; asked = f.asked; company = move-fits e m company digest bytes may.says; name = f.name; waiting = f.waiting }
+      record { client = f.client; asked = f.asked; company = move-fits e m company digest bytes may.says; name = f.name; some = f.some; waiting = f.waiting }
   turned-fits (founds company) t m may by h f =
       let places = ok.start.sound.places in
-      record { client = f.client; asked = f.asked; company = omega (arith, may, places); name = f.name; waiting = f.waiting }
+      record { client = f.client; asked = f.asked; company = omega (arith, may, places); name = f.name; some = f.some; waiting = f.waiting }
   turned-fits (gets_pieces left) t m may by h f = same-member m _ refl refl refl refl refl f
   turned-fits has_all t m may by h f = same-member m _ refl refl refl refl refl f
 
@@ -442,7 +457,7 @@ module _ (o : Origin) (e : Event) (ok : IsOrigin o) (bytes : IsEvent e) where
         clients = omega arith;
         fits = λ low few h. (record {
           members = all-append FitsMember t.members (new ∷ []) h.members
-              (record { client = few; asked = lit< tt; company = lit< tt; name = question; waiting = tt }, tt);
+              (record { client = few; asked = lit< tt; company = lit< tt; name = question; some = omega arith; waiting = tt }, tt);
           few = omega (arith, room, most, more);
           own = h.own;
           journal = h.journal;
@@ -491,6 +506,7 @@ module _ (o : Origin) (e : Event) (ok : IsOrigin o) (bytes : IsEvent e) where
     asked = f.asked;
     company = f.company;
     name = f.name;
+    some = f.some;
     waiting = all-drop FitsWaiting 2 m.waiting f.waiting;
   }
 

@@ -3,6 +3,7 @@ use Rattle.std.proofs.Common.{◌≡◌, ℕ, zero, suc, ◌+◌, ◌<◌, ◌�
 use Rattle.std.specs.Prelude.{◌^◌, not, nat_le, codes, decimal}
 use Rattle.std.specs.List.{AllByRecursion}
 use Rattle.std.proofs.lemmas.Bool.{leb-true}
+use Rattle.std.proofs.lemmas.List.{length-append}
 use Rattle.std.proofs.lemmas.Str.{IsUtf8-append, IsUtf8-from_ascii}
 use Rattle.std.proofs.lemmas.List.Elements.{All-append, All-from_recursion}
 use Rattle.std.proofs.lemmas.Fmt.{IsAscii-decimal, digits_decimal}
@@ -62,3 +63,23 @@ pub given-fits : (t : Table) (conn : ℕ) (name : List ℕ) → length t.members
 given-fits t conn name l h short =
     is_text-from_IsText 24 (given_name t conn name) (given-text t conn name l (IsText-from_is_text 24 name h))
     (leb-true (length (given_name t conn name)) 24 (not-long (nat_le (length (given_name t conn name)) 24) short))
+
+-- a name that some byte stands in
+numbered-some : (name : List ℕ) (i : ℕ) → 1 ≤ length name → 1 ≤ length (numbered name i)
+numbered-some name i l = let a = length-append (name ++ codes " #") (decimal i) in let b = length-append name (codes " #") in
+    omega (arith, a, b, l)
+
+free-some : (t : Table) (conn : ℕ) (name : List ℕ) (i n : ℕ) → 1 ≤ length name → 1 ≤ length (first_free_name t conn name i n)
+free-some t conn name i zero l = numbered-some name i l
+free-some t conn name i (suc n) l =
+    elim (is_taken t conn (numbered name i)) as (λ b. 1 ≤ length {A = ℕ} (elim b [
+      | true ↦ first_free_name t conn name (i + 1) n
+      | false ↦ numbered name i
+    ])) [ true ↦ free-some t conn name (i + 1) n l | false ↦ numbered-some name i l ]
+
+pub given-some : (t : Table) (conn : ℕ) (name : List ℕ) → 1 ≤ length name → 1 ≤ length (given_name t conn name)
+given-some t conn name l =
+    elim (is_taken t conn name) as (λ b. 1 ≤ length {A = ℕ} (elim b [
+      | true ↦ first_free_name t conn name 1 (length t.members)
+      | false ↦ name
+    ])) [ true ↦ free-some t conn name 1 (length t.members) l | false ↦ l ]

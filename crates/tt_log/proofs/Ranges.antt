@@ -23,6 +23,7 @@ use Rattle.tt_log.specs.Member.{Member}
 use Rattle.tt_log.specs.Table.{Table}
 use Rattle.tt_log.specs.Deed.{Said, game, admin}
 use Rattle.tt_log.specs.PacketRules.{told_command}
+use Rattle.tt_log.specs.Ranges.{FitsCommand, FitsEntry, FitsMember}
 use Rattle.tt_log.specs.Tick.{pieces_of}
 use Rattle.tt_log.specs.Tellings.{Filling, Telling, telling, filled, reported, said_by}
 use Rattle.tt_log.specs.Told.{kept_if, told_to}
@@ -35,27 +36,6 @@ use Rattle.tt_log.proofs.Worlds.{AreShort, IsGood, frame-short}
 use Rattle.tt_log.proofs.Companies.{all-stats-sent, date-sent, economies-sent, infos-sent, lines-sent, news-sent, welcome-sent}
 
 -- ---- ranges
-
-pub record FitsCommand (c : Command) : Type 0 where
-  pub number : c.number < 2 ^ 32
-  pub to : c.to < 2 ^ 8
-  pub text : is_text 31 c.text ≡ true
-
-pub record FitsEntry (e : Entry) : Type 0 where
-  pub frame : e.frame < 2 ^ 32
-  pub sender : e.sender < 2 ^ 32
-  pub company : e.company < 2 ^ 8
-  pub command : FitsCommand e.command
-
-abbrev pub FitsWaiting : ℕ × Command → Type 0
-FitsWaiting w = (w.0 < 2 ^ 8) × FitsCommand w.1
-
-pub record FitsMember (m : Member) : Type 0 where
-  pub client : m.client < 2 ^ 32
-  pub asked : m.asked < 2 ^ 8
-  pub company : m.company < 2 ^ 8
-  pub name : is_text 24 m.name ≡ true
-  pub waiting : AllByRecursion FitsWaiting m.waiting
 
 pub record FitsTable (o : Origin) (t : Table) : Type 0 where
   pub members : AllByRecursion FitsMember t.members

@@ -1,5 +1,5 @@
 -- All that a connection is told has its spelling, so it is read again, and is small.
-use Rattle.std.proofs.Common.{◌≡◌, ℕ, ◌+◌, ◌≤◌, List, [], ◌∷◌, ◌++◌, Some, Ok, refl, ap, ◌∙◌, arith, length}
+use Rattle.std.proofs.Common.{◌≡◌, ℕ, ◌+◌, ◌≤◌, ◌<◌, List, [], ◌∷◌, ◌++◌, Some, Ok, refl, ap, ◌∙◌, arith, length}
 use Rattle.std.specs.Prelude.{◌^◌, Result, fold}
 use Rattle.std.specs.Result.{result_ok}
 use Rattle.std.specs.List.{AllByRecursion}
@@ -24,10 +24,12 @@ use Rattle.tt_world.specs.declared.command.Entry.{Entry}
 use Rattle.tt_log.specs.Told.{heard, heard_from, told_by}
 use Rattle.tt_log.specs.Spelled.{AreSpelled, IsReadAgain, IsSmall, IsSpelled}
 use Rattle.tt_log.proofs.Lists.{all-append, all-so}
-use Rattle.tt_log.proofs.Counting.{Low, low-by}
+use Rattle.tt_log.proofs.Clock.{is-near}
+use Rattle.tt_log.proofs.Counting.{Low, is-low, low-by}
 use Rattle.tt_log.proofs.Numbers.{IsPaid, step-paid, first-paid}
 use Rattle.tt_log.proofs.Sending.{AreSent, IsSent}
-use Rattle.tt_log.proofs.Ranges.{FitsEntry, FitsFilling, command-spelled, FitsSteps, FitsTable, short-entries, told-spelled}
+use Rattle.tt_log.specs.Ranges.{FitsEntry}
+use Rattle.tt_log.proofs.Ranges.{FitsFilling, command-spelled, FitsSteps, FitsTable, short-entries, told-spelled}
 use Rattle.tt_log.proofs.Worlds.{world-good}
 use Rattle.tt_log.proofs.Fitting.{Fitting, deed-fits}
 
@@ -115,3 +117,11 @@ pub journal-spelled : (o : Origin) (es : List Event) → IsOrigin o → AreEvent
     → AllByRecursion (λ (e : Entry). IsSpelled (game (told_command e))) (journal_of o es)
 journal-spelled o es ok are = all-so FitsEntry (λ (e : Entry). IsSpelled (game (told_command e))) (journal_of o es)
     (λ (e : Entry) h. (command-spelled e h).0) (it-lasts o es ok are).fits.journal
+
+-- the frame above the permitted one is a number too
+pub top-small : (o : Origin) (es : List Event) → IsOrigin o → (table_of o es).top + 1 < 2 ^ 32
+top-small o es ok =
+    let near = (is-near o es).near in
+    let low = is-low o es in
+    let freq : o.setup.frame_freq ≤ 64 = ok.setup.frame_freq.1 in
+    omega (arith, near, low, freq)

@@ -36,6 +36,7 @@ pub mod Reports
 pub mod Tellings
 pub mod Told
 pub mod Spelled
+pub mod Ranges
 pub mod Senders
 pub mod Downloads
 pub mod Stamps

@@ -1,5 +1,5 @@
 //! Facts of the definitions that whoever stands on a stream or a table needs, for every origin and every list of events.
-ghost use Rattle.std.specs.Prelude.{◌≤◌, ◌+◌, ◌^◌, ℕ, List};
+ghost use Rattle.std.specs.Prelude.{◌≤◌, ◌<◌, ◌+◌, ◌^◌, ℕ, List};
 ghost use Rattle.std.specs.List.{AllByRecursion};
 ghost use Rattle.tt_edge.specs.declared.event.Event.{Event};
 ghost use Rattle.tt_log.specs.Deed.{game};
@@ -7,6 +7,7 @@ ghost use Rattle.tt_log.specs.Downloads.{IsQueue};
 ghost use Rattle.tt_log.specs.History.{AreEvents, journal_of, table_of};
 ghost use Rattle.tt_log.specs.Origin.{IsOrigin, Origin};
 ghost use Rattle.tt_log.specs.PacketRules.{told_command};
+ghost use Rattle.tt_log.specs.Ranges.{FitsEntry, FitsMember};
 ghost use Rattle.tt_log.specs.Senders.{IsKnown, IsOfSender};
 ghost use Rattle.tt_log.specs.Spelled.{AreSpelled, IsReadAgain, IsSmall, IsSpelled};
 ghost use Rattle.tt_log.specs.Told.{heard};
@@ -38,4 +39,12 @@ pub fn entries_are_of_senders()
 /// The first of the queue is told its map, or has it and has not entered yet; all others wait.
 pub fn first_in_queue_downloads()
     ensures { (o : Origin) (es : List Event) → IsQueue (table_of o es) (table_of o es).queue }
+{}
+
+/// What of a table goes into messages is in range: client numbers and commands, the entries of the journal, and the name of each
+/// member, which is a text of 1 to 24 bytes.
+pub fn tables_are_in_range()
+    ensures members { (o : Origin) (es : List Event) → IsOrigin o → AreEvents es → AllByRecursion FitsMember (table_of o es).members }
+    ensures journal { (o : Origin) (es : List Event) → IsOrigin o → AreEvents es → AllByRecursion FitsEntry (journal_of o es) }
+    ensures top { (o : Origin) (es : List Event) → IsOrigin o → (table_of o es).top + 1 < 2 ^ 32 }
 {}
