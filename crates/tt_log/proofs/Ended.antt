@@ -21,7 +21,8 @@ use Rattle.tt_log.specs.Deed.{Said, game, admin}
 use Rattle.tt_log.specs.Tick.{pieces_of}
 use Rattle.tt_log.specs.Events.{deed, stepped}
 use Rattle.tt_log.specs.History.{table_of}
-use Rattle.tt_log.specs.Tellings.{Filling, Telling, telling, filled, reported, said_by, filling}
+use Rattle.tt_log.specs.Reports.{reported}
+use Rattle.tt_log.specs.Tellings.{Filling, Telling, telling, filled, said_by, filling}
 use Rattle.tt_log.specs.Told.{is_entry, kept_if, told_to, told_by, heard_from, heard}
 use Rattle.tt_log.proofs.Going.{heard-append}
 use Rattle.tt_log.proofs.Lists.{NotIn, all-append, among-all}

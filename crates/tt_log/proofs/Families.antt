@@ -25,7 +25,8 @@ use Rattle.tt_log.specs.Desk.{admin_arrives, counted_aside, most_admins}
 use Rattle.tt_log.specs.Doors.{IsOfGame, IsOfAdmins, door_from, door_of}
 use Rattle.tt_log.specs.Tick.{drawn}
 use Rattle.tt_log.specs.Events.{arrives, counted_in, by_event, takes, taken, names_live, deed, stepped}
-use Rattle.tt_log.specs.Tellings.{Filling, filling, tellings, piece_messages, reported, said_by}
+use Rattle.tt_log.specs.Reports.{reported}
+use Rattle.tt_log.specs.Tellings.{Filling, filling, tellings, piece_messages, said_by}
 use Rattle.tt_log.specs.Told.{told_to, told_by, heard_from, heard}
 use Rattle.tt_log.proofs.Going.{over-stays}
 use Rattle.tt_log.proofs.Lists.{NotIn, IsOther, all-append, all-so, all-take, all-drop, all-of-filter}

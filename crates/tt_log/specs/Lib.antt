@@ -32,6 +32,7 @@ pub mod Desk
 pub mod Tick
 pub mod Events
 pub mod History
+pub mod Filling
 pub mod Reports
 pub mod Tellings
 pub mod Told
@@ -42,6 +43,7 @@ pub mod Downloads
 pub mod Stamps
 pub mod Endings
 pub mod Doors
+pub mod Quiet
 pub mod Marks
 pub mod Foundings
 pub mod Shown

@@ -4,8 +4,8 @@ use Rattle.std.specs.List.{list_any}
 use Rattle.std.specs.Fmt.{signed_decimal}
 use Rattle.std.specs.Int.{w64, cast_unsigned}
 use Rattle.tt_admin.specs.declared.message.AdminMsg.{AdminMsg}
-use Rattle.tt_admin.specs.declared.message.AdminMsg.TheVariants.{ServerWelcome, ServerRcon, ServerCompanyNew, ServerCompanyInfo}
-use Rattle.tt_admin.specs.declared.message.AdminMsg.TheVariants.{ServerCompanyUpdate, ServerCompanyEconomy, ServerCompanyStats}
+use Rattle.tt_admin.specs.declared.message.AdminMsg.TheVariants.{ServerWelcome, ServerDate, ServerRcon, ServerCompanyNew}
+use Rattle.tt_admin.specs.declared.message.AdminMsg.TheVariants.{ServerCompanyInfo, ServerCompanyUpdate, ServerCompanyEconomy, ServerCompanyStats}
 use Rattle.tt_world.specs.declared.setup.Setup.{Setup}
 use Rattle.tt_world.specs.declared.company.Company.{Company}
 use Rattle.tt_world.specs.declared.command.Code.{Code}
@@ -18,6 +18,11 @@ use Rattle.tt_world.specs.Commands.{applied, new_number}
 use Rattle.tt_map.specs.Layout.{live_from}
 use Rattle.tt_log.specs.Table.{option_list}
 use Rattle.tt_log.specs.Polls.{is_asked}
+use Rattle.tt_log.specs.Origin.{Origin, at_frame}
+use Rattle.tt_log.specs.Filling.{Filling}
+use Rattle.tt_log.specs.declared.report.Report.{Report}
+use Rattle.tt_log.specs.declared.report.Report.TheVariants.{Message, Welcome, Date, CompanyInfo, CompanyEconomy, CompanyStats}
+use Rattle.tt_log.specs.declared.report.Report.TheVariants.{CompanyLines, CompanyNews}
 
 -- a dedicated server, and no map's name, on the first landscape, of 256 times 256 tiles
 abbrev pub welcome : Setup → ℕ → AdminMsg
@@ -85,3 +90,16 @@ abbrev pub news_in : List (ℕ × List ℕ) → WorldState → List Entry → Li
 news_in digests w [] = []
 news_in digests w (e ∷ es) = news_of e.command.code (applied w e).1 digests (new_number w.companies) e.company (applied w e).0
     ++ news_in digests (applied w e).0 es
+
+-- ---- each report
+
+-- the messages that a report is
+abbrev pub reported : Origin → Filling → Report → List AdminMsg
+reported o f (Message m) = m ∷ []
+reported o f Welcome = welcome o.setup f.world.day ∷ []
+reported o f Date = ServerDate f.world.day ∷ []
+reported o f (CompanyInfo id) = company_infos f.digests id f.world
+reported o f (CompanyEconomy id) = company_economies id f.world
+reported o f (CompanyStats id) = company_stats id f.world
+reported o f CompanyLines = company_lines f.world
+reported o f CompanyNews = news_in f.digests f.before (at_frame o f.frame f.journal)

@@ -1,49 +1,22 @@
 -- What steps tell: messages as they are, and what is filled in from the world, the map and the journal.
 use Rattle.std.specs.Prelude.{ℕ, ◌*◌, nat_lt, List, [], ◌∷◌, ◌++◌, map, flat_map, length, if◌then◌else◌}
-use Rattle.tt_admin.specs.declared.message.AdminMsg.{AdminMsg}
-use Rattle.tt_admin.specs.declared.message.AdminMsg.TheVariants.{ServerDate}
 use Rattle.tt_game.specs.declared.message.GameMsg.{GameMsg}
 use Rattle.tt_game.specs.declared.message.GameMsg.TheVariants.{ServerMapBegin, ServerMapSize, ServerMapData, ServerMapDone, ServerSync}
-use Rattle.tt_world.specs.declared.command.Entry.{Entry}
-use Rattle.tt_world.specs.World.{WorldState}
 use Rattle.tt_map.specs.Layout.{map_of}
 use Rattle.tt_log.specs.declared.deed.Step.{Step}
 use Rattle.tt_log.specs.declared.deed.What.{What}
 use Rattle.tt_log.specs.declared.deed.What.TheVariants.{Msg, ToAdmin, MapBegin, MapPieces, Sync, Entries, Stamp, End}
 use Rattle.tt_log.specs.Deed.{Said, game, admin, Deed}
-use Rattle.tt_log.specs.declared.report.Report.{Report}
-use Rattle.tt_log.specs.declared.report.Report.TheVariants.{Message, Welcome, Date, CompanyInfo, CompanyEconomy, CompanyStats}
-use Rattle.tt_log.specs.declared.report.Report.TheVariants.{CompanyLines, CompanyNews}
-use Rattle.tt_log.specs.Reports.{welcome, company_infos, company_economies, company_stats, company_lines, news_in}
-use Rattle.tt_log.specs.Origin.{Origin, above, at_frame}
+pub use Rattle.tt_log.specs.Filling.{Filling}
+use Rattle.tt_log.specs.Reports.{reported}
+use Rattle.tt_log.specs.Origin.{Origin, above}
 use Rattle.tt_log.specs.Table.{Table, world_of}
 use Rattle.tt_log.specs.Tick.{left_of, pieces_of}
 use Rattle.tt_log.specs.PacketRules.{told_command}
 
--- what is filled in from: the frame, its world and that before the event, the journal, the companies with a password, each
--- with its digest, and the bytes of the running download that were not told yet
-pub record Filling : Type 0 where
-  pub frame : ℕ
-  pub world : WorldState
-  pub before : WorldState
-  pub journal : List Entry
-  pub digests : List (ℕ × List ℕ)
-  pub left : List ℕ
-
 -- up to four pieces, and behind the last one that the map is done
 abbrev pub piece_messages : List ℕ → List GameMsg
 piece_messages left = map ServerMapData (pieces_of 4 left) ++ (if nat_lt (4 * 1400) (length left) then [] else ServerMapDone ∷ [])
-
--- what a report to admins says
-abbrev pub reported : Origin → Filling → Report → List AdminMsg
-reported o f (Message m) = m ∷ []
-reported o f Welcome = welcome o.setup f.world.day ∷ []
-reported o f Date = ServerDate f.world.day ∷ []
-reported o f (CompanyInfo id) = company_infos f.digests id f.world
-reported o f (CompanyEconomy id) = company_economies id f.world
-reported o f (CompanyStats id) = company_stats id f.world
-reported o f CompanyLines = company_lines f.world
-reported o f CompanyNews = news_in f.digests f.before (at_frame o f.frame f.journal)
 
 -- what a step says; a connection that ends is told nothing by this
 abbrev pub said_by : Origin → Filling → What → List Said

@@ -15,6 +15,7 @@ ghost use Rattle.tt_log.specs.Foundings.{foundings_in};
 ghost use Rattle.tt_log.specs.Tick.{foundings};
 ghost use Rattle.tt_rules.specs.Companies.{living};
 ghost use Rattle.tt_world.specs.World.{WorldState};
+ghost use Rattle.tt_log.specs.Quiet.{bare, is_quiet, loud, of_game};
 ghost use Rattle.tt_log.specs.Stamps.{accepted, ordered, owned, stamped_of};
 ghost use Rattle.tt_rules.specs.Codes.{illegal_packet};
 ghost use Rattle.tt_rules.specs.declared.status.Verdict.TheVariants.{Ends};
@@ -223,6 +224,23 @@ pub fn a_door_has_its_family()
         → AllByRecursion IsOfAdmins (heard o es conn) }
     ensures admins { (o : Origin) (es : List Event) (conn : ℕ) → (door_of es conn ≡ Some Side → ⊥)
         → AllByRecursion IsOfGame (heard o es conn) }
+{}
+
+/// What admins do players do not see, but for chats and the console's commands.
+pub fn admins_are_unseen()
+    // An event of an admin that is quiet changes nothing but the admins and the cost, and tells nobody anything of the game, as
+    // long as the game goes on.
+    ensures table { (o : Origin) (es : List Event) (e : Event) → is_quiet o (table_of o es) e ≡ true
+        → (table_of o (es ++ e ∷ [])).over ≡ false → bare (table_of o (es ++ e ∷ [])) ≡ bare (table_of o es) }
+    ensures told { (o : Origin) (es : List Event) (e : Event) (conn : ℕ) → is_quiet o (table_of o es) e ≡ true
+        → (table_of o (es ++ e ∷ [])).over ≡ false → of_game (told o es e conn) ≡ [] }
+    // So two lists of events that differ in quiet events alone make the same game, with the same journal, and tell each player
+    // the same, as long as both games go on.
+    ensures tables { (o : Origin) (es fs : List Event) → (table_of o es).over ≡ false → (table_of o fs).over ≡ false
+        → loud o es ≡ loud o fs → bare (table_of o es) ≡ bare (table_of o fs) }
+    ensures players { (o : Origin) (es fs : List Event) (conn : ℕ) → (table_of o es).over ≡ false → (table_of o fs).over ≡ false
+        → loud o es ≡ loud o fs → (door_of es conn ≡ Some Side → ⊥) → (door_of fs conn ≡ Some Side → ⊥)
+        → heard o es conn ≡ heard o fs conn }
 {}
 
 /// A packet of an admin that spells nothing, a stream that breaks, and a refusal end their own admin with their code, and
