@@ -25,7 +25,9 @@ use Rattle.tt_log.specs.Deed.{Said, game, admin}
 use Rattle.tt_log.specs.PacketRules.{told_command}
 use Rattle.tt_log.specs.Ranges.{FitsCommand, FitsEntry, FitsMember}
 use Rattle.tt_log.specs.Tick.{pieces_of}
-use Rattle.tt_log.specs.Tellings.{Filling, Telling, telling, filled, reported, said_by}
+use Rattle.tt_log.specs.Filling.{Filling}
+use Rattle.tt_log.specs.Reports.{reported}
+use Rattle.tt_log.specs.Tellings.{Telling, telling, filled, said_by}
 use Rattle.tt_log.specs.Told.{kept_if, told_to}
 use Rattle.tt_log.specs.declared.report.Report.{Report}
 use Rattle.tt_log.specs.declared.report.Report.TheVariants.{Message, Welcome, Date, CompanyInfo, CompanyEconomy, CompanyStats}
