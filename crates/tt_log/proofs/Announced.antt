@@ -1,5 +1,5 @@
 -- What the console announces is a text, as the line is in which it stands.
-use Rattle.std.proofs.Common.{◌≡◌, ℕ, zero, suc, ◌+◌, ◌≤◌, ◌<◌, true, List, [], ◌∷◌, ◌++◌, Option, Some, None, drop, length, refl, ap, sym, subst, arith, get_or}
+use Rattle.std.proofs.Common.{◌≡◌, ℕ, zero, suc, ◌≤◌, ◌<◌, true, List, [], ◌∷◌, ◌++◌, Option, Some, None, length, refl, ap, sym, subst, arith, get_or}
 use Rattle.std.specs.Prelude.{All, codes}
 use Rattle.std.proofs.lemmas.List.Elements.{All-drop}
 use Rattle.std.proofs.lemmas.Str.{IsUtf8-drop, IsCharBoundary-after_ascii}
@@ -8,8 +8,8 @@ use Rattle.tt_frame.proofs.TextLaws.{IsText-from_is_text, is_text-from_IsText, l
 use Rattle.tt_lines.specs.Lines.{HasNo}
 use Rattle.tt_log.specs.Forms.{key}
 use Rattle.tt_log.specs.Rows.{Row, ◌▸◌, pick, row_at}
-use Rattle.tt_log.specs.Console.{ConsoleCommand, announces, command_in, console_lines, or_unknown, said, unknown}
-use Rattle.tt_log.proofs.FormLaws.{Each, Sound, pick_sound, sound}
+use Rattle.tt_log.specs.Console.{ConsoleCommand, announces, command_in, console_lines, or_unknown, said}
+use Rattle.tt_log.proofs.FormLaws.{Each, pick_sound, sound}
 
 -- a line that announces something is `say`, a blank, and this
 abbrev Says : ConsoleCommand → List ℕ → Type 0

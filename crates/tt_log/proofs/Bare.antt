@@ -28,7 +28,7 @@ use Rattle.tt_log.specs.Frames.{tells_fresh, tells_frame_by, tells_frame, frames
 use Rattle.tt_log.specs.Queue.{begins, begins_for, begins_where, waits, moved_up, asks, left_place, leaves_queue}
 use Rattle.tt_log.specs.Judged.{judged, founder}
 use Rattle.tt_log.specs.Ending.{Farewell, Quitting, Failing, tells_farewell, leaves, ends}
-use Rattle.tt_log.specs.PacketRules.{client_info, company_step_by, company_step, password_step_by, password_step, enters, asks_company}
+use Rattle.tt_log.specs.PacketRules.{client_info, company_step_by, company_step, password_step_by, enters, asks_company}
 use Rattle.tt_log.specs.PacketRules.{becomes_active, acknowledged, acknowledges, has_caught_up, command_waits, moves, does}
 use Rattle.tt_log.specs.Polls.{tells_admin, each_told, day_told, due_reports, admins_told}
 use Rattle.tt_log.specs.Desk.{is_slow, admin_ends, admin_limited, each_admin_limited, admins_limited}

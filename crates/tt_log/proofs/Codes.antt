@@ -1,5 +1,5 @@
 -- The codes for which the rules end a member are codes: at most 20.
-use Rattle.std.proofs.Common.{◌≡◌, ℕ, ◌≤◌, Bool, true, false, List, [], ◌∷◌, length, Option, Some, None, refl, arith}
+use Rattle.std.proofs.Common.{ℕ, ◌≤◌, Bool, true, false, List, Option, Some, None, arith}
 use Rattle.std.specs.Prelude.{◌||◌, ◌==◌, ◌-◌, not, nat_le, nat_lt, bytes_eq}
 use Rattle.tt_game.specs.declared.message.GameMsg.{GameMsg}
 use Rattle.tt_game.specs.declared.message.GameMsg.TheVariants.{ClientJoin, ClientGamePassword, ClientCompanyPassword, ClientSetName}

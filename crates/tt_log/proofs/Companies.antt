@@ -1,5 +1,5 @@
 -- What reports tell of companies is in range, where the world is sound.
-use Rattle.std.proofs.Common.{◌≡◌, ℕ, zero, suc, ◌+◌, ◌<◌, ◌≤◌, Bool, true, false, List, [], ◌∷◌, ◌++◌, Option, Some, None, refl, sym, subst, arith}
+use Rattle.std.proofs.Common.{◌≡◌, ℕ, suc, ◌+◌, ◌<◌, ◌≤◌, Bool, true, false, List, [], ◌∷◌, ◌++◌, Option, Some, None, refl, arith}
 use Rattle.std.proofs.Common.{lit<}
 use Rattle.std.specs.Prelude.{◌==◌, ◌^◌, codes, cond, decimal, filter, length, map, option_map, pos, negsuc, ℤ, neg_ℤ, ◌≤ℤ◌, FitsSigned, is_none, not}
 use Rattle.std.specs.List.{AllByRecursion}
@@ -34,7 +34,7 @@ use Rattle.tt_log.specs.Polls.{is_asked}
 use Rattle.tt_log.specs.Reports.{asked_companies, company_economies, company_economy, company_info, company_infos, company_line}
 use Rattle.tt_log.specs.Reports.{company_lines, company_stats, company_update, is_locked, live_companies, news_in, news_of, signs_of}
 use Rattle.tt_log.specs.Reports.{told_of, welcome}
-use Rattle.tt_log.proofs.Lists.{all-append, all-filter, all-map}
+use Rattle.tt_log.proofs.Lists.{all-filter}
 use Rattle.tt_log.proofs.GivenNames.{decimal-text, text-append}
 use Rattle.tt_log.proofs.Worlds.{AreShort, IsGood, entry-good}
 use Rattle.tt_log.proofs.Sending.{AreSent, IsSent, admin-spelled}

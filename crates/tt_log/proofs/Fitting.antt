@@ -1,15 +1,13 @@
 -- Whatever the rules tell has its spelling, and what is in range stays so.
-use Rattle.std.proofs.Common.{◌≡◌, inl, inr, ℕ, suc, ◌+◌, ◌<◌, ◌≤◌, Bool, true, false, List, [], ◌∷◌, ◌++◌, Option, Some, None, refl, ap, ap₂, sym}
-use Rattle.std.proofs.Common.{◌∙◌, subst, arith, lit<}
-use Rattle.std.specs.Prelude.{◌^◌, ◌==◌, codes, cond, decimal, drop, filter, flat_map, length, map, min, nat_le, nat_lt, not, take}
+use Rattle.std.proofs.Common.{◌≡◌, inl, inr, ℕ, ◌+◌, ◌<◌, ◌≤◌, Bool, true, false, List, [], ◌∷◌, ◌++◌, Option, Some, None, refl, ap₂, sym}
+use Rattle.std.proofs.Common.{subst, arith, lit<}
+use Rattle.std.specs.Prelude.{◌^◌, ◌==◌, codes, cond, decimal, flat_map, length, map, min, nat_le, not, take}
 use Rattle.std.specs.List.{AllByRecursion}
 use Rattle.std.proofs.Math.Nat.{min-le_right}
 use Rattle.std.proofs.lemmas.Bool.{leb-false}
 use Rattle.std.proofs.lemmas.List.{length-append, length-map}
-use Rattle.std.proofs.lemmas.Str.{IsUtf8-nil}
-use Rattle.std.proofs.lemmas.List.Elements.{All-nil}
 use Rattle.std.proofs.lemmas.Fmt.{length-decimal-le}
-use Rattle.tt_frame.specs.Text.{IsName, IsText, is_text}
+use Rattle.tt_frame.specs.Text.{IsText, is_text}
 use Rattle.tt_frame.proofs.TextLaws.{is_text-from_IsText, IsText-from_is_plain, IsText-from_is_text, length_of_text}
 use Rattle.tt_edge.specs.declared.event.Event.{Event}
 use Rattle.tt_game.specs.declared.message.GameMsg.{GameMsg}
@@ -21,9 +19,8 @@ use Rattle.tt_admin.specs.declared.message.AdminMsg.{AdminMsg}
 use Rattle.tt_admin.specs.declared.message.AdminMsg.TheVariants as admins
 use Rattle.tt_world.specs.declared.command.Code.{Code}
 use Rattle.tt_world.specs.declared.command.Command.{Command}
-use Rattle.tt_world.specs.declared.command.Entry.{Entry}
-use Rattle.tt_rules.specs.Commands.{code_of, command_with, command_of}
-use Rattle.tt_rules.specs.Reasons.{◌⇒◌, ◌or_else◌}
+use Rattle.tt_rules.specs.Commands.{code_of, command_with}
+use Rattle.tt_rules.specs.Reasons.{◌⇒◌}
 use Rattle.tt_log.specs.declared.deed.Step.{Step}
 use Rattle.tt_log.specs.declared.deed.What.{What}
 use Rattle.tt_log.specs.declared.deed.What.TheVariants.{Msg, Stamp, Sync}
@@ -36,15 +33,15 @@ use Rattle.tt_log.specs.Deed.{game, admin}
 use Rattle.tt_log.specs.Frames.{fresh_token, opened_token}
 use Rattle.tt_log.specs.Judged.{is_empty, is_same_game, may_ask_for, founder}
 use Rattle.tt_log.specs.Names.{given_name, is_too_long}
-use Rattle.tt_log.specs.PacketRules.{closed_token, first_company, new_company}
+use Rattle.tt_log.specs.PacketRules.{closed_token, first_company}
 use Rattle.tt_log.specs.Desk.{admin_arrives, counted_aside, most_admins}
 use Rattle.tt_log.specs.Tick.{drawn, entry_of, own_entry, stamps}
-use Rattle.tt_log.specs.Events.{arrives, counted_in, deed, last_frame, shut_down, stepped}
+use Rattle.tt_log.specs.Events.{arrives, counted_in, deed, last_frame, stepped}
 use Rattle.tt_log.specs.History.{IsEvent}
-use Rattle.tt_log.proofs.Lists.{Among, all-append, all-drop, all-filter, all-map, all-take, among-all}
-use Rattle.tt_log.proofs.Crew.{On, put, put-all}
+use Rattle.tt_log.proofs.Lists.{all-append, all-drop, all-filter, all-map, all-take, among-all}
+use Rattle.tt_log.proofs.Crew.{On, put-all}
 use Rattle.tt_log.proofs.Places.{living-places}
-use Rattle.tt_log.proofs.Changes.{Allows, By, Says, Change, wants_password, is_let_in, gets_token, gets_frame, answers, plays, commands}
+use Rattle.tt_log.proofs.Changes.{Allows, By, Change, wants_password, is_let_in, gets_token, gets_frame, answers, plays, commands}
 use Rattle.tt_log.proofs.Changes.{has_name, goes_to, founds, gets_pieces, has_all, Asks, May, turned, turned_in, steps_with, moved, Move}
 use Rattle.tt_log.proofs.Changes.{queues, begins_map, loads, IsClient, IsSeated, IsReason, IsEnd, IsChat, IsTalk, IsNews, IsNotice}
 use Rattle.tt_log.proofs.Changes.{IsAnswer, IsReport}

@@ -1,5 +1,5 @@
 -- Client numbers are few: an opening costs 64, and the game is over at its cost.
-use Rattle.std.proofs.Common.{◌≡◌, ℕ, ◌+◌, ◌≤◌, ◌<◌, List, true, false, Bool, refl, arith}
+use Rattle.std.proofs.Common.{◌≡◌, ◌+◌, ◌≤◌, ◌<◌, List, true, false, Bool, refl, arith}
 use Rattle.std.specs.Prelude.{◌*◌, ◌^◌, ◌==◌, ◌||◌, ◌&&◌, nat_le, not}
 use Rattle.std.proofs.lemmas.Bool.{leb-false}
 use Rattle.tt_edge.specs.declared.event.Event.{Event}

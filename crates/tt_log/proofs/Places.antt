@@ -1,7 +1,7 @@
 -- A world keeps its fifteen places, whatever is done in it; so what is founded has one of their numbers.
-use Rattle.std.proofs.Common.{◌≡◌, ℕ, zero, suc, ◌+◌, ◌<◌, ◌≤◌, Bool, true, false, List, [], ◌∷◌, length, Option, Some, None, refl, ap, ◌∙◌, arith}
-use Rattle.std.specs.Prelude.{not, map, is_some}
-use Rattle.std.specs.List.{AllByRecursion, position}
+use Rattle.std.proofs.Common.{◌≡◌, ℕ, zero, suc, ◌+◌, ◌<◌, Bool, true, false, List, [], ◌∷◌, length, Option, Some, None, refl, ◌∙◌, arith}
+use Rattle.std.specs.Prelude.{not, is_some}
+use Rattle.std.specs.List.{AllByRecursion}
 use Rattle.std.proofs.lemmas.List.{length-set, length-map}
 use Rattle.std.proofs.lemmas.List.Quantifiers.{position-Some}
 use Rattle.tt_lockstep.specs.Journal.{of_frame, applied_all}
@@ -12,10 +12,10 @@ use Rattle.tt_world.specs.declared.command.Entry.{Entry}
 use Rattle.tt_world.specs.declared.effect.Why.{Why}
 use Rattle.tt_world.specs.World.{WorldState}
 use Rattle.tt_world.specs.Commands.{answered, applied, changed, done, done_by, refusal, poorer}
-use Rattle.tt_world.specs.Economy.{earned, framed, framed_by, next_day, went_on}
+use Rattle.tt_world.specs.Economy.{earned, framed_by, went_on}
 use Rattle.tt_world.specs.Random.{next_random}
 use Rattle.tt_world.proofs.FrameLaws.{length-earned, length-monthly}
-use Rattle.tt_rules.specs.Companies.{founded, least_free, living}
+use Rattle.tt_rules.specs.Companies.{living}
 use Rattle.tt_log.specs.Origin.{Origin, game_of, world_at}
 use Rattle.tt_log.specs.Tick.{founder_of, founding, foundings, living_with}
 use Rattle.tt_log.proofs.Lists.{all-append}

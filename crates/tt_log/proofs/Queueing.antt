@@ -1,9 +1,9 @@
 -- The first of the queue downloads, and the others wait.
-use Rattle.std.proofs.Common.{◌≡◌, ◌⊎◌, inl, inr, ℕ, zero, suc, ◌+◌, ◌≤◌, Bool, true, false, List, [], ◌∷◌, ◌++◌, Option, Some, None, refl, ap, sym}
+use Rattle.std.proofs.Common.{◌≡◌, ◌⊎◌, inl, inr, ℕ, suc, ◌+◌, ◌≤◌, Bool, true, false, List, [], ◌∷◌, ◌++◌, Option, Some, None, refl, ap, sym}
 use Rattle.std.proofs.Common.{◌∙◌, subst, arith}
-use Rattle.std.specs.Prelude.{◌==◌, ◌||◌, cond, drop, filter, find, is_some, length, map, nat_le, nat_lt, not, take}
+use Rattle.std.specs.Prelude.{◌==◌, ◌||◌, cond, drop, find, is_some, length, map, nat_le, nat_lt, not, take}
 use Rattle.std.specs.List.{AllByRecursion, list_any}
-use Rattle.std.proofs.lemmas.Bool.{eqb-true, eq-eqb, ne_eqb, leb-true}
+use Rattle.std.proofs.lemmas.Bool.{eqb-true, eq-eqb, ne_eqb}
 use Rattle.tt_edge.specs.declared.event.Event.{Event}
 use Rattle.tt_rules.specs.declared.status.Status.{Status}
 use Rattle.tt_rules.specs.declared.status.Status.TheVariants.{Inactive, NewgrfsCheck, AuthGame, AuthCompany, Authorized, MapWait, Map}
@@ -11,12 +11,12 @@ use Rattle.tt_rules.specs.declared.status.Status.TheVariants.{DoneMap, PreActive
 use Rattle.tt_rules.specs.Statuses.{rank}
 use Rattle.tt_log.specs.declared.deed.Step.{Step}
 use Rattle.tt_log.specs.Origin.{Origin}
-use Rattle.tt_log.specs.Member.{Member, is_in, is_welcomed, new_member}
-use Rattle.tt_log.specs.Table.{Table, first, is_on, member_of, now_in, with_member, without_member}
+use Rattle.tt_log.specs.Member.{Member, is_in, is_welcomed}
+use Rattle.tt_log.specs.Table.{Table, first, is_on, now_in, with_member, without_member}
 use Rattle.tt_log.specs.Deed.{where_, where_some}
 use Rattle.tt_world.specs.Random.{next_random}
 use Rattle.tt_log.specs.Frames.{fresh_token, opened_token}
-use Rattle.tt_log.specs.Queue.{asks, begins, begins_for, begins_where, downloading, leaves_queue, left_place, moved_up}
+use Rattle.tt_log.specs.Queue.{begins, begins_for, begins_where, downloading, leaves_queue, left_place, moved_up}
 use Rattle.tt_log.specs.Ending.{Farewell, Quitting, Failing, leaves, tells_farewell}
 use Rattle.tt_log.specs.PacketRules.{closed_token, enters}
 use Rattle.tt_log.specs.Desk.{admin_arrives, counted_aside, most_admins}

@@ -1,5 +1,5 @@
 -- What is in range of a table, and that each message told of it has its spelling.
-use Rattle.std.proofs.Common.{◌≡◌, ℕ, zero, suc, ◌+◌, ◌<◌, ◌≤◌, Bool, true, false, List, [], ◌∷◌, ◌++◌, arith, lit<, refl}
+use Rattle.std.proofs.Common.{◌≡◌, ℕ, zero, suc, ◌+◌, ◌<◌, ◌≤◌, Bool, true, false, List, [], ◌∷◌, ◌++◌, arith, lit<}
 use Rattle.std.specs.Prelude.{◌*◌, ◌^◌, ◌==◌, nat_lt, cond, take, drop, length, map}
 use Rattle.std.specs.List.{AllByRecursion}
 use Rattle.std.proofs.lemmas.List.{length-take}
@@ -10,7 +10,6 @@ use Rattle.tt_game.specs.declared.message.GameMsg.TheVariants.{ServerMapBegin, S
 use Rattle.tt_world.specs.declared.command.Code.{Code}
 use Rattle.tt_world.specs.declared.command.Code.TheVariants.{IncreaseLoan, DecreaseLoan, Give, PlaceSign, RenameSign, RenameCompany}
 use Rattle.tt_world.specs.declared.command.Code.TheVariants.{RenamePresident, Pause, NewCompany}
-use Rattle.tt_world.specs.declared.command.Command.{Command}
 use Rattle.tt_world.specs.declared.command.Entry.{Entry}
 use Rattle.tt_map.specs.Layout.{map_of}
 use Rattle.tt_map.proofs.WritingLaws.{map_length}
@@ -19,7 +18,6 @@ use Rattle.tt_log.specs.declared.deed.Step.{Step}
 use Rattle.tt_log.specs.declared.deed.What.{What}
 use Rattle.tt_log.specs.declared.deed.What.TheVariants.{Msg, ToAdmin, MapBegin, MapPieces, Sync, Entries, Stamp, End}
 use Rattle.tt_log.specs.Origin.{Origin, IsOrigin, above, at_frame}
-use Rattle.tt_log.specs.Member.{Member}
 use Rattle.tt_log.specs.Table.{Table}
 use Rattle.tt_log.specs.Deed.{Said, game, admin}
 use Rattle.tt_log.specs.PacketRules.{told_command}
@@ -32,7 +30,7 @@ use Rattle.tt_log.specs.Told.{kept_if, told_to}
 use Rattle.tt_log.specs.declared.report.Report.{Report}
 use Rattle.tt_log.specs.declared.report.Report.TheVariants.{Message, Welcome, Date, CompanyInfo, CompanyEconomy, CompanyStats}
 use Rattle.tt_log.specs.declared.report.Report.TheVariants.{CompanyLines, CompanyNews}
-use Rattle.tt_log.proofs.Lists.{all-append, all-so}
+use Rattle.tt_log.proofs.Lists.{all-so}
 use Rattle.tt_log.proofs.Sending.{AreSent, IsSent, game-spelled}
 use Rattle.tt_log.proofs.Worlds.{AreShort, IsGood, frame-short}
 use Rattle.tt_log.proofs.Companies.{all-stats-sent, date-sent, economies-sent, infos-sent, lines-sent, news-sent, welcome-sent}

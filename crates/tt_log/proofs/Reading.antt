@@ -1,5 +1,5 @@
 -- What is read of a packet whose body is bytes is in the ranges of its row.
-use Rattle.std.proofs.Common.{◌≡◌, ℕ, ◌<◌, ◌≤◌, true, List, Option, Some, None, refl, sym, subst, arith}
+use Rattle.std.proofs.Common.{◌≡◌, ℕ, ◌<◌, ◌≤◌, true, List, Option, Some, sym, subst}
 use Rattle.std.specs.Prelude.{Result, Ok, Err, ◌^◌}
 use Rattle.std.specs.Result.{result_ok}
 use Rattle.tt_frame.specs.Text.{is_text}

@@ -1,15 +1,14 @@
 -- What reports to admins are made of, where a poll is answered, a day begins, or the console answers.
-use Rattle.std.proofs.Common.{◌≡◌, inl, inr, ℕ, ◌≤◌, Bool, true, false, List, [], ◌∷◌, ◌++◌, Option, Some, None, refl, arith}
-use Rattle.std.specs.Prelude.{◌==◌, codes, cond, filter, flat_map, map, slice_index}
+use Rattle.std.proofs.Common.{inl, inr, ℕ, Bool, true, false, List, [], ◌∷◌, Option, Some, None, refl, arith}
+use Rattle.std.specs.Prelude.{◌==◌, cond, filter, flat_map, map, slice_index}
 use Rattle.std.specs.List.{AllByRecursion}
 use Rattle.tt_edge.specs.declared.event.Event.{Event}
 use Rattle.tt_log.specs.declared.report.Report.{Report}
-use Rattle.tt_log.specs.declared.report.Report.TheVariants.{Date, CompanyInfo, CompanyEconomy, CompanyStats}
 use Rattle.tt_log.specs.Origin.{Origin}
 use Rattle.tt_log.specs.Member.{Member, is_welcomed}
 use Rattle.tt_log.specs.Admin.{Admin, date_updates, client_updates, company_updates, economy_updates, stats_updates, name_updates, is_due}
 use Rattle.tt_log.specs.Table.{Table, member_with, welcomed}
-use Rattle.tt_log.specs.Polls.{client_report, client_reports, due_of, due_reports, everyone, is_asked, period_types, poll_answers}
+use Rattle.tt_log.specs.Polls.{client_report, due_of, due_reports, everyone, is_asked, period_types, poll_answers}
 use Rattle.tt_log.specs.Console.{ConsoleCommand, pauses, kicks, announces, clients, companies, quits, unknown, answer, client_line}
 use Rattle.tt_log.specs.Console.{kick_answer, lines_of}
 use Rattle.tt_log.proofs.Lists.{all-append, all-among, all-filter}

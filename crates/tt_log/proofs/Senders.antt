@@ -1,6 +1,6 @@
 -- Entries of the server's own list are pauses and new companies, and those of clients all else.
-use Rattle.std.proofs.Common.{◌≡◌, inl, inr, ℕ, ◌+◌, ◌≤◌, Bool, true, false, List, [], ◌∷◌, ◌++◌, Option, Some, None, refl, ap, sym, ◌∙◌, arith}
-use Rattle.std.specs.Prelude.{◌==◌, cond, drop, flat_map, length, map, nat_le, nat_lt, not, take}
+use Rattle.std.proofs.Common.{◌≡◌, inl, inr, ℕ, ◌+◌, ◌≤◌, Bool, true, false, List, [], ◌∷◌, Option, Some, None, refl, ap, sym, ◌∙◌, arith}
+use Rattle.std.specs.Prelude.{◌==◌, cond, flat_map, length, map, nat_le, nat_lt, not, take}
 use Rattle.std.specs.List.{AllByRecursion}
 use Rattle.std.proofs.lemmas.Bool.{eqb-true, ne_eqb}
 use Rattle.tt_edge.specs.declared.event.Event.{Event}
@@ -8,19 +8,16 @@ use Rattle.tt_world.specs.declared.command.Code.{Code}
 use Rattle.tt_world.specs.declared.command.Code.TheVariants.{IncreaseLoan, DecreaseLoan, Give, PlaceSign, RenameSign, RenameCompany}
 use Rattle.tt_world.specs.declared.command.Code.TheVariants.{RenamePresident, Pause, NewCompany}
 use Rattle.tt_world.specs.declared.command.Command.{Command}
-use Rattle.tt_world.specs.declared.command.Entry.{Entry}
 use Rattle.tt_rules.specs.Commands.{code_of, code_or, command_of, command_with, is_own_code, number_of}
-use Rattle.tt_rules.specs.Companies.{is_living}
-use Rattle.tt_rules.specs.Reasons.{◌⇒◌, ◌or_else◌}
 use Rattle.tt_log.specs.declared.deed.Step.{Step}
 use Rattle.tt_log.specs.Origin.{Origin}
-use Rattle.tt_log.specs.Member.{Member, new_member}
+use Rattle.tt_log.specs.Member.{Member}
 use Rattle.tt_log.specs.Table.{Table, first, is_on, with_member}
 use Rattle.tt_log.specs.PacketRules.{closed_token}
 use Rattle.tt_log.specs.Desk.{admin_arrives, counted_aside, most_admins}
 use Rattle.tt_log.specs.Tick.{drawn, entry_of, own_entry, stamps}
 use Rattle.tt_log.specs.Events.{arrives, counted_in, stepped}
-use Rattle.tt_log.specs.History.{journal_of, table_of}
+use Rattle.tt_log.specs.History.{journal_of}
 use Rattle.tt_log.specs.Senders.{IsKnown, IsOfSender}
 use Rattle.tt_log.proofs.Lists.{all-append, all-drop, all-filter, all-map, all-take, among-all}
 use Rattle.tt_log.proofs.Crew.{On, put-all}

@@ -1,5 +1,5 @@
 -- All that a connection is told has its spelling, so it is read again, and is small.
-use Rattle.std.proofs.Common.{◌≡◌, ℕ, ◌+◌, ◌≤◌, ◌<◌, List, [], ◌∷◌, ◌++◌, Some, Ok, refl, ap, ◌∙◌, arith, length}
+use Rattle.std.proofs.Common.{ℕ, ◌+◌, ◌≤◌, ◌<◌, List, [], ◌∷◌, refl, ap, arith}
 use Rattle.std.specs.Prelude.{◌^◌, Result, fold}
 use Rattle.std.specs.Result.{result_ok}
 use Rattle.std.specs.List.{AllByRecursion}
@@ -12,11 +12,11 @@ use Rattle.tt_game.specs.Messages as game_rows
 use Rattle.tt_admin.specs.declared.message.AdminMsg.{AdminMsg}
 use Rattle.tt_admin.specs.Apart as admins
 use Rattle.tt_admin.specs.Messages as admin_rows
-use Rattle.tt_log.specs.declared.deed.Step.{Step}
 use Rattle.tt_log.specs.Origin.{Origin, IsOrigin}
 use Rattle.tt_log.specs.Table.{Table, first}
 use Rattle.tt_log.specs.Deed.{Said, game, admin, Deed}
-use Rattle.tt_log.specs.Tellings.{Filling, filling}
+use Rattle.tt_log.specs.Filling.{Filling}
+use Rattle.tt_log.specs.Tellings.{filling}
 use Rattle.tt_log.specs.Events.{deed, last_frame, stepped, takes}
 use Rattle.tt_log.specs.History.{AreEvents, IsEvent, journal_of, table_of}
 use Rattle.tt_log.specs.PacketRules.{told_command}

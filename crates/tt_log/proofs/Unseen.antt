@@ -1,7 +1,7 @@
 -- What admins do players do not see, but for chats and what the console does.
-use Rattle.std.proofs.Common.{◌≡◌, ℕ, ◌+◌, List, [], ◌∷◌, ◌++◌, refl, ap, ap₂, sym, ◌∙◌, subst, true, false, Bool, Option, Some, None}
+use Rattle.std.proofs.Common.{◌≡◌, ℕ, List, [], ◌∷◌, ◌++◌, refl, ap, ap₂, sym, ◌∙◌, subst, true, false, Bool, Option, Some, None}
 use Rattle.std.proofs.Common.{append-nil}
-use Rattle.std.specs.Prelude.{◌==◌, ◌||◌, ◌&&◌, not, cond, filter, fold, length, map, nat_le, is_some}
+use Rattle.std.specs.Prelude.{◌==◌, ◌||◌, not, cond, fold, length, map, nat_le, is_some}
 use Rattle.std.specs.List.{AllByRecursion, list_any}
 use Rattle.tt_edge.specs.declared.event.Door.TheVariants.{Main, Side}
 use Rattle.tt_edge.specs.declared.event.Event.{Event}
@@ -39,9 +39,9 @@ use Rattle.tt_log.specs.Told as told
 use Rattle.tt_log.specs.Doors.{IsOfGame, door_of}
 use Rattle.tt_log.specs.Quiet.{bare, is_of_game, of_game, does_something, is_loud, is_loud_where, is_quiet_at, is_quiet, loud_from, loud}
 use Rattle.tt_log.proofs.Going.{over-stays, over-from}
-use Rattle.tt_log.proofs.Refusing.{table-snoc, not-taken}
+use Rattle.tt_log.proofs.Refusing.{table-snoc}
 use Rattle.tt_log.proofs.Families.{not-of-admins}
-use Rattle.tt_log.proofs.Bare.{is_inside, inside, inside-append, strip, still, Like, Bares, like-then, same, some-bares, reports-none, reports-like, left-bare}
+use Rattle.tt_log.proofs.Bare.{is_inside, inside, still, Like, Bares, like-then, same, some-bares, reports-none, reports-like, left-bare}
 use Rattle.tt_log.proofs.Bare.{leaves-bares, ends-bares, heard-bares, ticked-bares, opened-bares}
 
 -- ---- the console

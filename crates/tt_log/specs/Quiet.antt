@@ -1,11 +1,11 @@
 -- What players see of a table, of events and of what is told; and which events of admins they do not see: what the laws say.
-use Rattle.std.specs.Prelude.{ℕ, Bool, true, false, not, ◌||◌, cond, List, [], ◌∷◌, filter, Option, Some, None}
+use Rattle.std.specs.Prelude.{Bool, true, false, not, cond, List, [], ◌∷◌, filter, Option, Some, None}
 use Rattle.tt_edge.specs.declared.event.Event.{Event}
 use Rattle.tt_edge.specs.declared.event.Event.TheVariants.{Packet, Broken, Shut}
 use Rattle.tt_admin.specs.declared.message.AdminMsg.{AdminMsg}
 use Rattle.tt_admin.specs.declared.message.AdminMsg.TheVariants.{AdminChat, AdminRcon}
 use Rattle.tt_rules.specs.declared.status.Verdict.{Verdict}
-use Rattle.tt_rules.specs.declared.status.Verdict.TheVariants.{Allowed, Ends}
+use Rattle.tt_rules.specs.declared.status.Verdict.TheVariants.{Allowed}
 use Rattle.tt_log.specs.Origin.{Origin}
 use Rattle.tt_log.specs.Member.{Member}
 use Rattle.tt_log.specs.Admin.{Admin}
@@ -13,7 +13,7 @@ use Rattle.tt_log.specs.Table.{Table, first, member_of, admin_of}
 use Rattle.tt_log.specs.Deed.{Said, game, admin}
 use Rattle.tt_log.specs.Console.{ConsoleCommand, clients, companies, unknown, command_in}
 use Rattle.tt_log.specs.Desk.{read_admin, admin_judged}
-use Rattle.tt_log.specs.Events.{takes, stepped}
+use Rattle.tt_log.specs.Events.{stepped}
 
 -- ---- what players see
 

@@ -1,5 +1,5 @@
 -- Whose commands entries are, and that who is told an entry makes the same command of it.
-use Rattle.std.specs.Prelude.{◌≡◌, ℕ, ◌==◌, Some}
+use Rattle.std.specs.Prelude.{◌≡◌, ◌==◌, Some}
 use Rattle.tt_world.specs.declared.command.Command.{Command}
 use Rattle.tt_world.specs.declared.command.Entry.{Entry}
 use Rattle.tt_rules.specs.Commands.{number_of, command_of, is_own_code}

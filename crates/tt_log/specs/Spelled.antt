@@ -1,6 +1,6 @@
 -- What is said has a spelling: each field of a message is in the range that its row gives. So the packet that is sent spells
 -- the message, who reads the packet reads the message again, and the packet is a small one.
-use Rattle.std.specs.Prelude.{◌≡◌, ◌≤◌, ℕ, List, length, Some}
+use Rattle.std.specs.Prelude.{◌≡◌, ◌≤◌, List, length, Some}
 use Rattle.std.specs.List.{AllByRecursion}
 use Rattle.tt_game.specs.Apart as games
 use Rattle.tt_game.specs.Messages as games_rows
