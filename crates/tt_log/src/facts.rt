@@ -1,15 +1,17 @@
 //! Facts of the definitions that whoever stands on a stream or a table needs, for every origin and every list of events.
-ghost use Rattle.std.specs.Prelude.{◌≤◌, ◌<◌, ◌+◌, ◌^◌, ℕ, List};
+ghost use Rattle.std.specs.Prelude.{◌≡◌, ◌≤◌, ◌<◌, ◌+◌, ◌==◌, true, false, Some, ◌^◌, ℕ, List};
 ghost use Rattle.std.specs.List.{AllByRecursion};
 ghost use Rattle.tt_edge.specs.declared.event.Event.{Event};
 ghost use Rattle.tt_log.specs.Deed.{game};
 ghost use Rattle.tt_log.specs.Downloads.{IsQueue};
 ghost use Rattle.tt_log.specs.History.{AreEvents, journal_of, table_of};
+ghost use Rattle.tt_log.specs.Member.{Member, is_named};
 ghost use Rattle.tt_log.specs.Origin.{IsOrigin, Origin};
 ghost use Rattle.tt_log.specs.PacketRules.{told_command};
 ghost use Rattle.tt_log.specs.Ranges.{FitsEntry, FitsMember};
 ghost use Rattle.tt_log.specs.Senders.{IsKnown, IsOfSender};
 ghost use Rattle.tt_log.specs.Spelled.{AreSpelled, IsReadAgain, IsSmall, IsSpelled};
+ghost use Rattle.tt_log.specs.Table.{member_of};
 ghost use Rattle.tt_log.specs.Told.{heard};
 ghost use Rattle.tt_world.specs.declared.command.Command.{Command};
 ghost use Rattle.tt_world.specs.declared.command.Entry.{Entry};
@@ -47,4 +49,10 @@ pub fn tables_are_in_range()
     ensures members { (o : Origin) (es : List Event) → IsOrigin o → AreEvents es → AllByRecursion FitsMember (table_of o es).members }
     ensures journal { (o : Origin) (es : List Event) → IsOrigin o → AreEvents es → AllByRecursion FitsEntry (journal_of o es) }
     ensures top { (o : Origin) (es : List Event) → IsOrigin o → (table_of o es).top + 1 < 2 ^ 32 }
+{}
+
+/// No two members past INACTIVE have one name.
+pub fn names_differ()
+    ensures { (o : Origin) (es : List Event) (x y : Member) (c d : ℕ) → IsOrigin o → member_of (table_of o es) c ≡ Some x
+        → member_of (table_of o es) d ≡ Some y → (c == d) ≡ false → is_named x ≡ true → is_named y ≡ true → x.name ≡ y.name → ⊥ }
 {}

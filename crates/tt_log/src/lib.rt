@@ -20,7 +20,7 @@ mod laws;
 pub mod report;
 pub mod script;
 
-pub use facts::{all_is_spelled, entries_are_of_senders, few_clients, first_in_queue_downloads, tables_are_in_range};
+pub use facts::{all_is_spelled, entries_are_of_senders, few_clients, first_in_queue_downloads, names_differ, tables_are_in_range};
 pub use laws::{
     admins_are_unseen, a_door_has_its_family, a_refused_admin_ends_alone, a_tick_is_a_frame, ended_stays,
     foundings_are_the_worlds, frame_and_top, journal_rises, malformed_ends_its_own,
