@@ -64,9 +64,9 @@ pub inside-append : (xs ys : List Step) → inside (xs ++ ys) ≡ inside xs ++ i
 inside-append [] ys = refl
 inside-append (x ∷ xs) ys = elim (is_inside x.what) as (λ b. cond b (x ∷ inside (xs ++ ys)) (inside (xs ++ ys))
     ≡ cond b (x ∷ inside xs) (inside xs) ++ inside ys) [
-  | true ↦ ap (λ (zs : List Step). x ∷ zs) (inside-append xs ys)
-  | false ↦ inside-append xs ys
-]
+      | true ↦ ap (λ (zs : List Step). x ∷ zs) (inside-append xs ys)
+      | false ↦ inside-append xs ys
+    ]
 
 pub like-then : (d e : Deed) (r q : Table → Deed) → Like d e → ((v w : Table) → bare v ≡ bare w → Like (r v) (q w)) → Like (d ▹ r) (e ▹ q)
 like-then d e r q a b =

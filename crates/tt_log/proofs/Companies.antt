@@ -1,7 +1,8 @@
 -- What reports tell of companies is in range, where the world is sound.
 use Rattle.std.proofs.Common.{◌≡◌, ℕ, suc, ◌+◌, ◌<◌, ◌≤◌, Bool, true, false, List, [], ◌∷◌, ◌++◌, Option, Some, None, refl, arith}
 use Rattle.std.proofs.Common.{lit<}
-use Rattle.std.specs.Prelude.{◌==◌, ◌^◌, codes, cond, decimal, filter, length, map, option_map, pos, negsuc, ℤ, neg_ℤ, ◌≤ℤ◌, FitsSigned, is_none, not}
+use Rattle.std.specs.Prelude.{◌==◌, ◌^◌, codes, cond, decimal, filter, length, map, option_map, pos, negsuc, ℤ, neg_ℤ, ◌≤ℤ◌, FitsSigned}
+use Rattle.std.specs.Prelude.{is_none, not}
 use Rattle.std.specs.List.{AllByRecursion}
 use Rattle.std.specs.Fmt.{signed_decimal}
 use Rattle.std.specs.Int.{w64, cast_unsigned}
@@ -93,7 +94,8 @@ pub filter-short : {A : Type 0} (p : A → Bool) (xs : List A) → length (filte
 filter-short p [] = omega arith
 filter-short p (x ∷ xs) = filter-step (p x) x (filter p xs) (length xs) (filter-short p xs)
 
-stats-sent : (w : WorldState) → IsSound w → (live : ℕ × Company) → IsLive live → IsSent (admin (ServerCompanyStats live.0 (signs_of w live.0)))
+stats-sent : (w : WorldState) → IsSound w → (live : ℕ × Company) → IsLive live
+    → IsSent (admin (ServerCompanyStats live.0 (signs_of w live.0)))
 stats-sent w sound live h =
     let few = sound.few in
     let own = filter-short (λ g. g.owner == live.0) w.signs in
@@ -107,12 +109,14 @@ blank = IsText-from_is_plain (codes " ") refl
 money-text : (z : ℤ) → neg_ℤ (pos most_money) ≤ℤ z → z ≤ℤ pos most_money → IsText (signed_decimal z) × (length (signed_decimal z) ≤ 21)
 money-text (pos n) low high =
     let l : n < 2 ^ 63 = omega (arith, ints) in
-    let k = length-decimal-le 20 n (omega arith) (omega (arith, l)) (omega (arith, l)) in (decimal-text n (omega (arith, l)), omega (arith, k))
+    let k = length-decimal-le 20 n (omega arith) (omega (arith, l)) (omega (arith, l)) in (decimal-text n (omega (arith, l)), omega
+        (arith, k))
 money-text (negsuc n) low high =
     let l : suc n < 2 ^ 63 = omega (arith, ints) in
-    let k = length-decimal-le 20 (suc n) (omega arith) (omega (arith, l)) (omega (arith, l)) in
-    (text-append (codes "-") (decimal (suc n)) (IsText-from_is_plain (codes "-") refl) (decimal-text (suc n) (omega (arith, l))),
-    omega (arith, k))
+    let k = length-decimal-le 20 (suc n) (omega arith) (omega (arith, l)) (omega (arith, l)) in (
+      text-append (codes "-") (decimal (suc n)) (IsText-from_is_plain (codes "-") refl) (decimal-text (suc n) (omega (arith, l))),
+      omega (arith, k),
+    )
 
 line-sent : (live : ℕ × Company) → IsLive live → IsSent (admin (ServerRcon 0 (company_line live)))
 line-sent live h =
@@ -145,7 +149,8 @@ line-sent live h =
 
 -- ---- the news of a frame
 
-of-sent : (message : ℕ × Company → AdminMsg) (number : ℕ) (w : WorldState) → ((live : ℕ × Company) → IsLive live → IsSent (admin (message live)))
+of-sent : (message : ℕ × Company → AdminMsg) (number : ℕ) (w : WorldState)
+    → ((live : ℕ × Company) → IsLive live → IsSent (admin (message live)))
     → number < 2 ^ 8 → IsSound w → AreSent (map admin (told_of message number w))
 of-sent message number w each low sound = by (company_of w number) (λ c is. sound.companies number c is)
   where
@@ -167,7 +172,8 @@ entry-sent RenamePresident Done digests new own w low few sound = of-sent (compa
 entry-sent code effect digests new own w low few sound = tt
 
 new-low : (w : WorldState) → IsSound w → new_number w.companies < 2 ^ 8
-new-low w h = let l = prefix_len-le-length (λ (p : Option Company). not (is_none p)) w.companies in let places = h.places in omega (arith, l, places)
+new-low w h = let l = prefix_len-le-length (λ (p : Option Company). not (is_none p)) w.companies in let places = h.places in omega
+    (arith, l, places)
 
 pub news-sent : (digests : List (ℕ × List ℕ)) (w : WorldState) (es : List Entry) → IsGood w → AreShort es
     → AllByRecursion (λ (e : Entry). e.company < 2 ^ 8) es → AreSent (map admin (news_in digests w es))
@@ -205,7 +211,8 @@ empty-text = is_text-from_IsText 31 [] (record { utf8 = IsUtf8-nil; shown = All-
 
 pub welcome-sent : (setup : Setup) (day : ℕ) → IsName setup.name → IsName setup.revision → setup.seed < 2 ^ 32 → day < 2 ^ 32
     → IsSent (admin (welcome setup day))
-welcome-sent setup day name revision seed low = admin-spelled (ServerWelcome setup.name setup.revision true [] setup.seed 0 day 256 256) refl
+welcome-sent setup day name revision seed low = admin-spelled
+    (ServerWelcome setup.name setup.revision true [] setup.seed 0 day 256 256) refl
     (name-text setup.name name, (name-text setup.revision revision, (tt, (empty-text, (seed, (lit< tt, (low, (lit< tt, (lit< tt, tt)))))))))
 
 pub date-sent : (day : ℕ) → day < 2 ^ 32 → IsSent (admin (ServerDate day))

@@ -158,8 +158,7 @@ pub taken-counts : (b : Bool) (o : Origin) (e : Event) (t : Table) → b ≡ tru
 taken-counts true o e t is =
     let a : Counts e t (by_event o e t).table = event-counts o e t in
     let v : Table = (charged e (by_event o e t).table).table in
-    let c = closed-counts (stops o e t || nat_le o.setup.cost v.cost || (v.frame == last_frame)) v in
-    (
+    let c = closed-counts (stops o e t || nat_le o.setup.cost v.cost || (v.frame == last_frame)) v in (
       c.0 ∙ a.openings,
       (taken-run o e t).frame ∙ a.frame,
       c.1 ∙ ap (λ (n : ℕ). n + event_cost e) a.cost,

@@ -12,7 +12,8 @@ use Rattle.tt_frame.proofs.TextLaws.{is_text-from_IsText, IsText-from_is_plain, 
 use Rattle.tt_edge.specs.declared.event.Event.{Event}
 use Rattle.tt_game.specs.declared.message.GameMsg.{GameMsg}
 use Rattle.tt_game.specs.declared.message.GameMsg.TheVariants.{ServerFull, ServerError, ServerGameInfo, ServerNeedGamePassword}
-use Rattle.tt_game.specs.declared.message.GameMsg.TheVariants.{ServerNeedCompanyPassword, ServerWelcome, ServerWait, ServerFrame, ServerJoin}
+use Rattle.tt_game.specs.declared.message.GameMsg.TheVariants.{ServerNeedCompanyPassword, ServerWelcome, ServerWait, ServerFrame}
+use Rattle.tt_game.specs.declared.message.GameMsg.TheVariants.{ServerJoin}
 use Rattle.tt_game.specs.declared.message.GameMsg.TheVariants.{ServerClientInfo, ServerMove, ServerChat, ServerErrorQuit, ServerQuit}
 use Rattle.tt_game.specs.declared.message.GameMsg.TheVariants.{ServerShutdown, ClientJoin}
 use Rattle.tt_admin.specs.declared.message.AdminMsg.{AdminMsg}
@@ -210,7 +211,8 @@ module _ (o : Origin) (e : Event) (ok : IsOrigin o) (bytes : IsEvent e) where
         waiting = f.waiting;
       }
   turned-fits (goes_to company digest) t m may by h f =
-      record { client = f.client; asked = f.asked; company = move-fits e m company digest bytes may.says; name = f.name; some = f.some; waiting = f.waiting }
+      record { client = f.client; asked = f.asked; company = move-fits e m company digest bytes may.says; name = f.name; some = f.some;
+          waiting = f.waiting }
   turned-fits (founds company) t m may by h f =
       let places = ok.start.sound.places in
       record { client = f.client; asked = f.asked; company = omega (arith, may, places); name = f.name; some = f.some; waiting = f.waiting }
@@ -225,8 +227,13 @@ module _ (o : Origin) (e : Event) (ok : IsOrigin o) (bytes : IsEvent e) where
   with-fits (is_let_in name asked) t m low h f =
       (game-spelled (ServerWelcome m.client o.setup.seed o.setup.id) (f.client, (ok.seed, (name-text o.setup.id ok.id, tt))), tt)
   with-fits gets_token t m low h f = (
-    game-spelled (ServerFrame t.frame t.top (fresh_token t.tokens)) (low-frame low, (before-next (top-low o t ok low h),
-        (low-byte (fresh-low t.tokens), tt))),
+    game-spelled (ServerFrame t.frame t.top (fresh_token t.tokens)) (
+      low-frame low,
+      (
+        before-next (top-low o t ok low h),
+        (low-byte (fresh-low t.tokens), tt),
+      ),
+    ),
     tt,
   )
   with-fits gets_frame t m low h f =
@@ -399,16 +406,20 @@ module _ (o : Origin) (e : Event) (ok : IsOrigin o) (bytes : IsEvent e) where
     stands = λ t m on. at-once t _ [] refl refl (λ low h. (same-table t _ refl refl refl refl refl h, tt));
     cuts = λ t place. at-once t _ [] refl refl (λ low h. (same-table t _ refl refl refl refl refl h, tt));
     ends_one = λ t m on. at-once t t _ refl refl (λ low h. (h, (tt, tt)));
-    parts = λ t m on. at-once t _ [] refl refl (λ low h. (record {
-      members = all-filter FitsMember (λ n. not (is_on m.conn n)) t.members h.members;
-      few = let l = filter-short (λ n. not (is_on m.conn n)) t.members in omega (arith, l, h.few);
-      own = h.own;
-      journal = h.journal;
-      near = h.near;
-    }, tt));
-    greets = λ t m on at. at-once t _ _ refl refl (λ low h. let f = found-fits o t m on h in
-        (put-fits t o (opened_token (fresh_token t.tokens) t m) _ (same-member m _ refl refl refl refl refl f) h,
-        with-fits gets_token t m low h f));
+    parts = λ t m on. at-once t _ [] refl refl (λ low h. (
+      record {
+        members = all-filter FitsMember (λ n. not (is_on m.conn n)) t.members h.members;
+        few = let l = filter-short (λ n. not (is_on m.conn n)) t.members in omega (arith, l, h.few);
+        own = h.own;
+        journal = h.journal;
+        near = h.near;
+      },
+      tt,
+    ));
+    greets = λ t m on at. at-once t _ _ refl refl (λ low h. let f = found-fits o t m on h in (
+      put-fits t o (opened_token (fresh_token t.tokens) t m) _ (same-member m _ refl refl refl refl refl f) h,
+      with-fits gets_token t m low h f,
+    ));
   }
 
   order-fits : (t : Table) (c : Command) → IsOrdered t c → FitsTable o t → FitsCommand c
@@ -421,13 +432,16 @@ module _ (o : Origin) (e : Event) (ok : IsOrigin o) (bytes : IsEvent e) where
   fitting-walk = record {
     base = fitting-base;
     locks = λ t m digest on allowed. at-once t _ [] refl refl (λ low h. (same-table t _ refl refl refl refl refl h, tt));
-    orders = λ t c is still. at-once t _ [] refl refl (λ low h. (record {
-      members = h.members;
-      few = h.few;
-      own = all-append FitsCommand t.own (c ∷ []) h.own (order-fits t c is h, tt);
-      journal = h.journal;
-      near = h.near;
-    }, tt));
+    orders = λ t c is still. at-once t _ [] refl refl (λ low h. (
+      record {
+        members = h.members;
+        few = h.few;
+        own = all-append FitsCommand t.own (c ∷ []) h.own (order-fits t c is h, tt);
+        journal = h.journal;
+        near = h.near;
+      },
+      tt,
+    ));
     asks_map = λ t m on at. of-asks o e Fitting fitting-base fitting-moves t m on at;
     enters_game = λ t m on at. of-enters o e Fitting fitting-base fitting-moves t m on at;
     goes = λ t m farewell on is. of-leaves o e Fitting fitting-base fitting-moves t m farewell on is;
@@ -452,14 +466,17 @@ module _ (o : Origin) (e : Event) (ok : IsOrigin o) (bytes : IsEvent e) where
       record {
         frame = omega arith;
         clients = omega arith;
-        fits = λ low few h. (record {
-          members = all-append FitsMember t.members (new ∷ []) h.members
-              (record { client = few; asked = lit< tt; company = lit< tt; name = question; some = omega arith; waiting = tt }, tt);
-          few = omega (arith, room, most, more);
-          own = h.own;
-          journal = h.journal;
-          near = h.near;
-        }, tt);
+        fits = λ low few h. (
+          record {
+            members = all-append FitsMember t.members (new ∷ []) h.members
+                (record { client = few; asked = lit< tt; company = lit< tt; name = question; some = omega arith; waiting = tt }, tt);
+            few = omega (arith, room, most, more);
+            own = h.own;
+            journal = h.journal;
+            near = h.near;
+          },
+          tt,
+        );
       }
 
   side-fits : (full : Bool) (t : Table) → Fitting t (admin_arrives full (counted_aside t)).told (admin_arrives full (counted_aside t)).table
@@ -516,24 +533,30 @@ module _ (o : Origin) (e : Event) (ok : IsOrigin o) (bytes : IsEvent e) where
   running-fits false t = record {
     frame = omega arith;
     clients = omega arith;
-    fits = λ low few h. (record {
-      members = h.members;
-      few = h.few;
-      own = h.own;
-      journal = h.journal;
-      near = let l = h.near in omega (arith, l);
-    }, tt);
+    fits = λ low few h. (
+      record {
+        members = h.members;
+        few = h.few;
+        own = h.own;
+        journal = h.journal;
+        near = let l = h.near in omega (arith, l);
+      },
+      tt,
+    );
   }
 
   fitting-ticks : Ticks o e Fitting
   fitting-ticks = record {
-    stamping = λ t. at-once t _ [] refl refl (λ low h. (record {
-      members = all-map FitsMember FitsMember drawn t.members drawn-fits h.members;
-      few = let l = length-map t.members drawn in omega (arith, l, h.few);
-      own = tt;
-      journal = all-append FitsEntry t.journal (stamps t) h.journal (stamps-fit t low h);
-      near = h.near;
-    }, tt));
+    stamping = λ t. at-once t _ [] refl refl (λ low h. (
+      record {
+        members = all-map FitsMember FitsMember drawn t.members drawn-fits h.members;
+        few = let l = length-map t.members drawn in omega (arith, l, h.few);
+        own = tt;
+        journal = all-append FitsEntry t.journal (stamps t) h.journal (stamps-fit t low h);
+        near = h.near;
+      },
+      tt,
+    ));
     running = λ t b is. running-fits b t;
   }
 

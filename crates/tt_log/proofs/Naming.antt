@@ -1,5 +1,6 @@
 -- Named members have different names: a name that is given is one that no other named member has.
-use Rattle.std.proofs.Common.{◌≡◌, ◌⊎◌, inl, inr, ℕ, zero, suc, ◌+◌, ◌≤◌, ◌<◌, Bool, true, false, List, [], ◌∷◌, ◌++◌, Some, refl, ap, sym, ◌∙◌}
+use Rattle.std.proofs.Common.{◌≡◌, ◌⊎◌, inl, inr, ℕ, zero, suc, ◌+◌, ◌≤◌, ◌<◌, Bool, true, false, List, [], ◌∷◌, ◌++◌, Some, refl, ap}
+use Rattle.std.proofs.Common.{sym, ◌∙◌}
 use Rattle.std.proofs.Common.{subst, arith, length}
 use Rattle.std.specs.Prelude.{◌==◌, ◌&&◌, ◌||◌, ◌^◌, bytes_eq, codes, cond, decimal, filter, map, nat_le, nat_lt, not}
 use Rattle.std.specs.List.{AllByRecursion, list_any}
@@ -70,7 +71,8 @@ last-of true true c is = is
 last-of true false c is = absurd cc
 last-of false b c is = absurd cc
 
-same-number : (conn : ℕ) (name : List ℕ) (i j : ℕ) (m : Member) → i < 2 ^ 64 → j < 2 ^ 64 → has conn name i m ≡ true → has conn name j m ≡ true
+same-number : (conn : ℕ) (name : List ℕ) (i j : ℕ) (m : Member) → i < 2 ^ 64 → j < 2 ^ 64 → has conn name i m ≡ true
+    → has conn name j m ≡ true
     → i ≡ j
 same-number conn name i j m li lj a b =
     let one : m.name ≡ numbered name i = (bytes_eq-Decides m.name (numbered name i)).0 (last-of (is_named m) (not (is_on conn m)) _ a) in
@@ -88,7 +90,8 @@ none-more conn name i m (j ∷ js) li here other small = by (has conn name j m) 
   where
     by : (b : Bool) → has conn name j m ≡ b → filter (λ k. not (has conn name k m)) js ≡ js
         → cond (not b) (j ∷ filter (λ k. not (has conn name k m)) js) (filter (λ k. not (has conn name k m)) js) ≡ j ∷ js
-    by true is same = absurd (let e : (j == i) ≡ true = eq-eqb j i (same-number conn name j i m small.0 li is here) in let d = other.0 in cc)
+    by true is same = absurd (let e : (j == i) ≡ true = eq-eqb j i
+        (same-number conn name j i m small.0 li is here) in let d = other.0 in cc)
     by false is same = ap (λ (xs : List ℕ). j ∷ xs) same
 
 few-of : (conn : ℕ) (name : List ℕ) (m : Member) (is : List ℕ) → Distinct is → AreSmall is
@@ -99,7 +102,8 @@ few-of conn name m (i ∷ is) d small = by (has conn name i m) refl (few-of conn
   where
     by : (b : Bool) → has conn name i m ≡ b → length is ≤ suc (length (filter (λ j. not (has conn name j m)) is))
         → (has conn name i m ≡ true → filter (λ j. not (has conn name j m)) is ≡ is)
-        → length (i ∷ is) ≤ suc (length (cond (not b) (i ∷ filter (λ j. not (has conn name j m)) is) (filter (λ j. not (has conn name j m)) is)))
+        → length (i ∷ is) ≤ suc (length (cond (not b) (i ∷ filter (λ j. not (has conn name j m)) is) (filter (λ j. not
+            (has conn name j m)) is)))
     by true here few same = let e = ap (λ (xs : List ℕ). length xs) (same here) in omega (arith, e)
     by false here few same = omega (arith, few)
 
@@ -242,13 +246,16 @@ asked-name : (o : Origin) (e : Event) (t : Table) (m : Member) (name : List ℕ)
 asked-name o e t m name asked n on same (inl before) h = kept-name t m n on (same ∙ before.0)
     (λ named. lt-ltb 0 (rank m.status) (let l = before.2 in omega (arith, l))) h
 asked-name o e t m name asked n on same (inr (at, (revision, grf, wanted, is, allowed))) h =
-    λ y there other named others equal. untaken m.conn (given_name t m.conn wanted) y t.members there (given-free t m.conn wanted h.few) other others
+    λ y there other named others equal. untaken m.conn (given_name t m.conn wanted) y t.members there
+        (given-free t m.conn wanted h.few) other others
     (sym is ∙ sym same ∙ equal)
 
 turned-name : (c : Change) (o : Origin) (e : Event) (t : Table) (m : Member) → On t m → May o e t m c → Named t
     → OwnName t m (turned c t m)
-turned-name (wants_password true name asked) o e t m on may h = asked-name o e t m name asked (turned (wants_password true name asked) t m) on refl may h
-turned-name (wants_password false name asked) o e t m on may h = asked-name o e t m name asked (turned (wants_password false name asked) t m) on refl may h
+turned-name (wants_password true name asked) o e t m on may h = asked-name o e t m name asked (turned
+    (wants_password true name asked) t m) on refl may h
+turned-name (wants_password false name asked) o e t m on may h = asked-name o e t m name asked (turned
+    (wants_password false name asked) t m) on refl may h
 turned-name (is_let_in name asked) o e t m on may h = asked-name o e t m name asked (turned (is_let_in name asked) t m) on refl may h
 turned-name gets_token o e t m on may h = kept-name t m (turned gets_token t m) on refl (λ named. named) h
 turned-name gets_frame o e t m on may h = kept-name t m (turned gets_frame t m) on refl (λ named. named) h
@@ -258,9 +265,11 @@ turned-name (answers frame token) o e t m on may h = by (token == 0)
     by true = kept-name t m (record m { acked = frame }) on refl (λ named. named) h
     by false = kept-name t m (record (closed_token m) { acked = frame }) on refl (λ named. named) h
 turned-name plays o e t m on may h = kept-name t m (turned plays t m) on refl (λ named. low-named m 8 (omega arith) may) h
-turned-name (commands company code number to text command) o e t m on may h = kept-name t m (turned (commands company code number to text command) t m) on refl (λ named. named) h
+turned-name (commands company code number to text command) o e t m on may h = kept-name t m (turned
+    (commands company code number to text command) t m) on refl (λ named. named) h
 turned-name (has_name name) o e t m on may h =
-    λ y there other named others equal. untaken m.conn (given_name t m.conn name) y t.members there (given-free t m.conn name h.few) other others equal
+    λ y there other named others equal. untaken m.conn (given_name t m.conn name) y t.members there
+        (given-free t m.conn name h.few) other others equal
 turned-name (goes_to company digest) o e t m on may h = kept-name t m (turned (goes_to company digest) t m) on refl (λ named. named) h
 turned-name (founds company) o e t m on may h = kept-name t m (turned (founds company) t m) on refl (λ named. named) h
 turned-name (gets_pieces left) o e t m on may h = kept-name t m (turned (gets_pieces left) t m) on refl (λ named. named) h
@@ -274,7 +283,8 @@ moved-name loads t m on may h = kept-name t m (moved loads t m) on refl (λ name
 same-names : (t u : Table) → u.members ≡ t.members → Named t → Named u
 same-names t u members h = record {
   few = rw members h.few;
-  differ = λ x y a b. h.differ x y (subst (λ (ms : List Member). Among x ms) members a) (subst (λ (ms : List Member). Among y ms) members b);
+  differ = λ x y a b. h.differ x y (subst (λ (ms : List Member). Among x ms) members a) (subst (λ
+      (ms : List Member). Among y ms) members b);
 }
 
 name-base : (o : Origin) (e : Event) → Base o e KeepsNames
@@ -356,7 +366,8 @@ name-ticks o e = record {
     differ = λ x y a b apart p q same.
         let k = among-drawn x t.members a in let l = among-drawn y t.members b in
         let at = k.2 in let too = l.2 in
-        h.differ k.0 l.0 k.1 l.1 (ap (λ (z : Member). z.conn == l.0.conn) (sym at) ∙ ap (λ (z : Member). x.conn == z.conn) (sym too) ∙ apart)
+        h.differ k.0 l.0 k.1 l.1 (ap (λ (z : Member). z.conn == l.0.conn) (sym at) ∙ ap (λ (z : Member). x.conn == z.conn)
+            (sym too) ∙ apart)
         (ap (λ (z : Member). is_named z) (sym at) ∙ p) (ap (λ (z : Member). is_named z) (sym too) ∙ q)
         (ap (λ (z : Member). z.name) (sym at) ∙ same ∙ ap (λ (z : Member). z.name) too);
   };
@@ -373,7 +384,8 @@ step-names : (o : Origin) (e : Event) (t : Table) → IsOrigin o → Named t →
 step-names o e t ok h = of-deed o e KeepsNames (name-walk o e) (name-ticks o e) (name-doors o e ok) (name-closing o e) t h
 
 are-named : (o : Origin) (es : List Event) → IsOrigin o → Named (table_of o es)
-are-named o es ok = from-all o Named (λ e t h. step-names o e t ok h) es (first o) (record { few = omega arith; differ = λ x y a b. absurd a })
+are-named o es ok = from-all o Named (λ e t h. step-names o e t ok h) es (first o)
+    (record { few = omega arith; differ = λ x y a b. absurd a })
 
 pub names-differ : (o : Origin) (es : List Event) (x y : Member) (c d : ℕ) → IsOrigin o → member_of (table_of o es) c ≡ Some x
     → member_of (table_of o es) d ≡ Some y → (c == d) ≡ false → is_named x ≡ true → is_named y ≡ true → x.name ≡ y.name → ⊥
@@ -381,5 +393,6 @@ names-differ o es x y c d ok a b apart p q same =
     let t : Table = table_of o es in
     let at : x.conn ≡ c = found-on c t.members x a in
     let too : y.conn ≡ d = found-on d t.members y b in
-    (are-named o es ok).differ x y (on-found t c x a) (on-found t d y b) (ap (λ (k : ℕ). k == y.conn) at ∙ ap (λ (k : ℕ). c == k) too ∙ apart)
+    (are-named o es ok).differ x y (on-found t c x a) (on-found t d y b) (ap (λ (k : ℕ). k == y.conn) at ∙ ap (λ
+        (k : ℕ). c == k) too ∙ apart)
     p q same

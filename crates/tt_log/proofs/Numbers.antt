@@ -40,13 +40,13 @@ not-over : (x y : Bool) → not x && y ≡ true → x ≡ false
 not-over true y e = absurd cc
 not-over false y e = refl
 
-
 spends : (b : Bool) (o : Origin) (t : Table) → (b ≡ false → t.cost < o.setup.cost) → (where_ b shut_down t).table.over ≡ false
     → (where_ b shut_down t).table.cost < o.setup.cost
 spends true o t less going = absurd cc
 spends false o t less going = less refl
 
-paid-by : (b : Bool) (o : Origin) (e : Event) (t : Table) → IsOrigin o → takes t e ≡ b → IsPaid o t → IsPaid o (where_ b (taken o e) t).table
+paid-by : (b : Bool) (o : Origin) (e : Event) (t : Table) → IsOrigin o → takes t e ≡ b → IsPaid o t
+    → IsPaid o (where_ b (taken o e) t).table
 paid-by true o e t ok is h =
     let v : Table = (charged e (by_event o e t).table).table in
     let n = taken-counts true o e t refl in
@@ -69,7 +69,8 @@ pub step-paid : (o : Origin) (e : Event) (t : Table) → IsOrigin o → IsPaid o
 step-paid o e t ok h = paid-by (takes t e) o e t ok refl h
 
 pub first-paid : (o : Origin) → IsOrigin o → IsPaid o (first o)
-first-paid o ok = record { few = omega arith; paid = omega arith; going = λ going. let l : 64 ≤ o.setup.cost = ok.setup.cost.0 in omega (arith, l) }
+first-paid o ok = record { few = omega arith; paid = omega arith; going = λ going. let l : 64 ≤ o.setup.cost = ok.setup.cost.0 in omega
+    (arith, l) }
 
 pub is-paid : (o : Origin) (es : List Event) → IsOrigin o → IsPaid o (table_of o es)
 is-paid o es ok = from-all o (IsPaid o) (λ e t h. step-paid o e t ok h) es (first o) (first-paid o ok)

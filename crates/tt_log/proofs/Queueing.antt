@@ -1,5 +1,6 @@
 -- The first of the queue downloads, and the others wait.
-use Rattle.std.proofs.Common.{◌≡◌, ◌⊎◌, inl, inr, ℕ, suc, ◌+◌, ◌≤◌, Bool, true, false, List, [], ◌∷◌, ◌++◌, Option, Some, None, refl, ap, sym}
+use Rattle.std.proofs.Common.{◌≡◌, ◌⊎◌, inl, inr, ℕ, suc, ◌+◌, ◌≤◌, Bool, true, false, List, [], ◌∷◌, ◌++◌, Option, Some, None, refl, ap}
+use Rattle.std.proofs.Common.{sym}
 use Rattle.std.proofs.Common.{◌∙◌, subst, arith}
 use Rattle.std.specs.Prelude.{◌==◌, ◌||◌, cond, drop, find, is_some, length, map, nat_le, nat_lt, not, take}
 use Rattle.std.specs.List.{AllByRecursion, list_any}
@@ -71,7 +72,8 @@ other-way c d is = ne_eqb c d (λ same. let e : (d == c) ≡ true = eq-eqb d c (
 same-way : (c d : ℕ) → (c == d) ≡ true → (d == c) ≡ true
 same-way c d is = eq-eqb d c (sym (eqb-true c d is))
 
-put-there : (n : Member) (ms : List Member) (d : ℕ) → list_any (λ x. x == d) (conns ms) ≡ true → list_any (λ x. x == d) (conns (put n ms)) ≡ true
+put-there : (n : Member) (ms : List Member) (d : ℕ) → list_any (λ x. x == d) (conns ms) ≡ true
+    → list_any (λ x. x == d) (conns (put n ms)) ≡ true
 put-there n ms d is = subst (λ (xs : List ℕ). list_any (λ x. x == d) xs ≡ true) (sym (put-conns n ms)) is
 
 put-seat : (P : Member → Type 0) (n : Member) (ms : List Member) (d : ℕ) → ((n.conn == d) ≡ true → P n) → Seat P ms d → Seat P (put n ms) d
@@ -105,13 +107,15 @@ there-found : (d : ℕ) (ms : List Member) → list_any (λ x. x == d) (conns ms
 there-found d ms is = some-there (find (is_on d) ms) (live-conns d ms ∙ is)
 
 -- a member that changes and keeps its place
-shape-turn : (n m : Member) (ms : List Member) (q : List ℕ) → Among m ms → n.conn ≡ m.conn → (Downloads m → Downloads n) → (Waits m → Waits n)
+shape-turn : (n m : Member) (ms : List Member) (q : List ℕ) → Among m ms → n.conn ≡ m.conn → (Downloads m → Downloads n)
+    → (Waits m → Waits n)
     → Shape ms q → Shape (put n ms) q
 shape-turn n m ms [] on same down wait s = tt
 shape-turn n m ms (d ∷ ds) on same down wait s = (
   put-seat Downloads n ms d (λ at. down (among-all (λ x. (x.conn == d) ≡ true → Downloads x) m ms on s.0.each
       (ap (λ (y : ℕ). y == d) (sym same) ∙ at))) s.0,
-  all-so (Seat Waits ms) (Seat Waits (put n ms)) ds (λ x a. put-seat Waits n ms x (λ at. wait (among-all (λ y. (y.conn == x) ≡ true → Waits y)
+  all-so (Seat Waits ms) (Seat Waits (put n ms)) ds (λ x a. put-seat Waits n ms x (λ at. wait (among-all (λ y.
+      (y.conn == x) ≡ true → Waits y)
       m ms on a.each (ap (λ (y : ℕ). y == x) (sym same) ∙ at))) a) s.1,
 )
 
@@ -120,7 +124,8 @@ apart-by : (b : Bool) (d c : ℕ) → (d == c) ≡ b → (b ≡ true → ⊥) �
 apart-by true d c is never = absurd (never refl)
 apart-by false d c is never = is
 
-none-waiting : (m : Member) (ms : List Member) (ds : List ℕ) → Among m ms → (Waits m → ⊥) → AllByRecursion (Seat Waits ms) ds → NotIn m.conn ds
+none-waiting : (m : Member) (ms : List Member) (ds : List ℕ) → Among m ms → (Waits m → ⊥) → AllByRecursion (Seat Waits ms) ds
+    → NotIn m.conn ds
 none-waiting m ms [] on never a = tt
 none-waiting m ms (d ∷ ds) on never a = (
   apart-by (d == m.conn) d m.conn refl (λ at. never (among-all (λ x. (x.conn == d) ≡ true → Waits x) m ms on a.0.each
@@ -199,6 +204,7 @@ removed-waits c ms (d ∷ ds) once a = by (d == c) refl (removed-waits c ms ds o
     rest : (xs : List ℕ) → NotIn c xs → AllByRecursion (λ x. (x == c) ≡ false → Seat Waits ms x) xs → AllByRecursion (Seat Waits ms) xs
     rest [] n s = tt
     rest (x ∷ xs) n s = (s.0 n.0, rest xs n.1 s.1)
+
     by : (b : Bool) → (d == c) ≡ b → AllByRecursion (Seat Waits ms) (removed c ds)
         → AllByRecursion (Seat Waits ms) (cond b ds (d ∷ removed c ds))
     by true is later = rest ds (subst (λ (x : ℕ). NotIn x ds) (eqb-true d c is) once.0) a.1
@@ -261,8 +267,10 @@ left-by false c d ds t is s once =
   where
     one : suc (place_in c ds) ≡ 1 + place_in c ds
     one = omega arith
+
     behind : (k : ℕ) → place_in c ds ≡ k
-        → Queued (moved_up (suc k) (drop (suc k + 1) (d ∷ ds)) (record t { queue = take (suc k) (d ∷ ds) ++ drop (suc k + 1) (d ∷ ds) })).table
+        → Queued (moved_up (suc k) (drop (suc k + 1) (d ∷ ds)) (record t { queue = take (suc k) (d ∷ ds) ++ drop (suc k + 1)
+            (d ∷ ds) })).table
     behind k place =
         let cut : take k ds ++ drop (k + 1) ds ≡ removed c ds = subst (λ (j : ℕ). take j ds ++ drop (j + 1) ds ≡ removed c ds) place
         (removed-is c ds) in
@@ -315,10 +323,13 @@ asks-shape [] m t on none s once =
     let k = among-found m t.members on in
     let P : Option Member → Type 0 = λ x. Queued (where_some x begins_where v).table in
     subst P (sym (find-put-here n k.0 t.members k.1)) (record {
-      shape = (record {
-        each = put-own Downloads d (put n t.members) (omega arith, omega arith);
-        there = put-there d (put n t.members) m.conn (put-there n t.members m.conn (among-there m t.members on));
-      }, tt);
+      shape = (
+        record {
+          each = put-own Downloads d (put n t.members) (omega arith, omega arith);
+          there = put-there d (put n t.members) m.conn (put-there n t.members m.conn (among-there m t.members on));
+        },
+        tt,
+      );
       once = (tt, tt);
     })
 asks-shape (d ∷ ds) m t on none s once =
@@ -326,10 +337,13 @@ asks-shape (d ∷ ds) m t on none s once =
     record {
       shape = (
         put-seat Downloads n t.members d (λ at. absurd (let e : (n.conn == d) ≡ false = other-way n.conn d none.0 in cc)) s.0,
-        all-append (Seat Waits (put n t.members)) ds (m.conn ∷ []) (kept n ds none.1 s.1) (record {
-          each = put-own Waits n t.members refl;
-          there = put-there n t.members m.conn (among-there m t.members on);
-        }, tt),
+        all-append (Seat Waits (put n t.members)) ds (m.conn ∷ []) (kept n ds none.1 s.1) (
+          record {
+            each = put-own Waits n t.members refl;
+            there = put-there n t.members m.conn (among-there m t.members on);
+          },
+          tt,
+        ),
       );
       once = once-last m.conn (d ∷ ds) none once;
     }
@@ -350,7 +364,8 @@ enters-shape m t h =
     let u : Table = with_member n t in
     let p : Member = opened_token (fresh_token t.tokens) u n in
     let w : Table = with_member p (record u { tokens = next_random t.tokens }) in
-    leaves-queue-shape m.conn w (but-put p (put n t.members) t.queue (but-put n t.members t.queue (but-of m.conn t.members t.queue h.shape)))
+    leaves-queue-shape m.conn w (but-put p (put n t.members) t.queue (but-put n t.members t.queue
+        (but-of m.conn t.members t.queue h.shape)))
     h.once
 
 farewell-stays : (b : Bool) (f : Farewell) (m : Member) (u : Table) → Queued (leaves_queue m.conn u).table
@@ -468,7 +483,8 @@ any-front d (m ∷ ms) new is = by (m.conn == d) is (λ found. any-front d ms ne
     by true found next = refl
     by false found next = next found
 
-come-seat : (P : Member → Type 0) (n : ℕ) (ms : List Member) (new : Member) (d : ℕ) → AllByRecursion (λ c. c ≤ n) (conns ms) → new.conn ≡ n + 1
+come-seat : (P : Member → Type 0) (n : ℕ) (ms : List Member) (new : Member) (d : ℕ) → AllByRecursion (λ c. c ≤ n) (conns ms)
+    → new.conn ≡ n + 1
     → Seat P ms d → Seat P (ms ++ new ∷ []) d
 come-seat P n ms new d under is s =
     let low : d ≤ n = any-low n d (conns ms) under s.there in
@@ -549,15 +565,19 @@ rank-down Active low high = absurd (omega (arith, high))
 seat-member : (P : Member → Type 0) (test : Member → Bool) (t : Table) (d : ℕ) → ((m : Member) → P m → test m ≡ true) → Seat P t.members d
     → IsMember test t d
 seat-member P test t d passes s =
-    let k = there-found d t.members s.there in
-    (k.0, k.1, passes k.0 (among-all (λ m. (m.conn == d) ≡ true → P m) k.0 t.members (on-found t d k.0 k.1) s.each
-    (eq-eqb k.0.conn d (found-on d t.members k.0 k.1))))
+    let k = there-found d t.members s.there in (
+      k.0,
+      k.1,
+      passes k.0 (among-all (λ m. (m.conn == d) ≡ true → P m) k.0 t.members (on-found t d k.0 k.1) s.each
+          (eq-eqb k.0.conn d (found-on d t.members k.0 k.1))),
+    )
 
 shape-queue : (t : Table) (q : List ℕ) → Shape t.members q → IsQueue t q
 shape-queue t [] s = tt
 shape-queue t (d ∷ ds) s = (
   seat-member Downloads is_downloading t d (λ m p. rank-down m.status p.0 p.1) s.0,
-  all-so (Seat Waits t.members) (IsMember (is_in MapWait) t) ds (λ x a. seat-member Waits (is_in MapWait) t x (λ m p. eq-eqb (rank m.status) 5 p)
+  all-so (Seat Waits t.members) (IsMember (is_in MapWait) t) ds (λ x a. seat-member Waits (is_in MapWait) t x (λ m p. eq-eqb
+      (rank m.status) 5 p)
       a) s.1,
 )
 

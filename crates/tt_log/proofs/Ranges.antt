@@ -92,8 +92,19 @@ low-byte l = omega (arith, l)
 -- ---- what is filled in
 
 pub command-spelled : (e : Entry) → FitsEntry e → IsSent (game (told_command e))
-command-spelled e h = game-spelled (told_command e) (h.company, (code-small e.command.code, (h.command.number, (h.command.to,
-    (h.command.text, (h.frame, (h.sender, tt)))))))
+command-spelled e h = game-spelled (told_command e) (
+  h.company,
+  (
+    code-small e.command.code,
+    (
+      h.command.number,
+      (
+        h.command.to,
+        (h.command.text, (h.frame, (h.sender, tt))),
+      ),
+    ),
+  ),
+)
 
 commands-spelled : (es : List Entry) → AllByRecursion FitsEntry es → AreSent (map (λ e. game (told_command e)) es)
 commands-spelled [] a = tt
@@ -126,7 +137,8 @@ low-size : {n : ℕ} → n ≤ 40280 → n < 2 ^ 32
 low-size l = omega (arith, l)
 
 pub short-entries : (es : List Entry) → AllByRecursion FitsEntry es → AreShort es
-short-entries es a = all-so FitsEntry (λ (e : Entry). IsShort e.command.text) es (λ (e : Entry) h. short-text e.command.text h.command.text) a
+short-entries es a = all-so FitsEntry (λ (e : Entry). IsShort e.command.text) es (λ
+    (e : Entry) h. short-text e.command.text h.command.text) a
 
 -- entries of a frame, each with its company
 frame-companies-by : (b : Bool) (e : Entry) (rest : List Entry) → e.company < 2 ^ 8 → AllByRecursion (λ (x : Entry). x.company < 2 ^ 8) rest

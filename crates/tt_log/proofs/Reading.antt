@@ -10,7 +10,8 @@ use Rattle.tt_frame.specs.Unread.{whole}
 use Rattle.tt_frame.proofs.FamilyLaws.{Lawful, kind_is}
 use Rattle.tt_frame.proofs.RowLaws.{row_takes}
 use Rattle.tt_game.specs.declared.message.GameMsg.{GameMsg}
-use Rattle.tt_game.specs.declared.message.GameMsg.TheVariants.{ClientJoin, ClientCommand, ClientChat, ClientSetName, ClientMove, ClientError}
+use Rattle.tt_game.specs.declared.message.GameMsg.TheVariants.{ClientJoin, ClientCommand, ClientChat, ClientSetName, ClientMove}
+use Rattle.tt_game.specs.declared.message.GameMsg.TheVariants.{ClientError}
 use Rattle.tt_game.specs.Apart.{game_family, kind_of}
 use Rattle.tt_game.specs.Messages.{messages}
 use Rattle.tt_game.proofs.MessageLaws.{game_lawful}

@@ -36,26 +36,51 @@ small-packet kind body l = omega (arith, l)
 -- a message whose fields are in their ranges
 pub game-spelled : (m : GameMsg) → PartedFits game_rows.messages (games.apart m) → IsSent (game m)
 game-spelled m fits =
-    let is : IsSpelled (game m) = family_spells GameMsg games.game_family game_lawful m fits in
-    (is, small-packet (games.kind_of m) (games.body_bytes m) (body_size GameMsg 1457 game_rows.messages m (games.kind_of m)
-    (games.body_bytes m) refl is))
+    let is : IsSpelled (game m) = family_spells GameMsg games.game_family game_lawful m fits in (
+      is,
+      small-packet (games.kind_of m) (games.body_bytes m) (body_size GameMsg 1457 game_rows.messages m (games.kind_of m)
+          (games.body_bytes m) refl is),
+    )
 
 -- and one of the admin family, but for the names of commands
 pub admin-spelled : (m : AdminMsg) → is_one_of (122 ∷ []) (admins.kind_of m) ≡ false → PartedFits admin_rows.messages (admins.apart m)
     → IsSent (admin m)
 admin-spelled m other fits =
-    let is : IsSpelled (admin m) = family_spells AdminMsg admins.admin_family admin_lawful m fits in
-    (is, small-packet (admins.kind_of m) (admins.body_bytes m) (body_size_but AdminMsg (122 ∷ []) 1457 admin_rows.messages m
-    (admins.kind_of m) (admins.body_bytes m) refl other is))
+    let is : IsSpelled (admin m) = family_spells AdminMsg admins.admin_family admin_lawful m fits in (
+      is,
+      small-packet (admins.kind_of m) (admins.body_bytes m) (body_size_but AdminMsg (122 ∷ []) 1457 admin_rows.messages m
+          (admins.kind_of m) (admins.body_bytes m) refl other is),
+    )
 
 -- ---- the two lists that admins are told
 
 pub protocol-sent : IsSent (admin (ServerProtocol admin_protocol (types_from 0 allowed_bits)))
-protocol-sent = admin-spelled (ServerProtocol admin_protocol (types_from 0 allowed_bits)) refl (lit< tt, (omega arith, (
-  (lit< tt, (lit< tt, tt)),
-  ((lit< tt, (lit< tt, tt)), ((lit< tt, (lit< tt, tt)), ((lit< tt, (lit< tt, tt)), ((lit< tt, (lit< tt, tt)), ((lit< tt, (lit< tt, tt)),
-      ((lit< tt, (lit< tt, tt)), ((lit< tt, (lit< tt, tt)), ((lit< tt, (lit< tt, tt)), ((lit< tt, (lit< tt, tt)), tt))))))))),
-), tt))
+protocol-sent = admin-spelled (ServerProtocol admin_protocol (types_from 0 allowed_bits)) refl (
+  lit< tt,
+  (
+    omega arith,
+    (
+      (lit< tt, (lit< tt, tt)),
+      (
+        (lit< tt, (lit< tt, tt)),
+        (
+          (lit< tt, (lit< tt, tt)),
+          (
+            (lit< tt, (lit< tt, tt)),
+            (
+              (lit< tt, (lit< tt, tt)),
+              (
+                (lit< tt, (lit< tt, tt)),
+                ((lit< tt, (lit< tt, tt)), ((lit< tt, (lit< tt, tt)), ((lit< tt, (lit< tt, tt)), ((lit< tt, (lit< tt, tt)), tt)))),
+              ),
+            ),
+          ),
+        ),
+      ),
+    ),
+    tt,
+  ),
+)
 
 -- a word of letters is a text
 plain : (bytes : List ℕ) → is_plain bytes ≡ true → length bytes ≤ 31 → is_text 31 bytes ≡ true
@@ -64,10 +89,43 @@ plain bytes is few = is_text-from_IsText 31 bytes (IsText-from_is_plain bytes is
 pub names-sent : IsSent (admin (ServerCmdNames command_names))
 names-sent =
     let is : IsSpelled (admin (ServerCmdNames command_names)) = family_spells AdminMsg admins.admin_family admin_lawful
-    (ServerCmdNames command_names) (omega arith, (
-      (lit< tt, (plain _ refl (omega arith), tt)),
-      ((lit< tt, (plain _ refl (omega arith), tt)), ((lit< tt, (plain _ refl (omega arith), tt)), ((lit< tt, (plain _ refl (omega arith),
-          tt)), ((lit< tt, (plain _ refl (omega arith), tt)), ((lit< tt, (plain _ refl (omega arith), tt)), ((lit< tt, (plain _ refl
-          (omega arith), tt)), ((lit< tt, (plain _ refl (omega arith), tt)), ((lit< tt, (plain _ refl (omega arith), tt)), tt)))))))),
-    ), tt) in
+    (ServerCmdNames command_names) (
+      omega arith,
+      (
+        (lit< tt, (plain _ refl (omega arith), tt)),
+        (
+          (lit< tt, (plain _ refl (omega arith), tt)),
+          (
+            (lit< tt, (plain _ refl (omega arith), tt)),
+            (
+              (
+                lit< tt,
+                (
+                  plain _ refl (omega arith),
+                  tt,
+                ),
+              ),
+              (
+                (lit< tt, (plain _ refl (omega arith), tt)),
+                (
+                  (lit< tt, (plain _ refl (omega arith), tt)),
+                  (
+                    (
+                      lit< tt,
+                      (
+                        plain _ refl
+                            (omega arith),
+                        tt,
+                      ),
+                    ),
+                    ((lit< tt, (plain _ refl (omega arith), tt)), ((lit< tt, (plain _ refl (omega arith), tt)), tt)),
+                  ),
+                ),
+              ),
+            ),
+          ),
+        ),
+      ),
+      tt,
+    ) in
     (is, small-packet 122 (admins.body_bytes (ServerCmdNames command_names)) (omega arith))

@@ -502,14 +502,17 @@ named-by None c said o t kind body company code number to text msg is r h =
     -- an event that is none of this connection's
     other : Event
     other = Packet (c + 1) kind body
+
     quiet : IsQuiet other c
     quiet m company code number to text at (k, b, is, said) = apart m at (ap conn_in is)
       where
         conn_in : Event → ℕ
         conn_in (Packet conn k b) = conn
         conn_in e = 0
+
         apart : (m : Member) → m.conn ≡ c → c + 1 ≡ m.conn → ⊥
         apart m at is = omega (arith, at, is)
+
     by : (x : Option Admin) → admin_of t c ≡ x → Kept c said (where_some x (admin_hears o (read_admin kind body)) t).table
     by None at = h
     by (Some a) at = (of-admin-hears o other (KeepsStamps c said) (stamp-walk c said o other quiet) (read_admin kind body) t a

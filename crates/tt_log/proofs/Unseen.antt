@@ -333,9 +333,9 @@ of-game-append : (xs ys : List Said) → of_game (xs ++ ys) ≡ of_game xs ++ of
 of-game-append [] ys = refl
 of-game-append (x ∷ xs) ys = elim (is_of_game x) as (λ b. cond b (x ∷ of_game (xs ++ ys)) (of_game (xs ++ ys))
     ≡ cond b (x ∷ of_game xs) (of_game xs) ++ of_game ys) [
-  | true ↦ ap (λ (zs : List Said). x ∷ zs) (of-game-append xs ys)
-  | false ↦ of-game-append xs ys
-]
+      | true ↦ ap (λ (zs : List Said). x ∷ zs) (of-game-append xs ys)
+      | false ↦ of-game-append xs ys
+    ]
 
 going-early : (o : Origin) (es : List Event) (t : Table) → (fold (stepped o) t es).over ≡ false → t.over ≡ false
 going-early o es t going = by t.over refl

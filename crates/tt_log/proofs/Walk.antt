@@ -2,7 +2,8 @@
 -- that holds of each part that rules are made of, and joins, holds of every event.
 use Rattle.std.proofs.Common.{◌≡◌, ◌⊎◌, inl, inr, ℕ, ◌+◌, ◌≤◌, List, [], ◌∷◌, ◌++◌, refl, ap, sym, ◌∙◌, subst, true, false, Bool}
 use Rattle.std.proofs.Common.{Option, Some, None, arith, zero, suc, ◌<◌, append-nil}
-use Rattle.std.specs.Prelude.{is_some, min, position, ◌*◌, ◌==◌, drop, take, length, nat_lt, nat_le, map, filter, cond, ◌%◌, not, ◌&&◌, ◌||◌}
+use Rattle.std.specs.Prelude.{is_some, min, position, ◌*◌, ◌==◌, drop, take, length, nat_lt, nat_le, map, filter, cond, ◌%◌, not, ◌&&◌}
+use Rattle.std.specs.Prelude.{◌||◌}
 use Rattle.std.specs.List.{AllByRecursion}
 use Rattle.std.proofs.Math.Nat.{min-le_right}
 use Rattle.std.proofs.lemmas.Bool.{eqb-true, leb-true}
@@ -226,7 +227,8 @@ module _ (o : Origin) (e : Event) (P : Table → List Step → Table → Type 0)
     of-each-told day [] t on = w.still t
     of-each-told day (a ∷ admins) t on =
         let d : Deed = tells_admin a.conn (due_reports day a t) t in
-        of-then t d (each_told day admins) (of-reports (due_reports day a t) t a on.0 (due-known o e day a t)) (of-each-told day admins t on.1)
+        of-then t d (each_told day admins) (of-reports (due_reports day a t) t a on.0 (due-known o e day a t))
+            (of-each-told day admins t on.1)
 
     pub of-admins-told : (before : ℕ) (t : Table) → Of t (admins_told before o t)
     of-admins-told before t =
@@ -246,6 +248,7 @@ module _ (o : Origin) (e : Event) (P : Table → List Step → Table → Type 0)
         one true false m few all next is a = rw is (next a)
         one false true m few all next is a = next a.1
         one false false m few all next is a = next a
+
         by : (ms : List Member) → NotIn c (conns (filter is_playing ms)) → NotIn c (conns (filter is_playing (others conn ms)))
         by [] a = tt
         by (m ∷ ms) a = one (not (is_on conn m)) (is_playing m) m (others conn ms) ms (λ b. by ms b) refl a
@@ -386,7 +389,8 @@ module _ (o : Origin) (e : Event) (P : Table → List Step → Table → Type 0)
         let to : List ℕ = filter (λ c. not (c == m.conn)) (playing t) in
         let others : Within to (playing t) = λ c h. all-filter (IsOther c) (λ x. not (x == m.conn)) (playing t) h in
         let told : P t (step to (Msg (ServerJoin m.client)) ∷ []) u =
-        w.base.joins t t u _ _ (w.base.tells_some t to (Msg (ServerJoin m.client)) others (m, on, refl)) (w.base.turns plays t m on at tt) in
+        w.base.joins t t u _ _ (w.base.tells_some t to (Msg (ServerJoin m.client)) others (m, on, refl))
+            (w.base.turns plays t m on at tt) in
         let news : Report = Message (admins.ServerClientJoin m.client) in
         let seen : P t (step to (Msg (ServerJoin m.client)) ∷ step (watching client_updates u) (ToAdmin news)
         ∷ []) u = w.base.joins t u u _ _ told (of-watched w.base client_updates _ u
@@ -526,7 +530,8 @@ module _ (o : Origin) (e : Event) (P : Table → List Step → Table → Type 0)
     of-admin-does (admins.AdminJoin password application version) t a on still says = of-admin-joins t a on
     of-admin-does admins.AdminQuit t a on still says = w.goes_aside t a on
     of-admin-does (admins.AdminUpdateFrequency kind bits) t a on still says = w.settles t a _ on (refl, refl)
-    of-admin-does (admins.AdminPoll kind id) t a on still says = of-reports w.base (poll_answers kind id t) t a on (polls-known o e kind id t)
+    of-admin-does (admins.AdminPoll kind id) t a on still says = of-reports w.base (poll_answers kind id t) t a on
+        (polls-known o e kind id t)
     of-admin-does (admins.AdminChat scope to text) t a on still says = of-chats t 1 scope to text (inr (inl (refl, to, says)))
     of-admin-does (admins.AdminRcon text) t a on still says = of-obeys (command_in text) text t a on still says refl
     of-admin-does (admins.AdminPing id) t a on still says = of-reports w.base (Message (admins.ServerPong id) ∷ []) t a on (says, tt)
@@ -568,7 +573,8 @@ module _ (o : Origin) (e : Event) (P : Table → List Step → Table → Type 0)
 
     -- ---- the steps of a tick behind the frame
 
-    of-all-moved : (fs : List (ℕ × ℕ)) (t : Table) → AllByRecursion (λ (f : ℕ × ℕ). f.1 < length o.start.companies) fs → Of t (all_moved fs t)
+    of-all-moved : (fs : List (ℕ × ℕ)) (t : Table) → AllByRecursion (λ (f : ℕ × ℕ). f.1 < length o.start.companies) fs
+        → Of t (all_moved fs t)
     of-all-moved [] t low = w.base.still t
     of-all-moved (f ∷ fs) t low =
         let rule : Member → Table → Deed = λ m. moves m f.1 in

@@ -20,10 +20,13 @@ mod laws;
 pub mod report;
 pub mod script;
 
-pub use facts::{all_is_spelled, entries_are_of_senders, few_clients, first_in_queue_downloads, names_differ, tables_are_in_range};
+pub use facts::{
+    all_is_spelled, entries_are_of_senders, few_clients, first_in_queue_downloads, names_differ,
+    tables_are_in_range,
+};
 pub use laws::{
-    admins_are_unseen, a_door_has_its_family, a_refused_admin_ends_alone, a_tick_is_a_frame, ended_stays,
-    foundings_are_the_worlds, frame_and_top, journal_rises, malformed_ends_its_own,
+    a_door_has_its_family, a_refused_admin_ends_alone, a_tick_is_a_frame, admins_are_unseen,
+    ended_stays, foundings_are_the_worlds, frame_and_top, journal_rises, malformed_ends_its_own,
     members_are_marked, members_in_order, new_game_is_one, nobody_behind_the_end, not_yet_told,
     one_journal_one_world, over_stays, queue_is_of_those_that_load, refused_event_changes_nothing,
     shown_is_seen, stamped_once, told_goes_on, unopened_hears_nothing,
