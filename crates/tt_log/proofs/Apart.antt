@@ -119,7 +119,7 @@ apart-base c o e = record {
   });
   tells_one = λ t m msg on talk. says c t (m.conn ∷ []) _ (λ a. (among-not c m t.members on a.members, tt));
   tells_some = λ t to w there news. says c t to w (λ a. there c (playing-not c t a));
-  tells_admins = λ t to msg there notice. says c t to _ (λ a. there c a.admins);
+  tells_admins = λ t to r may is. says c t to _ (λ a. may.within c a.admins);
 }
 
 apart-moves : (c : ℕ) (o : Origin) (e : Event) → Moves o e (PassesBy c)

@@ -34,8 +34,8 @@ use Rattle.tt_log.specs.Polls.{tells_admin, each_told, day_told, due_reports, ad
 use Rattle.tt_log.specs.Desk.{is_slow, admin_ends, admin_limited, each_admin_limited, admins_limited}
 use Rattle.tt_log.specs.Quiet.{bare}
 use Rattle.tt_log.specs.Tick.{stamps, tells_entries, stamped, frame_runs_by, frame_runs, foundings, all_moved, founders_moved, synced}
-use Rattle.tt_log.specs.Tick.{finishes_map, next_pieces, mapped, left_by, left_of, late, limited, each_limited, timed, frame_follows, ticked}
-use Rattle.tt_log.specs.Tick.{pieces_of}
+use Rattle.tt_log.specs.Tick.{finishes_map, next_pieces, mapped, left_by, left_of, late, limited, each_limited, timed, frame_follows}
+use Rattle.tt_log.specs.Tick.{ticked, pieces_of}
 use Rattle.tt_log.specs.Events.{by_verdict, heard, arrives, counted_in, opened}
 use Rattle.tt_log.proofs.Walk.{stamping, running}
 

@@ -40,7 +40,7 @@ same-base o e = record {
   turns = λ c t m on may by. record { frame = refl; top = refl; over = refl; journal = refl };
   tells_one = λ t m msg on talk. record { frame = refl; top = refl; over = refl; journal = refl };
   tells_some = λ t to w there news. record { frame = refl; top = refl; over = refl; journal = refl };
-  tells_admins = λ t to msg there notice. record { frame = refl; top = refl; over = refl; journal = refl };
+  tells_admins = λ t to r may is. record { frame = refl; top = refl; over = refl; journal = refl };
 }
 
 pub same-moves : (o : Origin) (e : Event) → Moves o e KeepsClock

@@ -38,7 +38,7 @@ counts-base o e = record {
   turns = λ k t m on may by. record { openings = refl; clients = refl; cost = refl };
   tells_one = λ t m msg on talk. record { openings = refl; clients = refl; cost = refl };
   tells_some = λ t to w there news. record { openings = refl; clients = refl; cost = refl };
-  tells_admins = λ t to msg there notice. record { openings = refl; clients = refl; cost = refl };
+  tells_admins = λ t to r may is. record { openings = refl; clients = refl; cost = refl };
 }
 
 counts-moves : (o : Origin) (e : Event) → Moves o e KeepsCounts

@@ -254,7 +254,7 @@ first-false : (x y : Bool) → (x || y) ≡ false → (x ≡ false) × (y ≡ fa
 first-false true y is = absurd cc
 first-false false y is = (refl, is)
 
-place-gone : (p : Phase) (c : ℕ) (q xs : List ℕ) → list_any (λ x. x == c) xs ≡ false → Place p c q xs → NotIn c q
+pub place-gone : (p : Phase) (c : ℕ) (q xs : List ℕ) → list_any (λ x. x == c) xs ≡ false → Place p c q xs → NotIn c q
 place-gone Early c q xs gone h = h
 place-gone Queued c q xs gone h = let there : list_any (λ x. x == c) xs ≡ true = h.1 in absurd cc
 place-gone InGame c q xs gone h = h

@@ -43,12 +43,12 @@ use Rattle.tt_log.proofs.Hearing.{Says, heard-all}
 
 -- ---- what is for which family
 
-abbrev IsAside : What → Type 0
+abbrev pub IsAside : What → Type 0
 IsAside (ToAdmin r) = Unit
 IsAside End = Unit
 IsAside other = ⊥
 
-abbrev IsInside : What → Type 0
+abbrev pub IsInside : What → Type 0
 IsInside (ToAdmin r) = ⊥
 IsInside other = Unit
 
@@ -85,10 +85,10 @@ inside-says (Entries frame) o f is = mapped-game told_command (above o frame f.j
 inside-says (Stamp e) o f is = (tt, tt)
 
 -- a step is for others, or tells of its family
-abbrev Aside : ℕ → Step → Type 0
+abbrev pub Aside : ℕ → Step → Type 0
 Aside c s = NotIn c s.to ⊎ IsAside s.what
 
-abbrev Inside : ℕ → Step → Type 0
+abbrev pub Inside : ℕ → Step → Type 0
 Inside c s = NotIn c s.to ⊎ IsInside s.what
 
 -- ---- who is no member, and does not wait, hears nothing of the game
@@ -97,10 +97,10 @@ pub record IsOut (c : ℕ) (ms q : List ℕ) : Type 0 where
   pub members : NotIn c ms
   pub queue : NotIn c q
 
-abbrev Out : ℕ → Table → Type 0
+abbrev pub Out : ℕ → Table → Type 0
 Out c t = IsOut c (conns t.members) t.queue
 
-abbrev KeepsOut : ℕ → Table → List Step → Table → Type 0
+abbrev pub KeepsOut : ℕ → Table → List Step → Table → Type 0
 KeepsOut c t steps u = Out c t → Out c u × AllByRecursion (Aside c) steps
 
 put-out : (c : ℕ) (n : Member) (t : Table) → Out c t → IsOut c (conns (put n t.members)) t.queue
@@ -192,7 +192,7 @@ out-closing c o e = record {
 }
 
 -- an opening at the door is one of another connection
-abbrev Spares : Door → ℕ → Table → Event → Type 0
+abbrev pub Spares : Door → ℕ → Table → Event → Type 0
 Spares d c t (Open door peer) = door ≡ d → (t.openings + 1 == c) ≡ false
 Spares d c t other = Unit
 
@@ -227,10 +227,13 @@ says-aside : (c : ℕ) (o : Origin) (f : Filling) (s : Step) → Aside c s → S
 says-aside c o f s (inl others) = inl others
 says-aside c o f s (inr is) = inr (aside-says s.what o f is)
 
+pub out-deed : (c : ℕ) (o : Origin) (e : Event) (t : Table) → Spares Main c t e → KeepsOut c t (deed o e t).told (stepped o t e)
+out-deed c o e t spares = of-deed-by o e (KeepsOut c) (out-walk c o e) (out-closing c o e) t (λ is. out-event c o e t spares)
+
 out-step : (c : ℕ) (o : Origin) (e : Event) (t : Table) → Spares Main c t e → Out c t → Out c (stepped o t e)
     × AllByRecursion IsOfAdmins (told_by o t e c)
 out-step c o e t spares h =
-    let d = of-deed-by o e (KeepsOut c) (out-walk c o e) (out-closing c o e) t (λ is. out-event c o e t spares) h in
+    let d = out-deed c o e t spares h in
     let f : Filling = filling o t (stepped o t e) in (
       d.0,
       heard-all IsOfAdmins c o f (deed o e t).told (all-so (Aside c) (Says IsOfAdmins c o f) (deed o e t).told
@@ -242,7 +245,7 @@ out-step c o e t spares h =
 abbrev KeepsIn : ℕ → Table → List Step → Table → Type 0
 KeepsIn c t steps u = NotIn c (admin_conns t.admins) → NotIn c (admin_conns u.admins) × AllByRecursion (Inside c) steps
 
-with-inside : (k : Change) (c : ℕ) (o : Origin) (t : Table) (m : Member) → AllByRecursion (Inside c) (steps_with k o t m)
+pub with-inside : (k : Change) (c : ℕ) (o : Origin) (t : Table) (m : Member) → AllByRecursion (Inside c) (steps_with k o t m)
 with-inside (wants_password true name asked) c o t m = (inr tt, tt)
 with-inside (wants_password false name asked) c o t m = (inr tt, tt)
 with-inside (is_let_in name asked) c o t m = (inr tt, tt)
@@ -257,7 +260,7 @@ with-inside (goes_to company digest) c o t m = tt
 with-inside (founds company) c o t m = tt
 with-inside has_all c o t m = tt
 
-news-inside : (o : Origin) (e : Event) (t : Table) (w : What) → IsNews o e t w → IsInside w
+pub news-inside : (o : Origin) (e : Event) (t : Table) (w : What) → IsNews o e t w → IsInside w
 news-inside o e t (Msg m) news = tt
 news-inside o e t (Stamp x) news = tt
 news-inside o e t Sync news = tt
@@ -267,7 +270,7 @@ news-inside o e t MapPieces news = tt
 news-inside o e t (Entries frame) news = tt
 news-inside o e t End news = tt
 
-moved-inside : (c : ℕ) (v : Move) (m : Member) → AllByRecursion (Inside c) (told_moved v m)
+pub moved-inside : (c : ℕ) (v : Move) (m : Member) → AllByRecursion (Inside c) (told_moved v m)
 moved-inside c queues m = tt
 moved-inside c begins_map m = (inr tt, tt)
 moved-inside c loads m = tt
@@ -279,7 +282,7 @@ in-base c o e = record {
   turns = λ k t m on may by h. (h, with-inside k c o t m);
   tells_one = λ t m msg on talk h. (h, (inr tt, tt));
   tells_some = λ t to w there news h. (h, (inr (news-inside o e t w news), tt));
-  tells_admins = λ t to r there is h. (h, (inl (there c h), tt));
+  tells_admins = λ t to r may is h. (h, (inl (may.within c h), tt));
 }
 
 in-moves : (c : ℕ) (o : Origin) (e : Event) → Moves o e (KeepsIn c)

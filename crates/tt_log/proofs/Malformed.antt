@@ -114,7 +114,7 @@ rest-base c o e = record {
   turns = λ k t m on may by. record { admins = refl; own = refl; digests = refl; away = λ a. rest-put c (turned k t m) t a };
   tells_one = λ t m msg on talk. record { admins = refl; own = refl; digests = refl; away = λ a. a };
   tells_some = λ t to w there news. record { admins = refl; own = refl; digests = refl; away = λ a. a };
-  tells_admins = λ t to msg there notice. record { admins = refl; own = refl; digests = refl; away = λ a. a };
+  tells_admins = λ t to r may is. record { admins = refl; own = refl; digests = refl; away = λ a. a };
 }
 
 rest-moves : (c : ℕ) (o : Origin) (e : Event) → Moves o e (KeepsRest c)

@@ -320,7 +320,7 @@ mark-base o e = record {
   turns = λ c t m on may by h. put-marks t (turned c t m) (turned-mark c o e t m may h.0 (found-mark t m on h)) h;
   tells_one = λ t m msg on talk h. h;
   tells_some = λ t to w there news h. h;
-  tells_admins = λ t to msg there notice h. h;
+  tells_admins = λ t to r may is h. h;
 }
 
 greeted-mark : (t : Table) (m : Member) → rank m.status ≡ 8 → IsMarked t.frame t.top m

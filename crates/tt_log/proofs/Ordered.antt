@@ -176,7 +176,7 @@ order-base o e = record {
   turns = λ c t m on may by h. put-ordered t (turned c t m) m on (turned-conn c t m) (turned-client c t m) h;
   tells_one = λ t m msg on talk h. h;
   tells_some = λ t to w there news h. h;
-  tells_admins = λ t to msg there notice h. h;
+  tells_admins = λ t to r may is h. h;
 }
 
 pub order-moves : (o : Origin) (e : Event) → Moves o e KeepsOrder

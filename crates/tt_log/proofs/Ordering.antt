@@ -50,7 +50,7 @@ own-base o e = record {
   turns = λ k t m on may by. same e t _ refl;
   tells_one = λ t m msg on talk. same e t t refl;
   tells_some = λ t to w there news. same e t t refl;
-  tells_admins = λ t to msg there notice. same e t t refl;
+  tells_admins = λ t to r may is. same e t t refl;
 }
 
 own-moves : (o : Origin) (e : Event) → Moves o e (KeepsOwn e)

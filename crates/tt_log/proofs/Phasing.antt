@@ -171,7 +171,7 @@ further-base c o e = record {
       (with-quiet k c o t m);
   tells_one = λ t m msg on talk p h. goes-quiet c p _ _ _ h (quiet-if c (m.conn ∷ []) (Msg msg) (talk-quiet o e t msg talk), tt);
   tells_some = λ t to w there news p h. news-goes p c t to w there h;
-  tells_admins = λ t to msg there notice p h. goes-quiet c p _ _ _ h (refl, tt);
+  tells_admins = λ t to r may is p h. goes-quiet c p _ _ _ h (refl, tt);
 }
 
 further-walk : (c : ℕ) (o : Origin) (e : Event) → Walk o e (Further c)

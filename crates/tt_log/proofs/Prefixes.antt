@@ -78,7 +78,7 @@ only-base c k o e = record {
   };
   tells_one = λ t m msg on talk h. h;
   tells_some = λ t to w there news h. h;
-  tells_admins = λ t to msg there notice h. h;
+  tells_admins = λ t to r may is h. h;
 }
 
 only-moves : (c k : ℕ) (o : Origin) (e : Event) → Moves o e (KeepsOnly c k)

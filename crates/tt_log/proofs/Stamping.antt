@@ -3,12 +3,14 @@ use Rattle.std.proofs.Common.{◌≡◌, ◌⊎◌, inl, inr, ℕ, ◌+◌, ◌�
 use Rattle.std.proofs.Common.{Option, Some, None, arith, zero, suc, append-nil, append_assoc}
 use Rattle.std.specs.Prelude.{◌==◌, ◌||◌, ◌&&◌, fold, length, take, drop, nat_le, map, flat_map, filter, cond, not, is_some}
 use Rattle.std.specs.List.{AllByRecursion}
+use Rattle.std.specs.Prelude.{Result, Ok, Err}
+use Rattle.std.specs.Result.{result_ok}
 use Rattle.std.proofs.lemmas.Bool.{eq-eqb, eqb-true, ne_eqb}
 use Rattle.tt_edge.specs.declared.event.Event.{Event}
 use Rattle.tt_edge.specs.declared.event.Event.TheVariants.{Open, Packet, Broken, Shut, Tick, Stop}
 use Rattle.tt_edge.specs.Event.{event_cost}
 use Rattle.tt_game.specs.declared.message.GameMsg.{GameMsg}
-use Rattle.tt_game.specs.declared.message.GameMsg.TheVariants.{ClientCommand}
+use Rattle.tt_game.specs.declared.message.GameMsg.TheVariants.{ClientCommand, ServerFull}
 use Rattle.tt_world.specs.declared.command.Command.{Command}
 use Rattle.tt_world.specs.declared.command.Entry.{Entry}
 use Rattle.tt_rules.specs.Commands.{command_of}
@@ -30,7 +32,7 @@ use Rattle.tt_log.specs.Events.{arrives, counted_in, by_verdict, by_event, charg
 use Rattle.tt_log.specs.Events.{stepped, read_msg, heard, to_named}
 use Rattle.tt_log.specs.History.{table_of, journal_of, AreRising}
 use Rattle.tt_log.specs.Stamps.{accepted, accepted_by, accepted_from, accepted_of, commands_in, for_company, if_allowed, if_so, stamped_of}
-use Rattle.tt_log.proofs.Lists.{Among, NotIn, all-append, all-so, among-all, found-among}
+use Rattle.tt_log.proofs.Lists.{Among, NotIn, all-append, all-so, among-all, found-among, found-passes}
 use Rattle.tt_log.proofs.Crew.{On, put, on-found, found-on, conns}
 use Rattle.tt_log.proofs.Codes.{IsCodeOf, judged-code}
 use Rattle.tt_log.proofs.Changes.{Says, By, Change, wants_password, is_let_in, gets_token, gets_frame, answers, plays, commands, has_name}
@@ -215,7 +217,7 @@ stamp-base c said o e quiet = record {
   );
   tells_one = λ t m msg on talk r h. (r, h);
   tells_some = λ t to w there news r h. (r, h);
-  tells_admins = λ t to msg there notice r h. (r, h);
+  tells_admins = λ t to report may is r h. (r, h);
 }
 
 stamp-moves : (c : ℕ) (said : List (ℕ × Command)) (o : Origin) (e : Event) → Moves o e (KeepsStamps c said)
@@ -464,6 +466,9 @@ waits-kept c said t m w r on own h =
     conns-under k [] a = tt
     conns-under k (y ∷ ys) a = (a.0, conns-under k ys a.1)
 
+broken-quiet : (c : ℕ) → IsQuiet (Broken c) c
+broken-quiet c m company code number to text at (kind, body, is, said) = absurd cc
+
 stop-quiet : (c : ℕ) → IsQuiet Stop c
 stop-quiet c m company code number to text at (kind, body, is, said) = absurd cc
 
@@ -499,25 +504,34 @@ named-by None c said o t kind body company code number to text msg is r h =
     subst (λ (ws : List (ℕ × Command)). Kept c ws (where_some (admin_of t c) (admin_hears o (read_admin kind body)) t).table)
     (sym (append-nil said)) (by (admin_of t c) refl)
   where
-    -- an event that is none of this connection's
+    -- an event of this connection with the same bytes, which spells no command
     other : Event
-    other = Packet (c + 1) kind body
-
+    other = Packet c 0 body
+    full : (b : Bool) (said : GameMsg) → result_ok (cond {A = Result GameMsg ℕ} b (Ok ServerFull) (Err 0)) ≡ Some said → said ≡ ServerFull
+    full true said is = cc
+    full false said is = absurd cc
+    apart : (company code number to : ℕ) (text : List ℕ) → read_msg 0 body ≡ Some (ClientCommand company code number to text) → ⊥
+    apart company code number to text is =
+        let e : ClientCommand company code number to text ≡ ServerFull =
+        full (length body == 0) (ClientCommand company code number to text) is in cc
     quiet : IsQuiet other c
-    quiet m company code number to text at (k, b, is, said) = apart m at (ap conn_in is)
+    quiet m company code number to text at (k, b, is, said) =
+        let one : 0 ≡ k = ap kind_in is in
+        let two : body ≡ b = ap body_in is in
+        apart company code number to text (ap₂ (λ (x : ℕ) (y : List ℕ). read_msg x y) one two ∙ said)
       where
-        conn_in : Event → ℕ
-        conn_in (Packet conn k b) = conn
-        conn_in e = 0
-
-        apart : (m : Member) → m.conn ≡ c → c + 1 ≡ m.conn → ⊥
-        apart m at is = omega (arith, at, is)
-
+        kind_in : Event → ℕ
+        kind_in (Packet conn k b) = k
+        kind_in e = 0
+        body_in : Event → List ℕ
+        body_in (Packet conn k b) = b
+        body_in e = []
     by : (x : Option Admin) → admin_of t c ≡ x → Kept c said (where_some x (admin_hears o (read_admin kind body)) t).table
     by None at = h
     by (Some a) at = (of-admin-hears o other (KeepsStamps c said) (stamp-walk c said o other quiet) (read_admin kind body) t a
-        (found-among (is_admin_on c) a t.admins at) refl (is-packet-aside o other (KeepsStamps c said) (stamp-walk c said o other quiet)
-        (read_admin kind body) kind body refl (λ bytes. bytes)) r h).1
+        (found-among (is_admin_on c) a t.admins at) (sym (eqb-true a.conn c (found-passes (is_admin_on c) a t.admins at))) refl
+        (is-packet-aside o other (KeepsStamps c said) (stamp-walk c said o other quiet) (read_admin kind body) kind body refl
+        (λ bytes. bytes)) r h).1
 named-by (Some m) c said o t kind body company code number to text msg is r h =
     let P : Option GameMsg → Type 0 = λ x. Kept c (said ++ accepted_of o t (Some m) x) (heard o x m t).table in
     subst P (sym msg) (command-by (judged o t m (Some (ClientCommand company code number to text))) c said o t m company code number to text

@@ -25,12 +25,13 @@ use Rattle.tt_log.specs.Watching.{sees_console}
 use Rattle.tt_log.specs.Ending.{Failing, ends_untold}
 use Rattle.tt_log.specs.PacketRules.{told_command, chats}
 use Rattle.tt_log.specs.Polls.{tells_admin, poll_answers}
-use Rattle.tt_log.specs.Console.{ConsoleCommand, pauses, kicks, announces, clients, companies, quits, unknown, command_in, lines_of, kicks_out}
-use Rattle.tt_log.specs.Console.{console_does, obeys}
+use Rattle.tt_log.specs.Console.{ConsoleCommand, pauses, kicks, announces, clients, companies, quits, unknown, command_in, lines_of}
+use Rattle.tt_log.specs.Console.{kicks_out, console_does, obeys}
 use Rattle.tt_log.specs.Desk.{admin_arrives, counted_aside, most_admins, admin_leaves, read_admin, admin_judged, admin_does}
 use Rattle.tt_log.specs.Desk.{by_admin_verdict, admin_hears}
 use Rattle.tt_log.specs.Tick.{ticked}
-use Rattle.tt_log.specs.Events.{read_msg, opened, heard, to_named, by_event, charged, stops, shut_down, taken, takes, deed, stepped, last_frame}
+use Rattle.tt_log.specs.Events.{read_msg, opened, heard, to_named, by_event, charged, stops, shut_down, taken, takes, deed, stepped}
+use Rattle.tt_log.specs.Events.{last_frame}
 use Rattle.tt_log.specs.History.{table_of}
 use Rattle.tt_log.specs.Reports.{reported}
 use Rattle.tt_log.specs.Tellings.{Filling, Telling, telling, filled, filling, piece_messages, said_by}
@@ -99,8 +100,8 @@ gone-at None None o t quiet = refl
 gone-at None (Some a) o t quiet = refl
 
 quiet-event : (o : Origin) (e : Event) (t : Table) → is_quiet o t e ≡ true → Like (by_event o e t) (becomes t)
-quiet-event o (Packet conn kind body) t quiet = quiet-at (member_of t conn) (admin_of t conn) o (read_msg kind body) (read_admin kind body) t
-    quiet
+quiet-event o (Packet conn kind body) t quiet = quiet-at (member_of t conn) (admin_of t conn) o (read_msg kind body)
+    (read_admin kind body) t quiet
 quiet-event o (Broken conn) t quiet = quiet-at (member_of t conn) (admin_of t conn) o None None t quiet
 quiet-event o (Shut conn) t quiet = gone-at (member_of t conn) (admin_of t conn) o t quiet
 quiet-event o (Open door peer) t quiet = absurd cc
@@ -187,7 +188,8 @@ going-before : (o : Origin) (e : Event) (t : Table) → (stepped o t e).over ≡
 going-before o e t going = by t.over refl
   where
     by : (b : Bool) → t.over ≡ b → t.over ≡ false
-    by true over = absurd (let still_over : (stepped o t e).over ≡ true = ap (λ (d : Deed). d.table.over) (over-stays o t e over) ∙ over in cc)
+    by true over = absurd (let still_over : (stepped o t e).over ≡ true = ap (λ (d : Deed). d.table.over) (over-stays o t e over)
+        ∙ over in cc)
     by false off = off
 
 -- an event that players see is taken
@@ -341,8 +343,8 @@ going-early : (o : Origin) (es : List Event) (t : Table) → (fold (stepped o) t
 going-early o es t going = by t.over refl
   where
     by : (b : Bool) → t.over ≡ b → t.over ≡ false
-    by true over = absurd (let still_over : (fold (stepped o) t es).over ≡ true = ap (λ (u : Table). u.over) (over-from o es t over) ∙ over in
-        cc)
+    by true over = absurd (let still_over : (fold (stepped o) t es).over ≡ true = ap (λ (u : Table). u.over) (over-from o es t over)
+        ∙ over in cc)
     by false off = off
 
 -- where no event is seen
@@ -473,8 +475,8 @@ players-agree o es fs c going here is apart away =
     ∙ all-of-game (told.heard o fs c) (not-of-admins o fs c away)
 
 -- one event behind others
-pub quiet-table : (o : Origin) (es : List Event) (e : Event) → is_quiet o (table_of o es) e ≡ true → (table_of o (es ++ e ∷ [])).over ≡ false
-    → bare (table_of o (es ++ e ∷ [])) ≡ bare (table_of o es)
+pub quiet-table : (o : Origin) (es : List Event) (e : Event) → is_quiet o (table_of o es) e ≡ true
+    → (table_of o (es ++ e ∷ [])).over ≡ false → bare (table_of o (es ++ e ∷ [])) ≡ bare (table_of o es)
 quiet-table o es e quiet going =
     let behind : table_of o (es ++ e ∷ []) ≡ stepped o (table_of o es) e = table-snoc o es e in
     ap (λ (x : Table). bare x) behind ∙ ap (λ (d : Deed). d.table) (quiet-step o e (table_of o es) quiet

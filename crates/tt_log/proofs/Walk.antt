@@ -2,8 +2,8 @@
 -- that holds of each part that rules are made of, and joins, holds of every event.
 use Rattle.std.proofs.Common.{◌≡◌, ◌⊎◌, inl, inr, ℕ, ◌+◌, ◌≤◌, List, [], ◌∷◌, ◌++◌, refl, ap, sym, ◌∙◌, subst, true, false, Bool}
 use Rattle.std.proofs.Common.{Option, Some, None, arith, zero, suc, ◌<◌, append-nil}
-use Rattle.std.specs.Prelude.{is_some, min, position, ◌*◌, ◌==◌, drop, take, length, nat_lt, nat_le, map, filter, cond, ◌%◌, not, ◌&&◌}
-use Rattle.std.specs.Prelude.{◌||◌}
+use Rattle.std.specs.Prelude.{is_some, min, position, slice_index, ◌*◌, ◌==◌, drop, take, length, nat_lt, nat_le, map, filter, cond, ◌%◌, not}
+use Rattle.std.specs.Prelude.{◌&&◌, ◌||◌}
 use Rattle.std.specs.List.{AllByRecursion}
 use Rattle.std.proofs.Math.Nat.{min-le_right}
 use Rattle.std.proofs.lemmas.Bool.{eqb-true, leb-true}
@@ -36,7 +36,8 @@ use Rattle.tt_log.specs.declared.deed.What.TheVariants.{Msg, ToAdmin, MapBegin, 
 use Rattle.tt_log.specs.declared.report.Report.{Report}
 use Rattle.tt_log.specs.declared.report.Report.TheVariants.{Message, CompanyNews}
 use Rattle.tt_log.specs.Origin.{Origin, at_frame}
-use Rattle.tt_log.specs.Admin.{Admin, is_automatic, client_updates, company_updates, chat_updates, console_updates, command_updates}
+use Rattle.tt_log.specs.Admin.{Admin, is_automatic, has_bit, automatic_bit, client_updates, company_updates, chat_updates, console_updates}
+use Rattle.tt_log.specs.Admin.{command_updates}
 use Rattle.tt_log.specs.Member.{Member, is_in, is_playing, is_welcomed}
 use Rattle.tt_log.specs.Table.{Table, member_of, admin_of, is_admin_on, with_member, without_member, digest_of, with_digest, now_in}
 use Rattle.tt_log.specs.Table.{playing, welcomed, world_of, member_with, with_admin, is_on, downloader, first_loading, if_loading}
@@ -96,9 +97,28 @@ told_moved loads m = []
 abbrev pub IsOrdered : Table → Command → Type 0
 IsOrdered t c = ((m : Member) × On t m × (c ≡ new_company m)) ⊎ ((paused : Bool) × (c ≡ pause paused))
 
--- an admin as it was, but for what it has asked to be told
-abbrev pub IsSettled : Admin → Admin → Type 0
-IsSettled a b = (b.conn ≡ a.conn) × (b.since ≡ a.since)
+-- the event is one of this connection
+abbrev pub Names : Event → ℕ → Type 0
+Names (Packet conn kind body) c = conn ≡ c
+Names (Broken conn) c = conn ≡ c
+Names other c = ⊥
+
+-- an admin as it was, but for what it has asked to be told, by an event of its own
+abbrev pub IsSettled : Event → Admin → Admin → Type 0
+IsSettled e a b = (b.conn ≡ a.conn) × (b.since ≡ a.since) × Names e a.conn
+
+-- the connections of the admins that have joined
+abbrev pub joined_conns : Table → List ℕ
+joined_conns t = admin_conns (filter (λ a. a.joined) t.admins)
+
+-- one is told something by an event of its own, or why it ends
+abbrev pub IsOwn : Event → List ℕ → Report → Type 0
+IsOwn e to r = (c : ℕ) × (to ≡ c ∷ []) × (Names e c ⊎ ((code : ℕ) × (r ≡ Message (admins.ServerError code))))
+
+-- admins that may be told a report: they have joined, or it is their own
+pub record MayTell (e : Event) (t : Table) (to : List ℕ) (r : Report) : Type 0 where
+  pub within : Within to (admin_conns t.admins)
+  pub turn : Within to (joined_conns t) ⊎ IsOwn e to r
 
 -- behind some of a queue
 none-behind : (c : ℕ) (xs ys : List ℕ) → NotIn c (xs ++ ys) → NotIn c ys
@@ -130,7 +150,7 @@ module _ (o : Origin) (e : Event) (P : Table → List Step → Table → Type 0)
     -- a member is told something, or some of those that play are, or some admins
     pub tells_one : (t : Table) (m : Member) (msg : GameMsg) → On t m → IsTalk o e t msg → P t (step (m.conn ∷ []) (Msg msg) ∷ []) t
     pub tells_some : (t : Table) (to : List ℕ) (w : What) → Within to (playing t) → IsNews o e t w → P t (step to w ∷ []) t
-    pub tells_admins : (t : Table) (to : List ℕ) (r : Report) → Within to (admin_conns t.admins) → IsReport o e t r
+    pub tells_admins : (t : Table) (to : List ℕ) (r : Report) → MayTell e t to r → IsReport o e t r
         → P t (step to (ToAdmin r) ∷ []) t
 
   -- it holds of each part that rules are made of, but for those of a tick
@@ -145,7 +165,7 @@ module _ (o : Origin) (e : Event) (P : Table → List Step → Table → Type 0)
     pub enters_game : (t : Table) (m : Member) → On t m → rank m.status ≡ 7 → Of t (enters m t)
     pub goes : (t : Table) (m : Member) (farewell : Farewell) → On t m → IsFarewell e m farewell → Of t (leaves m farewell t)
     -- an admin has joined, or asks to be told something; an admin goes
-    pub settles : (t : Table) (a b : Admin) → OnAdmin t a → IsSettled a b → P t [] (with_admin b t)
+    pub settles : (t : Table) (a b : Admin) → OnAdmin t a → IsSettled e a b → P t [] (with_admin b t)
     pub goes_aside : (t : Table) (a : Admin) → OnAdmin t a → Of t (admin_leaves a t)
 
   -- it holds of a connection that comes in by a door
@@ -203,8 +223,11 @@ module _ (o : Origin) (e : Event) (P : Table → List Step → Table → Type 0)
     of-playing t msg talk = w.tells_some t (playing t) (Msg msg) (λ c h. h) talk
 
     pub of-seen : (kind : ℕ) (r : Report) (t : Table) → IsReport o e t r → P t (step (watching kind t) (ToAdmin r) ∷ []) t
-    of-seen kind r t is = w.tells_admins t (watching kind t) r (λ c h. all-of-filter (λ (a : Admin). a.conn)
-        (is_automatic kind) c t.admins h) is
+    of-seen kind r t is = w.tells_admins t (watching kind t) r (record {
+      within = λ c h. all-of-filter (λ (a : Admin). a.conn) (is_automatic kind) c t.admins h;
+      turn = inl (λ c h. map-filter-not (λ (a : Admin). a.conn) (λ a. a.joined) (λ a. has_bit automatic_bit (slice_index a.bits kind)) c
+          t.admins h);
+    }) is
 
     pub of-watched : (kind : ℕ) (msg : AdminMsg) (t : Table) → IsNotice o e t msg
         → P t (step (watching kind t) (ToAdmin (Message msg)) ∷ []) t
@@ -215,26 +238,37 @@ module _ (o : Origin) (e : Event) (P : Table → List Step → Table → Type 0)
     among-conn c (x ∷ xs) a (inl here) h = subst (λ (y : Admin). IsOther c y.conn) here h.0
     among-conn c (x ∷ xs) a (inr later) h = among-conn c xs a later h.1
 
-    pub of-reports : (reports : List Report) (t : Table) (a : Admin) → OnAdmin t a → AllByRecursion (IsReport o e t) reports
-        → Of t (tells_admin a.conn reports t)
-    of-reports [] t a on are = w.still t
-    of-reports (r ∷ reports) t a on are =
-        w.joins t t t _ _ (w.tells_admins t (a.conn ∷ []) r (λ c h. (among-conn c t.admins a on h, tt)) are.0)
-        (of-reports reports t a on are.1)
+    of-told : (reports : List Report) (t : Table) (conn : ℕ) → ((r : Report) → MayTell e t (conn ∷ []) r)
+        → AllByRecursion (IsReport o e t) reports → Of t (tells_admin conn reports t)
+    of-told [] t conn may are = w.still t
+    of-told (r ∷ reports) t conn may are =
+        w.joins t t t _ _ (w.tells_admins t (conn ∷ []) r (may r) are.0) (of-told reports t conn may are.1)
+
+    -- by its own event
+    pub of-reports : (reports : List Report) (t : Table) (a : Admin) → OnAdmin t a → Names e a.conn
+        → AllByRecursion (IsReport o e t) reports → Of t (tells_admin a.conn reports t)
+    of-reports reports t a on own are = of-told reports t a.conn (λ r. record {
+      within = λ c h. (among-conn c t.admins a on h, tt);
+      turn = inr (a.conn, refl, inl own);
+    }) are
 
     -- what admins are told on a day that begins
-    of-each-told : (day : ℕ) (admins : List Admin) (t : Table) → AllByRecursion (OnAdmin t) admins → Of t (each_told day admins t)
+    of-each-told : (day : ℕ) (admins : List Admin) (t : Table) → AllByRecursion (λ a. Among a (filter (λ a. a.joined) t.admins)) admins
+        → Of t (each_told day admins t)
     of-each-told day [] t on = w.still t
     of-each-told day (a ∷ admins) t on =
+        let joined : List Admin = filter (λ a. a.joined) t.admins in
         let d : Deed = tells_admin a.conn (due_reports day a t) t in
-        of-then t d (each_told day admins) (of-reports (due_reports day a t) t a on.0 (due-known o e day a t))
-            (of-each-told day admins t on.1)
+        of-then t d (each_told day admins) (of-told (due_reports day a t) t a.conn (λ r. record {
+          within = λ c h. (among-conn c joined a on.0 (all-of-filter (λ (b : Admin). b.conn) (λ b. b.joined) c t.admins h), tt);
+          turn = inl (λ c h. (among-conn c joined a on.0 h, tt));
+        }) (due-known o e day a t)) (of-each-told day admins t on.1)
 
     pub of-admins-told : (before : ℕ) (t : Table) → Of t (admins_told before o t)
     of-admins-told before t =
         let day : ℕ = (world_of o t).day in
         of-where (not (day == before)) (day_told day) t (λ is. of-each-told day (filter (λ a. a.joined) t.admins) t
-        (all-filter (OnAdmin t) (λ a. a.joined) t.admins (all-among t.admins)))
+        (all-among (filter (λ a. a.joined) t.admins)))
 
     -- who plays without a member plays with it too
     still-playing : (conn : ℕ) (t : Table) → Within (playing (without_member conn t)) (playing t)
@@ -497,8 +531,9 @@ module _ (o : Origin) (e : Event) (P : Table → List Step → Table → Type 0)
     -- ---- the side door
 
     of-admin-ends : (t : Table) (a : Admin) (code : ℕ) → OnAdmin t a → code ≤ 20 → Of t (admin_ends a code t)
-    of-admin-ends t a code on low = of-then w.base t _ (admin_leaves a)
-        (of-reports w.base (Message (admins.ServerError code) ∷ []) t a on (low, tt)) (w.goes_aside t a on)
+    of-admin-ends t a code on low = of-then w.base t _ (admin_leaves a) (w.base.tells_admins t (a.conn ∷ []) (Message (admins.ServerError code))
+        (record { within = λ c h. (among-conn w.base c t.admins a on h, tt); turn = inr (a.conn, refl, inr (code, refl)) }) low)
+        (w.goes_aside t a on)
 
     of-console : (command : ConsoleCommand) (line : List ℕ) (t : Table) → is_tick e ≡ false → SaysAside e (AdminRcon line)
         → command_in line ≡ command → Of t (console_does command t)
@@ -508,54 +543,54 @@ module _ (o : Origin) (e : Event) (P : Table → List Step → Table → Type 0)
     of-console (announces text) line t still says is = of-chats t 1 0 0 text (inr (inr (refl, refl, line, says, is)))
     of-console other line t still says is = w.base.still t
 
-    of-obeys : (command : ConsoleCommand) (text : List ℕ) (t : Table) (a : Admin) → OnAdmin t a → is_tick e ≡ false
+    of-obeys : (command : ConsoleCommand) (text : List ℕ) (t : Table) (a : Admin) → OnAdmin t a → Names e a.conn → is_tick e ≡ false
         → SaysAside e (AdminRcon text) → command_in text ≡ command → Of t (obeys command a.conn text t)
-    of-obeys command text t a on still says is =
+    of-obeys command text t a on own still says is =
         let reports : List Report = lines_of command t ++ Message (admins.ServerRconEnd text) ∷ [] in
         let d : Deed = sees_console text t ▹ tells_admin a.conn reports in
         of-then w.base t d (console_does command) (w.base.joins t t t _ _ (of-watched w.base console_updates _ t
-        (refl, says)) (of-reports w.base reports t a on (all-append (IsReport o e t) (lines_of command t)
+        (refl, says)) (of-reports w.base reports t a on own (all-append (IsReport o e t) (lines_of command t)
         (Message (admins.ServerRconEnd text) ∷ []) (lines-known o e command t) (says, tt))))
         (of-console command text t still says is)
 
-    of-admin-joins : (t : Table) (a : Admin) → OnAdmin t a → Of t (admin_joins a t)
-    of-admin-joins t a on =
+    of-admin-joins : (t : Table) (a : Admin) → OnAdmin t a → Names e a.conn → Of t (admin_joins a t)
+    of-admin-joins t a on own =
         let b : Admin = record a { joined = true } in
         let u : Table = with_admin b t in
-        w.base.joins t u u [] _ (w.settles t a b on (refl, refl)) (of-reports w.base admin_greeting u b
-        (put-admin-among b a t.admins refl on) ((refl, refl), (tt, tt)))
+        w.base.joins t u u [] _ (w.settles t a b on (refl, refl, own)) (of-reports w.base admin_greeting u b
+        (put-admin-among b a t.admins refl on) own ((refl, refl), (tt, tt)))
 
-    of-admin-does : (msg : AdminMsg) (t : Table) (a : Admin) → OnAdmin t a → is_tick e ≡ false → SaysAside e msg
+    of-admin-does : (msg : AdminMsg) (t : Table) (a : Admin) → OnAdmin t a → Names e a.conn → is_tick e ≡ false → SaysAside e msg
         → Of t (admin_does a msg t)
-    of-admin-does (admins.AdminJoin password application version) t a on still says = of-admin-joins t a on
-    of-admin-does admins.AdminQuit t a on still says = w.goes_aside t a on
-    of-admin-does (admins.AdminUpdateFrequency kind bits) t a on still says = w.settles t a _ on (refl, refl)
-    of-admin-does (admins.AdminPoll kind id) t a on still says = of-reports w.base (poll_answers kind id t) t a on
+    of-admin-does (admins.AdminJoin password application version) t a on own still says = of-admin-joins t a on own
+    of-admin-does admins.AdminQuit t a on own still says = w.goes_aside t a on
+    of-admin-does (admins.AdminUpdateFrequency kind bits) t a on own still says = w.settles t a _ on (refl, refl, own)
+    of-admin-does (admins.AdminPoll kind id) t a on own still says = of-reports w.base (poll_answers kind id t) t a on own
         (polls-known o e kind id t)
-    of-admin-does (admins.AdminChat scope to text) t a on still says = of-chats t 1 scope to text (inr (inl (refl, to, says)))
-    of-admin-does (admins.AdminRcon text) t a on still says = of-obeys (command_in text) text t a on still says refl
-    of-admin-does (admins.AdminPing id) t a on still says = of-reports w.base (Message (admins.ServerPong id) ∷ []) t a on (says, tt)
-    of-admin-does other t a on still says = w.base.still t
+    of-admin-does (admins.AdminChat scope to text) t a on own still says = of-chats t 1 scope to text (inr (inl (refl, to, says)))
+    of-admin-does (admins.AdminRcon text) t a on own still says = of-obeys (command_in text) text t a on own still says refl
+    of-admin-does (admins.AdminPing id) t a on own still says = of-reports w.base (Message (admins.ServerPong id) ∷ []) t a on own (says, tt)
+    of-admin-does other t a on own still says = w.base.still t
 
     -- a packet spells this, or nothing
     abbrev pub IsPacketAside : Option AdminMsg → Type 0
     IsPacketAside None = Unit
     IsPacketAside (Some msg) = SaysAside e msg
 
-    of-admin-said : (said : Option AdminMsg) (t : Table) (a : Admin) → OnAdmin t a → is_tick e ≡ false → IsPacketAside said
+    of-admin-said : (said : Option AdminMsg) (t : Table) (a : Admin) → OnAdmin t a → Names e a.conn → is_tick e ≡ false → IsPacketAside said
         → Of t (where_some said (admin_does a) t)
-    of-admin-said None t a on still says = w.base.still t
-    of-admin-said (Some msg) t a on still says = of-admin-does msg t a on still says
+    of-admin-said None t a on own still says = w.base.still t
+    of-admin-said (Some msg) t a on own still says = of-admin-does msg t a on own still says
 
-    of-admin-verdict : (v : Verdict) (said : Option AdminMsg) (t : Table) (a : Admin) → OnAdmin t a → is_tick e ≡ false
+    of-admin-verdict : (v : Verdict) (said : Option AdminMsg) (t : Table) (a : Admin) → OnAdmin t a → Names e a.conn → is_tick e ≡ false
         → IsPacketAside said → IsCodeOf v → Of t (by_admin_verdict v a said t)
-    of-admin-verdict Allowed said t a on still says low = of-admin-said said t a on still says
-    of-admin-verdict (Ends code) said t a on still says low = of-admin-ends t a code on low
+    of-admin-verdict Allowed said t a on own still says low = of-admin-said said t a on own still says
+    of-admin-verdict (Ends code) said t a on own still says low = of-admin-ends t a code on low
 
-    pub of-admin-hears : (said : Option AdminMsg) (t : Table) (a : Admin) → OnAdmin t a → is_tick e ≡ false → IsPacketAside said
+    pub of-admin-hears : (said : Option AdminMsg) (t : Table) (a : Admin) → OnAdmin t a → Names e a.conn → is_tick e ≡ false → IsPacketAside said
         → Of t (admin_hears o said a t)
-    of-admin-hears said t a on still says =
-        of-admin-verdict (admin_judged o a said) said t a on still says (admin-judged-code o a said)
+    of-admin-hears said t a on own still says =
+        of-admin-verdict (admin_judged o a said) said t a on own still says (admin-judged-code o a said)
 
     pub is-packet-aside : (said : Option AdminMsg) (kind : ℕ) (body : List ℕ) → read_admin kind body ≡ said → (IsEvent e → IsBytes body)
         → IsPacketAside said
@@ -648,24 +683,28 @@ module _ (o : Origin) (e : Event) (P : Table → List Step → Table → Type 0)
     of-named None y f g t p q = of-some w.base y g t q
 
     of-conn : (conn : ℕ) (f : Member → Table → Deed) (g : Admin → Table → Deed) (t : Table) → ((m : Member) → On t m → m.conn ≡ conn
-        → Of t (f m t)) → ((a : Admin) → OnAdmin t a → a.conn ≡ conn → Of t (g a t)) → Of t (on_conn conn f g t)
+        → Of t (f m t)) → ((a : Admin) → OnAdmin t a → conn ≡ a.conn → Of t (g a t)) → Of t (on_conn conn f g t)
     of-conn conn f g t p q = of-named (member_of t conn) (admin_of t conn) f g t (λ m is. p m (on-found t conn m is)
         (found-on conn t.members m is)) (λ a is. q a (found-among (is_admin_on conn) a t.admins is)
-        (eqb-true a.conn conn (found-passes (is_admin_on conn) a t.admins is)))
+        (sym (eqb-true a.conn conn (found-passes (is_admin_on conn) a t.admins is))))
+
+    -- the event names the connection of its admin
+    named-is : (d : Event) (c : ℕ) → e ≡ d → Names d c → Names e c
+    named-is d c is own = subst (λ (x : Event). Names x c) (sym is) own
 
     of-packet : (conn kind : ℕ) (body : List ℕ) (t : Table) → e ≡ Packet conn kind body → Of t (by_event o (Packet conn kind body) t)
     of-packet conn kind body t is =
         of-conn conn _ _ t (λ m on at. of-heard (read_msg kind body) t m on (is-packet (read_msg kind body) kind body m refl (is
         ∙ ap (λ (c : ℕ). Packet c kind body) (sym at)))) (λ a on at. of-admin-hears (read_admin kind body) t a on
-        (ap (λ (d : Event). is_tick d) is) (is-packet-aside (read_admin kind body) kind body refl
-        (λ bytes. subst IsEvent is bytes)))
+        (named-is (Packet conn kind body) a.conn is at) (ap (λ (d : Event). is_tick d) is)
+        (is-packet-aside (read_admin kind body) kind body refl (λ bytes. subst IsEvent is bytes)))
 
     -- an event of a connection, or a stop
     of-event-by : (d : Event) (t : Table) → e ≡ d → is_tick d ≡ false → is_open d ≡ false → Of t (by_event o d t)
     of-event-by (Open door peer) t is still shut = absurd cc
     of-event-by (Packet conn kind body) t is still shut = of-packet conn kind body t is
     of-event-by (Broken conn) t is still shut = of-conn conn _ _ t (λ m on at. of-heard None t m on tt)
-        (λ a on at. of-admin-hears None t a on (ap (λ (d : Event). is_tick d) is) tt)
+        (λ a on at. of-admin-hears None t a on (named-is (Broken conn) a.conn is at) (ap (λ (d : Event). is_tick d) is) tt)
     of-event-by (Shut conn) t is still shut = of-conn conn _ _ t (λ m on at. w.goes t m (Failing 3) on (inl (omega arith)))
         (λ a on at. w.goes_aside t a on)
     of-event-by Tick t is still shut = absurd cc

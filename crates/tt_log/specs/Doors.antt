@@ -1,9 +1,10 @@
 -- The two doors and their families of messages, and how an admin ends that is refused: what the laws say of admins.
-use Rattle.std.specs.Prelude.{◌≡◌, ℕ, ◌+◌, ◌==◌, cond, List, [], ◌∷◌, Option, Some, None}
+use Rattle.std.specs.Prelude.{◌≡◌, ℕ, ◌+◌, ◌==◌, ◌&&◌, Bool, true, false, cond, List, [], ◌∷◌, Option, Some, None}
 use Rattle.tt_edge.specs.declared.event.Door.{Door}
 use Rattle.tt_edge.specs.declared.event.Event.{Event}
 use Rattle.tt_edge.specs.declared.event.Event.TheVariants.{Open, Packet, Broken}
 use Rattle.tt_game.specs.declared.message.GameMsg.TheVariants as games
+use Rattle.tt_admin.specs.declared.message.AdminMsg.{AdminMsg}
 use Rattle.tt_admin.specs.declared.message.AdminMsg.TheVariants as admins
 use Rattle.tt_rules.specs.declared.status.Verdict.TheVariants.{Ends}
 use Rattle.tt_log.specs.Origin.{Origin}
@@ -47,3 +48,27 @@ abbrev pub IsShutdown : Said → Type 0
 IsShutdown (game games.ServerShutdown) = Unit {0}
 IsShutdown (admin admins.ServerShutdown) = Unit {0}
 IsShutdown other = ⊥
+
+-- ---- an admin that has not joined
+
+abbrev pub is_join : Option AdminMsg → Bool
+is_join (Some (admins.AdminJoin password application version)) = true
+is_join other = false
+
+-- whether an event is a JOIN of this connection
+abbrev pub says_join : Event → ℕ → Bool
+says_join (Packet conn kind body) c = (conn == c) && is_join (read_admin kind body)
+says_join other c = false
+
+-- what it may be told: that there is no room, why it ends, and that the game is over; and where it joins, the protocol and the game
+abbrev pub IsFirst : Bool → AdminMsg → Type 0
+IsFirst joins admins.ServerFull = Unit {0}
+IsFirst joins (admins.ServerError code) = Unit {0}
+IsFirst joins admins.ServerShutdown = Unit {0}
+IsFirst joins (admins.ServerProtocol version types) = joins ≡ true
+IsFirst joins (admins.ServerWelcome name revision dedicated map seed landscape day width height) = joins ≡ true
+IsFirst joins other = ⊥
+
+abbrev pub IsFirstWord : Bool → Said → Type 0
+IsFirstWord joins (game m) = ⊥
+IsFirstWord joins (admin m) = IsFirst joins m

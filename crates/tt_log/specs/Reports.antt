@@ -5,7 +5,8 @@ use Rattle.std.specs.Fmt.{signed_decimal}
 use Rattle.std.specs.Int.{w64, cast_unsigned}
 use Rattle.tt_admin.specs.declared.message.AdminMsg.{AdminMsg}
 use Rattle.tt_admin.specs.declared.message.AdminMsg.TheVariants.{ServerWelcome, ServerDate, ServerRcon, ServerCompanyNew}
-use Rattle.tt_admin.specs.declared.message.AdminMsg.TheVariants.{ServerCompanyInfo, ServerCompanyUpdate, ServerCompanyEconomy, ServerCompanyStats}
+use Rattle.tt_admin.specs.declared.message.AdminMsg.TheVariants.{ServerCompanyInfo, ServerCompanyUpdate, ServerCompanyEconomy}
+use Rattle.tt_admin.specs.declared.message.AdminMsg.TheVariants.{ServerCompanyStats}
 use Rattle.tt_world.specs.declared.setup.Setup.{Setup}
 use Rattle.tt_world.specs.declared.company.Company.{Company}
 use Rattle.tt_world.specs.declared.command.Code.{Code}

@@ -26,8 +26,8 @@ ghost use Rattle.tt_frame.specs.Text.{IsName};
 ghost use Rattle.tt_admin.specs.declared.message.AdminMsg.TheVariants as admins;
 ghost use Rattle.tt_edge.specs.declared.event.Door.TheVariants.{Main, Side};
 ghost use Rattle.tt_log.specs.Deed.{Said, admin, becomes, game};
-ghost use Rattle.tt_log.specs.Desk.{admin_judged};
-ghost use Rattle.tt_log.specs.Doors.{AdminEndsWith, IsOfAdmins, IsOfGame, IsShutdown, door_of};
+ghost use Rattle.tt_log.specs.Desk.{admin_judged, most_admins};
+ghost use Rattle.tt_log.specs.Doors.{AdminEndsWith, IsFirstWord, IsOfAdmins, IsOfGame, IsShutdown, door_of, says_join};
 ghost use Rattle.tt_log.specs.History.{AreFor, AreRising, IsHistory, journal_of, table_of};
 ghost use Rattle.tt_log.specs.Origin.{IsJournal, IsOrigin, Origin, above, folded, game_of, origin_of, world_at};
 ghost use Rattle.tt_lockstep.specs.Journal.{AreAbove, AreUpTo};
@@ -241,6 +241,14 @@ pub fn admins_are_unseen()
     ensures players { (o : Origin) (es fs : List Event) (conn : ℕ) → (table_of o es).over ≡ false → (table_of o fs).over ≡ false
         → loud o es ≡ loud o fs → (door_of es conn ≡ Some Side → ⊥) → (door_of fs conn ≡ Some Side → ⊥)
         → heard o es conn ≡ heard o fs conn }
+{}
+
+/// An admin that has not joined is told nothing but the protocol and the game, where it joins, why it ends, and that the game
+/// is over; and at most sixteen admins are there.
+pub fn who_has_not_joined_hears_little()
+    ensures told { (o : Origin) (es : List Event) (e : Event) (a : Admin) → admin_of (table_of o es) a.conn ≡ Some a → a.joined ≡ false
+        → AllByRecursion (IsFirstWord (says_join e a.conn)) (told o es e a.conn) }
+    ensures few { (o : Origin) (es : List Event) → length (table_of o es).admins ≤ most_admins }
 {}
 
 /// A packet of an admin that spells nothing, a stream that breaks, and a refusal end their own admin with their code, and

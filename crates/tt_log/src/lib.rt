@@ -30,6 +30,7 @@ pub use laws::{
     members_are_marked, members_in_order, new_game_is_one, nobody_behind_the_end, not_yet_told,
     one_journal_one_world, over_stays, queue_is_of_those_that_load, refused_event_changes_nothing,
     shown_is_seen, stamped_once, told_goes_on, unopened_hears_nothing,
+    who_has_not_joined_hears_little,
 };
 pub use script::{
     Bytes, Line1, Script, ScriptBad, ScriptReader, Setting, Step, parse_script, print_script,
