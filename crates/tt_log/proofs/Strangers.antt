@@ -7,6 +7,7 @@ use Rattle.std.proofs.lemmas.Bool.{eqb-true, eq-eqb, ne_eqb, leb-false}
 use Rattle.std.proofs.lemmas.List.{length-append, length-map}
 use Rattle.tt_edge.specs.declared.event.Door.TheVariants.{Main, Side}
 use Rattle.tt_edge.specs.declared.event.Event.{Event}
+use Rattle.tt_edge.specs.declared.event.Peer.{Peer}
 use Rattle.tt_edge.specs.declared.event.Event.TheVariants.{Open, Packet, Broken, Shut, Tick, Stop}
 use Rattle.tt_admin.specs.declared.message.AdminMsg.{AdminMsg}
 use Rattle.tt_admin.specs.declared.message.AdminMsg.TheVariants as admins
@@ -36,7 +37,7 @@ use Rattle.tt_log.proofs.Changes.{steps_with}
 use Rattle.tt_log.proofs.Walk.{Base, Walk, Closing, Moves, Ticks, running, told_moved, Names, joined_conns, IsOwn, MayTell, of-asks}
 use Rattle.tt_log.proofs.Walk.{of-enters, of-leaves, of-event, of-ticked, of-deed-by, of-deed}
 use Rattle.tt_log.proofs.Clock.{from-all}
-use Rattle.tt_log.proofs.Ordered.{Ordered, is-ordered, rising-not}
+use Rattle.tt_log.proofs.Ordered.{Ordered, is-ordered, rising-not, under-not}
 use Rattle.tt_log.proofs.Ended.{is-kept, place-gone}
 use Rattle.tt_log.proofs.Malformed.{none-member}
 use Rattle.tt_log.proofs.Hearing.{Says, heard-all}
@@ -460,3 +461,23 @@ greeted o es e a is off =
     order.admins_rise off is) in
     let f : Filling = filling o t (stepped o t e) in
     heard-all (IsFirstWord (says_join e c)) c o f (deed o e t).told (first-all (says_join e c) c o f (deed o e t).told aside shy)
+
+-- who comes in at the side is told at most that there is no room, and that the game is over
+pub opened-first : (o : Origin) (es : List Event) (peer : Peer) → AllByRecursion (IsFirstWord false) (told o es (Open Side peer)
+    ((table_of o es).openings + 1))
+opened-first o es peer =
+    let t : Table = table_of o es in
+    let c : ℕ = t.openings + 1 in
+    let e : Event = Open Side peer in
+    let order : Ordered t = is-ordered o es in
+    let none : NotIn c (conns t.members) = under-not t.openings c (conns t.members) (omega arith) order.under in
+    let kept = is-kept c o es in
+    let out : Out c t = record {
+      members = none;
+      queue = place-gone kept.phase c t.queue (conns t.members) (any-not c (conns t.members) none) kept.holds.place;
+    } in
+    let aside : AllByRecursion (Aside c) (deed o e t).told = (out-deed c o e t (λ same. absurd cc) out).1 in
+    let shy : AllByRecursion (Shy false c) (deed o e t).told = other-deed false c o e t (λ never. never)
+    (none-stranger c t.admins (under-not t.openings c (admin_conns t.admins) (omega arith) order.admins_under)) in
+    let f : Filling = filling o t (stepped o t e) in
+    heard-all (IsFirstWord false) c o f (deed o e t).told (first-all false c o f (deed o e t).told aside shy)

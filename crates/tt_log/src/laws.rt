@@ -2,7 +2,8 @@
 ghost use Rattle.std.specs.Prelude.{◌≡◌, ℕ, [], ◌≤◌, ◌<◌, ◌^◌, List, ◌++◌, ◌+◌, ◌∷◌, ◌==◌, filter, fold, length, map};
 ghost use Rattle.std.specs.Prelude.{true, false, None, Some};
 ghost use Rattle.tt_edge.specs.declared.event.Event.{Event};
-ghost use Rattle.tt_edge.specs.declared.event.Event.TheVariants.{Tick};
+ghost use Rattle.tt_edge.specs.declared.event.Event.TheVariants.{Open, Tick};
+ghost use Rattle.tt_edge.specs.declared.event.Peer.{Peer};
 ghost use Rattle.tt_edge.specs.Event.{cost_of, event_cost, is_tick, opens, ticks_in};
 ghost use Rattle.std.specs.List.{AllByRecursion, list_any};
 ghost use Rattle.tt_log.specs.Member.{Member, is_loading, is_playing};
@@ -241,6 +242,9 @@ pub fn admins_are_unseen()
     ensures players { (o : Origin) (es fs : List Event) (conn : ℕ) → (table_of o es).over ≡ false → (table_of o fs).over ≡ false
         → loud o es ≡ loud o fs → (door_of es conn ≡ Some Side → ⊥) → (door_of fs conn ≡ Some Side → ⊥)
         → heard o es conn ≡ heard o fs conn }
+    ensures sent { (o : Origin) (es fs : List Event) (conn : ℕ) → (table_of o es).over ≡ false → (table_of o fs).over ≡ false
+        → loud o es ≡ loud o fs → (door_of es conn ≡ Some Side → ⊥) → (door_of fs conn ≡ Some Side → ⊥)
+        → sent o es conn ≡ sent o fs conn }
 {}
 
 /// An admin that has not joined is told nothing but the protocol and the game, where it joins, why it ends, and that the game
@@ -248,6 +252,9 @@ pub fn admins_are_unseen()
 pub fn who_has_not_joined_hears_little()
     ensures told { (o : Origin) (es : List Event) (e : Event) (a : Admin) → admin_of (table_of o es) a.conn ≡ Some a → a.joined ≡ false
         → AllByRecursion (IsFirstWord (says_join e a.conn)) (told o es e a.conn) }
+    // Who comes in is told at most that there is no room, or that the game is over.
+    ensures opened { (o : Origin) (es : List Event) (peer : Peer)
+        → AllByRecursion (IsFirstWord false) (told o es (Open Side peer) ((table_of o es).openings + 1)) }
     ensures few { (o : Origin) (es : List Event) → length (table_of o es).admins ≤ most_admins }
 {}
 

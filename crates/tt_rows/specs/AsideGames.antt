@@ -5,10 +5,10 @@ use Rattle.tt_edge.specs.declared.event.Event.{Event}
 use Rattle.tt_edge.specs.declared.event.Event.TheVariants.{Open, Packet, Tick}
 use Rattle.tt_world.specs.Setup.{plain}
 use Rattle.tt_world.specs.declared.setup.Setup.{Setup}
-use Rattle.tt_world.specs.declared.command.Code.TheVariants.{Pause, NewCompany}
+use Rattle.tt_world.specs.declared.command.Code.TheVariants.{RenameCompany, Pause, NewCompany}
 use Rattle.tt_log.specs.Origin.{Origin}
 use Rattle.tt_rows.specs.Words.{made_from, with_companies, world, entry, hex, says, opens, ann, spectates, founds, asks_for_map, has_loaded}
-use Rattle.tt_rows.specs.Words.{acknowledges}
+use Rattle.tt_rows.specs.Words.{bob, joins, acknowledges, renames_company, wants_name, moves_to, quits}
 use Rattle.tt_rows.specs.Games.{Game}
 
 -- a connection opens at the side door
@@ -30,11 +30,15 @@ admin_joins conn = says conn (codes "0c0000707700636c69003100")
 abbrev pub commands : ℕ → List ℕ → Event
 commands conn line = Packet conn 5 (line ++ 0 ∷ [])
 
--- PROTOCOL and WELCOME, on a day below 256
-abbrev pub welcomed_on : ℕ → List ℕ
-welcomed_on day =
+-- PROTOCOL and WELCOME, on a day with these two low bytes
+abbrev pub welcomed_at : ℕ → ℕ → List ℕ
+welcomed_at low high =
     hex (codes "370067030100003f00010100410001020041000103003d000104003d0001050040000106004000010700010001080040000109004000")
-    ++ hex (codes "001c006847616d650031332e340001000000000000") ++ day ∷ hex (codes "00000000010001")
+    ++ hex (codes "001c006847616d650031332e340001000000000000") ++ low ∷ high ∷ hex (codes "000000010001")
+
+-- on a day below 256
+abbrev pub welcomed_on : ℕ → List ℕ
+welcomed_on day = welcomed_at day 0
 
 -- An admin joins, and is answered its PING.
 abbrev pub joins_and_pings : Game
@@ -93,8 +97,11 @@ pauses_the_world = record {
   origin = guarded_game;
   events = opens_aside ∷ admin_joins 1 ∷ says 1 (codes "07000206004000") ∷ says 1 (codes "07000208004000") ∷ commands 1 (codes "pause")
       ∷ Tick ∷ [];
-  conns = (welcomed_on 0 ++ hex (codes "0f007961646d696e0070617573650008007800006f6b0009007d7061757365000e007f01000000ff070001000000"), true)
-      ∷ [];
+  conns = (
+    welcomed_on 0 ++ hex (codes "0f007961646d696e0070617573650008007800006f6b0009007d706175736500")
+        ++ hex (codes "0e007f01000000ff070001000000"),
+    true,
+  ) ∷ [];
   journal = entry 1 1 255 Pause 1 0 [] ∷ [];
   frames = (1, 1);
 }
@@ -143,15 +150,12 @@ lists_companies = record {
   frames = (0, 0);
 }
 
--- Sixteen admins are there, and the next one is told that there is no room.
-abbrev pub comes_seventeenth : Game
-comes_seventeenth = record {
-  origin = guarded_game;
-  events = replicate 17 opens_aside;
-  conns = replicate 16 ([], true) ++ (hex (codes "030064"), false) ∷ [];
-  journal = [];
-  frames = (0, 0);
-}
+-- Seventeen come in: sixteen are admins, and the last one is told that there is no room.
+abbrev pub seventeen : List Event
+seventeen = replicate 17 opens_aside
+
+abbrev pub told_full : List ℕ
+told_full = hex (codes "030064")
 
 -- The server says something to all that play, and to the admins that watch chats; it comes behind the answer.
 abbrev pub says_to_all : Game
@@ -166,4 +170,79 @@ says_to_all = record {
   ) ∷ [];
   journal = [];
   frames = (0, 0);
+}
+
+-- One JOIN is enough.
+abbrev pub joins_twice : Game
+joins_twice = record {
+  origin = guarded_game;
+  events = opens_aside ∷ admin_joins 1 ∷ admin_joins 1 ∷ [];
+  conns = (welcomed_on 0 ++ hex (codes "04006607"), false) ∷ [];
+  journal = [];
+  frames = (0, 0);
+}
+
+-- Those that watch clients see them come, play, change, be it to the same, and go.
+abbrev pub sees_a_client : Game
+sees_a_client = record {
+  origin = guarded_game;
+  events = opens_aside ∷ admin_joins 1 ∷ says 1 (codes "07000201004000") ∷ opens ∷ spectates 2 ann ∷ asks_for_map 2 ∷ Tick ∷ has_loaded 2
+      ∷ acknowledges 2 1 ∷ wants_name 2 bob ∷ moves_to 2 255 [] ∷ quits 2 ∷ [];
+  conns = (
+    welcomed_on 0 ++ hex (codes "0c006d02000000416e6e00ff07006c020000000c006e02000000426f6200ff0c006e02000000426f6200ff07006f02000000"),
+    true,
+  ) ∷ [];
+  journal = [];
+  frames = (1, 1);
+}
+
+-- A company is renamed, and those that watch companies see its new name.
+abbrev pub sees_a_name : Game
+sees_a_name = record {
+  origin = with_companies 1 guarded;
+  events = opens_aside ∷ admin_joins 1 ∷ says 1 (codes "07000202004000") ∷ opens ∷ joins 2 ann 0 ∷ asks_for_map 2 ∷ Tick ∷ has_loaded 2
+      ∷ acknowledges 2 1 ∷ renames_company 2 0 (codes "Acme") ∷ Tick ∷ [];
+  conns = (welcomed_on 0 ++ hex (codes "14007300") ++ codes "Acme" ++ 0 ∷ codes "President" ++ 0 ∷ 0 ∷ [], true) ∷ [];
+  journal = entry 2 2 0 RenameCompany 0 0 (codes "Acme") ∷ [];
+  frames = (2, 2);
+}
+
+-- The 360th day is one that is told annually; the 31st is none that is told monthly.
+abbrev pub is_told_annually : Game
+is_told_annually = record {
+  origin = record { setup = guarded; start = world (0, 0) 359 73 false [] [] };
+  events = opens_aside ∷ admin_joins 1 ∷ says 1 (codes "07000200002000") ∷ Tick ∷ [];
+  conns = (welcomed_at 103 1 ++ hex (codes "07006b68010000"), true) ∷ [];
+  journal = [];
+  frames = (1, 1);
+}
+
+abbrev pub is_not_told_monthly : Game
+is_not_told_monthly = record {
+  origin = record { setup = guarded; start = world (0, 0) 30 73 false [] [] };
+  events = opens_aside ∷ admin_joins 1 ∷ says 1 (codes "07000200000800") ∷ Tick ∷ [];
+  conns = (welcomed_on 30, true) ∷ [];
+  journal = [];
+  frames = (1, 1);
+}
+
+-- The welcomed clients are listed.
+abbrev pub lists_clients : Game
+lists_clients = record {
+  origin = guarded_game;
+  events = opens ∷ spectates 1 ann ∷ opens_aside ∷ admin_joins 2 ∷ commands 2 (codes "clients") ∷ [];
+  conns = (hex (codes "0e000c0200000000000000747400"), true)
+      ∷ (welcomed_on 0 ++ hex (codes "0f00780000") ++ codes "2 255 Ann" ++ 0 ∷ hex (codes "0b007d636c69656e747300"), true) ∷ [];
+  journal = [];
+  frames = (0, 0);
+}
+
+-- `unpause`: a paused world goes on.
+abbrev pub goes_on : Game
+goes_on = record {
+  origin = record { setup = guarded; start = world (0, 0) 0 0 true [] [] };
+  events = opens_aside ∷ admin_joins 1 ∷ commands 1 (codes "unpause") ∷ Tick ∷ [];
+  conns = (welcomed_on 0 ++ hex (codes "08007800006f6b000b007d756e706175736500"), true) ∷ [];
+  journal = entry 1 1 255 Pause 0 0 [] ∷ [];
+  frames = (1, 1);
 }

@@ -1,3 +1,6 @@
+use Rattle.std.proofs.Common.{List, ap}
+use Rattle.std.specs.Prelude.{flat_map}
+use Rattle.tt_log.specs.Deed.{Said, spelled}
 use Rattle.tt_log.proofs.Unseen.{quiet-table, quiet-silent, agree-all, players-agree}
 use Rattle.tt_log.proofs.laws.admins_are_unseen.Goals as goal
 
@@ -12,3 +15,7 @@ returns-clause-tables c o es fs going here is = (agree-all o es fs going here is
 
 pub returns-clause-players : goal.returns-clause-players
 returns-clause-players c o es fs conn going here is apart away = players-agree o es fs conn going here is apart away
+
+pub returns-clause-sent : goal.returns-clause-sent
+returns-clause-sent c o es fs conn going here is apart away =
+    ap (λ (said : List Said). flat_map spelled said) (players-agree o es fs conn going here is apart away)

@@ -1,4 +1,4 @@
-use Rattle.tt_rows.proofs.AsideComputed.{computed}
+use Rattle.tt_rows.proofs.AsideComputed.{computed, full}
 use Rattle.tt_rows.proofs.aside.admins_come_to.Goals as goal
 
 pub returns-clause-joins_and_pings : goal.returns-clause-joins_and_pings
@@ -28,8 +28,35 @@ returns-clause-sees_a_company c = computed.7
 pub returns-clause-lists_companies : goal.returns-clause-lists_companies
 returns-clause-lists_companies c = computed.8
 
-pub returns-clause-comes_seventeenth : goal.returns-clause-comes_seventeenth
-returns-clause-comes_seventeenth c = computed.9
-
 pub returns-clause-says_to_all : goal.returns-clause-says_to_all
-returns-clause-says_to_all c = computed.10
+returns-clause-says_to_all c = computed.9
+
+pub returns-clause-joins_twice : goal.returns-clause-joins_twice
+returns-clause-joins_twice c = computed.10
+
+pub returns-clause-sees_a_client : goal.returns-clause-sees_a_client
+returns-clause-sees_a_client c = computed.11
+
+pub returns-clause-sees_a_name : goal.returns-clause-sees_a_name
+returns-clause-sees_a_name c = computed.12
+
+pub returns-clause-is_told_annually : goal.returns-clause-is_told_annually
+returns-clause-is_told_annually c = computed.13
+
+pub returns-clause-is_not_told_monthly : goal.returns-clause-is_not_told_monthly
+returns-clause-is_not_told_monthly c = computed.14
+
+pub returns-clause-lists_clients : goal.returns-clause-lists_clients
+returns-clause-lists_clients c = computed.15
+
+pub returns-clause-goes_on : goal.returns-clause-goes_on
+returns-clause-goes_on c = computed.16
+
+pub returns-clause-full : goal.returns-clause-full
+returns-clause-full c = full.0
+
+pub returns-clause-ended : goal.returns-clause-ended
+returns-clause-ended c = full.1
+
+pub returns-clause-sixteenth : goal.returns-clause-sixteenth
+returns-clause-sixteenth c = full.2
