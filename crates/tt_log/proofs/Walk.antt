@@ -2,7 +2,8 @@
 -- that holds of each part that rules are made of, and joins, holds of every event.
 use Rattle.std.proofs.Common.{◌≡◌, ◌⊎◌, inl, inr, ℕ, ◌+◌, ◌≤◌, List, [], ◌∷◌, ◌++◌, refl, ap, sym, ◌∙◌, subst, true, false, Bool}
 use Rattle.std.proofs.Common.{Option, Some, None, arith, zero, suc, ◌<◌, append-nil}
-use Rattle.std.specs.Prelude.{is_some, min, position, slice_index, ◌*◌, ◌==◌, drop, take, length, nat_lt, nat_le, map, filter, cond, ◌%◌, not}
+use Rattle.std.specs.Prelude.{is_some, min, position, slice_index, ◌*◌, ◌==◌, drop, take, length, nat_lt, nat_le, map, filter, cond, ◌%◌}
+use Rattle.std.specs.Prelude.{not}
 use Rattle.std.specs.Prelude.{◌&&◌, ◌||◌}
 use Rattle.std.specs.List.{AllByRecursion}
 use Rattle.std.proofs.Math.Nat.{min-le_right}
@@ -531,7 +532,8 @@ module _ (o : Origin) (e : Event) (P : Table → List Step → Table → Type 0)
     -- ---- the side door
 
     of-admin-ends : (t : Table) (a : Admin) (code : ℕ) → OnAdmin t a → code ≤ 20 → Of t (admin_ends a code t)
-    of-admin-ends t a code on low = of-then w.base t _ (admin_leaves a) (w.base.tells_admins t (a.conn ∷ []) (Message (admins.ServerError code))
+    of-admin-ends t a code on low = of-then w.base t _ (admin_leaves a) (w.base.tells_admins t (a.conn ∷ []) (Message
+        (admins.ServerError code))
         (record { within = λ c h. (among-conn w.base c t.admins a on h, tt); turn = inr (a.conn, refl, inr (code, refl)) }) low)
         (w.goes_aside t a on)
 
@@ -569,7 +571,8 @@ module _ (o : Origin) (e : Event) (P : Table → List Step → Table → Type 0)
         (polls-known o e kind id t)
     of-admin-does (admins.AdminChat scope to text) t a on own still says = of-chats t 1 scope to text (inr (inl (refl, to, says)))
     of-admin-does (admins.AdminRcon text) t a on own still says = of-obeys (command_in text) text t a on own still says refl
-    of-admin-does (admins.AdminPing id) t a on own still says = of-reports w.base (Message (admins.ServerPong id) ∷ []) t a on own (says, tt)
+    of-admin-does (admins.AdminPing id) t a on own still says = of-reports w.base (Message (admins.ServerPong id) ∷ []) t a on own
+        (says, tt)
     of-admin-does other t a on own still says = w.base.still t
 
     -- a packet spells this, or nothing
@@ -587,7 +590,8 @@ module _ (o : Origin) (e : Event) (P : Table → List Step → Table → Type 0)
     of-admin-verdict Allowed said t a on own still says low = of-admin-said said t a on own still says
     of-admin-verdict (Ends code) said t a on own still says low = of-admin-ends t a code on low
 
-    pub of-admin-hears : (said : Option AdminMsg) (t : Table) (a : Admin) → OnAdmin t a → Names e a.conn → is_tick e ≡ false → IsPacketAside said
+    pub of-admin-hears : (said : Option AdminMsg) (t : Table) (a : Admin) → OnAdmin t a → Names e a.conn → is_tick e ≡ false
+        → IsPacketAside said
         → Of t (admin_hears o said a t)
     of-admin-hears said t a on own still says =
         of-admin-verdict (admin_judged o a said) said t a on own still says (admin-judged-code o a said)

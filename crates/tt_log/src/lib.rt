@@ -13,7 +13,7 @@
 //! specs/ from `Origin` to `Shown`, in the order in which a reader needs them. A rule is a function from a table to a table
 //! and what is told (`Deed`), and rules are joined one behind the other. Admins have files of their own (`Admin`,
 //! `Watching`, `Polls`, `Console`, `Desk`, `Reports`): the rules of those that play have one hook for each thing that admins
-//! see. `laws` has what follows from all of them.
+//! see. `laws` and `facts` have what follows from all of them.
 #![tactic(auto)]
 
 pub mod deed;
