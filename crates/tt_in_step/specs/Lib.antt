@@ -1,0 +1,4 @@
+-- The server as one connection sees it
+pub mod Watched
+-- Streams of bytes
+pub mod Fed

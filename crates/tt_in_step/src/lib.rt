@@ -1,0 +1,2 @@
+//! In step: whatever reaches the game server, in whatever order, the client on each of its connections is in step.
+#![tactic(auto)]
