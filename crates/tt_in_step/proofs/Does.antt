@@ -33,7 +33,7 @@ use Rattle.tt_in_step.proofs.Lines.{Line, LineBut, in_line, line-put}
 abbrev pub altered : Member → ℕ × ℕ → List ℕ → Table → Table
 altered n words queue t = record t { members = put n t.members; tokens = words; queue = queue }
 
-put-ordered : (t : Table) (n m : Member) → On t m → n.conn ≡ m.conn → n.client ≡ m.client → Ordered t
+pub put-ordered : (t : Table) (n m : Member) → On t m → n.conn ≡ m.conn → n.client ≡ m.client → Ordered t
     → IsOrdered t.openings t.clients (conns (put n t.members)) (clients (put n t.members)) (admin_conns t.admins)
 put-ordered t n m on conn client h = rw (put-conns n t.members, put-clients 0 n m t.members h.rise on conn client) h
 
@@ -169,7 +169,7 @@ module _ (o : Origin) (f : Filling) (c : ℕ) where
         (seen_as t.frame t.top t.journal (nat_le c t.openings) (Some y)) end
     pub fit : FitsAt o t.frame t.journal y end
 
-  seen_same : (t : Table) (x y : Option Seat) → x ≡ y
+  pub seen_same : (t : Table) (x y : Option Seat) → x ≡ y
       → seen_as t.frame t.top t.journal (nat_le c t.openings) x ≡ seen_as t.frame t.top t.journal (nat_le c t.openings) y
   seen_same t x y e = ap (λ z. seen_as t.frame t.top t.journal (nat_le c t.openings) z) e
 
@@ -178,7 +178,7 @@ module _ (o : Origin) (f : Filling) (c : ℕ) where
 
   pub does-turn : (words : ℕ × ℕ) (queue : List ℕ) (t : Table) (place : Place) (m n : Member) (ws : List What) → On t m → n.conn ≡ m.conn
       → n.client ≡ m.client → Base t place
-      → (FitsAt o t.frame t.journal (seat_of m) place → Turns t place (all_said o f ws) (seat_of m) (seat_of n))
+      → ((m.conn == c) ≡ true → FitsAt o t.frame t.journal (seat_of m) place → Turns t place (all_said o f ws) (seat_of m) (seat_of n))
       → Does Base t place (record { table = altered n words queue t; told = alone m.conn ws })
   does-turn words queue t place m n ws on conn client h turns = by (m.conn == c) refl
     where
@@ -190,7 +190,7 @@ module _ (o : Origin) (f : Filling) (c : ℕ) where
           let own : (n.conn == c) ≡ true = ap (λ (k : ℕ). k == c) conn ∙ is in
           let now : seat c (put n t.members) ≡ Some (seat_of n) =
           put-here c n t.members own (ap (λ (x : Option Seat). is_some x) was) in
-          let turn = turns (subst (λ x. Fitting o t.frame t.journal (nat_le c t.openings) x place) was h.fits) in
+          let turn = turns is (subst (λ x. Fitting o t.frame t.journal (nat_le c t.openings) x place) was h.fits) in
           record {
             end = turn.end;
             way = way-is place turn.end _ _ _ _ _ _ turn.way (sym (alone-own c m.conn o f ws is)) (seen_same t _ _ (sym was))
@@ -218,7 +218,7 @@ module _ (o : Origin) (f : Filling) (c : ℕ) where
   pub tied-turn : (words : ℕ × ℕ) (t : Table) (place : Place) (m n : Member) (ws : List What) → On t m → n.conn ≡ m.conn
       → n.client ≡ m.client → Tied t place → (in_line (Some (seat_of m)) ≡ true → in_line (Some (seat_of n)) ≡ true)
       → (Some (seat_of m) ≡ Some InQueue → Some (seat_of n) ≡ Some InQueue)
-      → (FitsAt o t.frame t.journal (seat_of m) place → Turns t place (all_said o f ws) (seat_of m) (seat_of n))
+      → ((m.conn == c) ≡ true → FitsAt o t.frame t.journal (seat_of m) place → Turns t place (all_said o f ws) (seat_of m) (seat_of n))
       → Does Tied t place (record { table = altered n words t.queue t; told = alone m.conn ws })
   tied-turn words t place m n ws on conn client h stands waits turns =
       let was : seat n.conn t.members ≡ Some (seat_of m) =
@@ -239,4 +239,4 @@ module _ (o : Origin) (f : Filling) (c : ℕ) where
       → seat_of n ≡ seat_of m → Tied t place → Does Tied t place (becomes (altered n words t.queue t))
   tied-same words t place m n on conn client same h =
       tied-turn words t place m n [] on conn client h (λ stands. ap (λ (x : Seat). in_line (Some x)) same ∙ stands)
-      (λ waits. ap (λ (x : Seat). Some x) same ∙ waits) (λ fit. same-turns t place (seat_of m) (seat_of n) same fit)
+      (λ waits. ap (λ (x : Seat). Some x) same ∙ waits) (λ own fit. same-turns t place (seat_of m) (seat_of n) same fit)

@@ -6,3 +6,7 @@ pub mod Pieces
 pub mod Lines
 pub mod Does
 pub mod Queueing
+pub mod Ending
+pub mod Packets
+pub mod Frames
+pub mod Ticks

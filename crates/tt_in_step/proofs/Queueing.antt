@@ -112,7 +112,7 @@ module _ (o : Origin) (reads : MapsAreRead o) (f : Filling) (c : ℕ) where
       put-here z n t.members (eq-eqb m.conn z own) (ap (λ (y : Option Seat). is_some y) w) in
       does-where o f c (Begun z t) (is_in MapWait m) (begins_for m) t place still (λ yes.
       does-so o f c (Base o f c) (Begun z t) t place (begins_for m t)
-      (does-turn o f c t.tokens t.queue t place m n (MapBegin ∷ []) (on-found t z m is) refl refl h (λ fit. begin-turns t place m h at fit))
+      (does-turn o f c t.tokens t.queue t place m n (MapBegin ∷ []) (on-found t z m is) refl refl h (λ own fit. begin-turns t place m h at fit))
       (λ end k. record {
         base = k;
         here = ap in_line now;
@@ -265,5 +265,5 @@ module _ (o : Origin) (reads : MapsAreRead o) (f : Filling) (c : ℕ) where
       let now : Waits u.members m.conn =
       put-here m.conn n t.members (eq-eqb m.conn m.conn refl) (ap (λ (x : Option Seat). is_some x) was) in
       does-then o f c (Base o f c) (Tied o f c) t place (becomes u) (moved_up (length q) (m.conn ∷ []))
-      (does-turn o f c t.tokens (q ++ m.conn ∷ []) t place m n [] on refl refl h.base (λ fit. ask-turns t place (seat_of m) is fit))
+      (does-turn o f c t.tokens (q ++ m.conn ∷ []) t place m n [] on refl refl h.base (λ own fit. ask-turns t place (seat_of m) is fit))
       (λ end k. asked q t u end m.conn refl k line (out-of-line m.conn t.members q out h.line) now)

@@ -202,6 +202,9 @@ plays-rank DoneMap f k = refl
 plays-rank PreActive f k = refl
 plays-rank Active f k = refl
 
+pub plays-member : (m : Member) → is_playing m ≡ plays_at (seat_of m)
+plays-member m = plays-rank m.status m.map_frame m.pieces
+
 playing-one : (b d : Bool) (c : ℕ) (m : Member) (few : List Member) (old : Option Seat) → is_playing m ≡ b → (m.conn == c) ≡ d
     → (d ≡ true → among c (conns few) ≡ false) → among c (conns few) ≡ plays old
     → among c (conns (cond b (m ∷ few) few)) ≡ plays (cond d (Some (seat_of m)) old)
