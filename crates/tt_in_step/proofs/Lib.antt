@@ -10,3 +10,6 @@ pub mod Ending
 pub mod Packets
 pub mod Frames
 pub mod Ticks
+pub mod Shorts
+pub mod Histories
+pub mod Promises

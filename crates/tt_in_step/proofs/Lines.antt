@@ -9,7 +9,7 @@ use Rattle.tt_log.proofs.Lists.{NotIn, all-append, all-so}
 use Rattle.tt_log.proofs.Crew.{put}
 use Rattle.tt_log.proofs.Phases.{removed, none-removed, OnceIn}
 use Rattle.tt_in_step.specs.Watched.{Seat, AtDoor, Welcome, InQueue, Loads, HasMap, Plays, seat_of, seat}
-use Rattle.tt_in_step.proofs.Seats.{among, put-here, put-other}
+use Rattle.tt_in_step.proofs.Seats.{among, put-here, put-other, more-there}
 
 abbrev pub in_line : Option Seat → Bool
 in_line (Some InQueue) = true
@@ -78,6 +78,14 @@ line-but x ms ns (y ∷ ys) same h = (
   all-so (Waits ms) (Or (Waits ns) x) ys (λ d w. or-by (Waits ms) (Waits ns) (x == d) x d refl (λ apart w. same d apart ∙ w) w) h.1,
   h.2,
 )
+
+-- one more is there
+pub line-more : (ms : List Member) (n : Member) (q : List ℕ) → Line ms q → Line (ms ++ n ∷ []) q
+line-more ms n q h = line-so ms (ms ++ n ∷ []) q (λ d s. by (seat d ms) d refl s) (λ d w. more-there d ms n InQueue w) h
+  where
+    by : (x : Option Seat) (d : ℕ) → seat d ms ≡ x → in_line x ≡ true → Stands (ms ++ n ∷ []) d
+    by None d is s = absurd cc
+    by (Some x) d is s = ap in_line (more-there d ms n x is) ∙ s
 
 -- ---- who stands nowhere
 

@@ -99,6 +99,15 @@ more-here c (m ∷ ms) n own none = by (m.conn == c) none (λ t. more-here c ms 
     by true t next = absurd cc
     by false t next = next t
 
+pub more-there : (c : ℕ) (ms : List Member) (n : Member) (x : Seat) → seat c ms ≡ Some x → seat c (ms ++ n ∷ []) ≡ Some x
+more-there c [] n x is = absurd cc
+more-there c (m ∷ ms) n x is = by (m.conn == c) is (λ t. more-there c ms n x t)
+  where
+    by : (b : Bool) → cond b (Some (seat_of m)) (seat c ms) ≡ Some x → (seat c ms ≡ Some x → seat c (ms ++ n ∷ []) ≡ Some x)
+        → cond b (Some (seat_of m)) (seat c (ms ++ n ∷ [])) ≡ Some x
+    by true t next = t
+    by false t next = next t
+
 -- ---- who is found, and who is there
 
 found-one : (b : Bool) (d : ℕ) (n m : Member) (ms : List Member) → (n.conn == d) ≡ b

@@ -1,14 +1,21 @@
 -- The server as one connection sees it, and what the connection is told, as messages.
 use Rattle.std.specs.Prelude.{ℕ, nat_le, Bool, if◌then◌else◌, ◌==◌, cond, List, [], ◌∷◌, Option, Some, None}
+use Rattle.tt_edge.specs.declared.event.Event.{Event}
+use Rattle.tt_lockstep.specs.Told.{Told, Command}
+use Rattle.tt_lockstep.specs.Dialog.{things}
 use Rattle.tt_lockstep.specs.Server.{Server, Stage, BeforeMap, Loading, Loaded, Playing, Gone}
 use Rattle.tt_game.specs.declared.message.GameMsg.{GameMsg}
 use Rattle.tt_world.specs.declared.command.Entry.{Entry}
+use Rattle.tt_world.specs.World.{WorldState}
 use Rattle.tt_rules.specs.declared.status.Status.{Status}
 use Rattle.tt_rules.specs.declared.status.Status.TheVariants.{Inactive, NewgrfsCheck, AuthGame, AuthCompany, Authorized, MapWait, Map}
 use Rattle.tt_rules.specs.declared.status.Status.TheVariants.{DoneMap, PreActive, Active}
 use Rattle.tt_log.specs.Member.{Member}
 use Rattle.tt_log.specs.Table.{Table}
 use Rattle.tt_log.specs.Deed.{Said, game, admin}
+use Rattle.tt_log.specs.Origin.{Origin}
+use Rattle.tt_log.specs.Told.{heard}
+use Rattle.tt_log.specs.Shown.{Asking, dialog}
 
 -- what lockstep cares of a member: how far it has come, of its map the frame, and how many pieces were told
 pub data Seat : Type 0 where
@@ -63,3 +70,13 @@ abbrev pub game_messages : List Said → List GameMsg
 game_messages [] = []
 game_messages (game m ∷ said) = m ∷ game_messages said
 game_messages (admin m ∷ said) = game_messages said
+
+-- what a connection is told, as lockstep sees it: one thing for each message
+abbrev pub things_told : Origin → List Event → ℕ → List (Told WorldState Entry)
+things_told o events conn = things dialog Asking (game_messages (heard o events conn))
+
+-- the entries among things
+abbrev pub entries_in : List (Told WorldState Entry) → List Entry
+entries_in [] = []
+entries_in (Command e ∷ ts) = e ∷ entries_in ts
+entries_in (t ∷ ts) = entries_in ts
