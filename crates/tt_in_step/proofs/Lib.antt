@@ -13,3 +13,5 @@ pub mod Ticks
 pub mod Shorts
 pub mod Histories
 pub mod Promises
+pub mod Bytes
+pub mod Phases

@@ -211,6 +211,21 @@ plays-rank DoneMap f k = refl
 plays-rank PreActive f k = refl
 plays-rank Active f k = refl
 
+high-by : (s : Status) (f k : ℕ) → nat_le 8 (rank s) ≡ true → seat_at s f k ≡ Plays f
+high-by Inactive f k is = absurd cc
+high-by NewgrfsCheck f k is = absurd cc
+high-by AuthGame f k is = absurd cc
+high-by AuthCompany f k is = absurd cc
+high-by Authorized f k is = absurd cc
+high-by MapWait f k is = absurd cc
+high-by Map f k is = absurd cc
+high-by DoneMap f k is = absurd cc
+high-by PreActive f k is = refl
+high-by Active f k is = refl
+
+pub high-seat : (m : Member) → is_playing m ≡ true → seat_of m ≡ Plays m.map_frame
+high-seat m is = high-by m.status m.map_frame m.pieces is
+
 pub plays-member : (m : Member) → is_playing m ≡ plays_at (seat_of m)
 plays-member m = plays-rank m.status m.map_frame m.pieces
 

@@ -8,6 +8,7 @@ use Rattle.tt_game.specs.Messages.{Spells}
 use Rattle.tt_game.specs.Apart.{kind_of, body_bytes}
 use Rattle.tt_world.specs.declared.command.Entry.{Entry}
 use Rattle.tt_world.specs.World.{WorldState}
+use Rattle.tt_log.specs.Deed.{Said, game, admin}
 use Rattle.tt_log.specs.Shown.{things_in}
 
 -- the calls of a client that was fed these bytes before
@@ -27,3 +28,8 @@ IsSpelled m = Spells m (kind_of m) (body_bytes m)
 
 abbrev pub AreSpelled : List GameMsg → Type 0
 AreSpelled ms = AllByRecursion IsSpelled ms
+
+-- a message of the game
+abbrev pub IsOfGame : Said → Type 0
+IsOfGame (game m) = Unit
+IsOfGame (admin m) = ⊥
