@@ -44,6 +44,11 @@ sent-is [] a = refl
 sent-is (game m ∷ said) a = ap (λ (bs : List ℕ). packet (kind_of m) (body_bytes m) ++ bs) (sent-is said a.1)
 sent-is (admin m ∷ said) a = absurd a.0
 
+pub all-spelled : (said : List Said) → AllByRecursion IsOfGame said → AreSpelled (game_messages said)
+all-spelled [] a = tt
+all-spelled (game m ∷ said) a = (a.0, all-spelled said a.1)
+all-spelled (admin m ∷ said) a = absurd a.0
+
 within : (m : GameMsg) → IsSpelled m → IsWithin 32767 (packet_for m)
 within m s = record { size = spelled_size GameMsg game_family game_lawful m (kind_of m) (body_bytes m) s }
 

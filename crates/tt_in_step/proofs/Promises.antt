@@ -1,7 +1,7 @@
 -- The promises: of every origin, every list of events and every connection.
 use Rattle.std.proofs.Common.{◌≡◌, ◌⊎◌, ℕ, ◌+◌, ◌<◌, ◌≤◌, Bool, true, false, List, [], ◌∷◌, ◌++◌, length, Option, Some, None, refl, ap, sym, ◌∙◌}
 use Rattle.std.proofs.Common.{subst, arith, append-nil, append_assoc}
-use Rattle.std.specs.Prelude.{nat_le, nat_lt, Ok, if◌then◌else◌}
+use Rattle.std.specs.Prelude.{◌^◌, nat_le, nat_lt, Ok, if◌then◌else◌}
 use Rattle.std.specs.List.{AllByRecursion}
 use Rattle.tt_edge.specs.declared.event.Event.{Event}
 use Rattle.tt_world.specs.declared.command.Entry.{Entry}
@@ -16,7 +16,12 @@ use Rattle.tt_lockstep.specs.Shown.{Joining, Running, View, SyncPoint, shown, se
 use Rattle.tt_lockstep.specs.Client.{Call, Following, fed, is_recent, run, unfed}
 use Rattle.tt_lockstep.specs.InStep.{IsInStep}
 use Rattle.tt_lockstep.specs.Runner.{IsRunnerInStep, RunnerJoining, runner_run}
-use Rattle.tt_lockstep.specs.Facts.{Agrees, Fits, ViewAgrees, IsInPlay, SyncAgrees}
+use Rattle.tt_frame.specs.Text.{IsName}
+use Rattle.tt_world.specs.declared.setup.Setup.{Setup}
+use Rattle.tt_world.specs.Setup.{Fits}
+use Rattle.tt_log.specs.Saved.{IsSaved}
+use Rattle.tt_lockstep.specs.Facts as facts
+use Rattle.tt_lockstep.specs.Facts.{Agrees, ViewAgrees, IsInPlay, SyncAgrees}
 use Rattle.tt_lockstep.specs.Leads.{Leads}
 use Rattle.tt_lockstep.proofs.Leading.{led_in_step}
 use Rattle.tt_lockstep.proofs.Servers.{kept_from_start}
@@ -30,6 +35,16 @@ use Rattle.tt_log.specs.History.{table_of, journal_of, AreEvents}
 use Rattle.tt_log.proofs.Counting.{is-low}
 use Rattle.tt_in_step.specs.Watched.{Seat, AtDoor, Welcome, InQueue, Loads, HasMap, Plays, seat_of, seat, stage_at, stage_of, watched, things_told}
 use Rattle.tt_in_step.specs.Watched.{entries_in}
+use Rattle.tt_in_step.specs.Watched.{game_messages}
+use Rattle.tt_frame.specs.Packet.{IsBytes}
+use Rattle.tt_lockstep.specs.Wire.{PieceCall, fed_bytes}
+use Rattle.tt_log.specs.Told.{heard, sent}
+use Rattle.tt_log.specs.Shown.{things_in}
+use Rattle.tt_log.specs.Shown as book
+use Rattle.tt_log.proofs.ShownLaws.{is-seen}
+use Rattle.tt_in_step.specs.Fed.{IsPlayer, AreSpelled, calls_of}
+use Rattle.tt_in_step.proofs.Bytes.{sent-is, all-spelled, stream_for, front-things, fed-pieces}
+use Rattle.tt_in_step.proofs.Phases.{agrees-not-wrong, wrong-seen}
 use Rattle.tt_in_step.proofs.Seats.{found-seat, plays_at, plays-member, high-seat}
 use Rattle.tt_in_step.proofs.Worlds.{MapsAreMaps, maps_are_read}
 use Rattle.tt_in_step.proofs.Shorts.{Short}
@@ -120,6 +135,19 @@ shown-append : (o : Origin) (xs ys : List (Told WorldState Entry)) (h : lockstep
 shown-append o [] ys h = refl
 shown-append o (x ∷ xs) ys h = shown-append o xs ys (seen (game_of o) h x)
 
+-- a saved game begins with its map's world
+pub saved-game : (setup : Setup) (bytes : List ℕ) (saved : IsSaved bytes) → Fits setup → setup.seed < 2 ^ 32 → IsName setup.name
+    → IsName setup.revision → IsName setup.id → IsOrigin (record { setup = setup; start = saved.world })
+saved-game setup bytes saved fits seed name revision id = record {
+  setup = fits;
+  seed = seed;
+  name = name;
+  revision = revision;
+  id = id;
+  start = saved.is.is.told;
+  early = saved.day;
+}
+
 module _ (maps : MapsAreMaps) (o : Origin) (h : IsOrigin o) (es : List Event) (are : AreEvents es) (c : ℕ) where
   leading : Leading o (maps_are_read maps o h) (not-empty o.setup.id h.id.some) c es
   leading = led o (maps_are_read maps o h) (not-empty o.setup.id h.id.some) c es are
@@ -135,12 +163,12 @@ module _ (maps : MapsAreMaps) (o : Origin) (h : IsOrigin o) (es : List Event) (a
       → IsRunnerInStep (game_of o) (journal_of o es) (runner_run (game_of o) RunnerJoining calls)
   runs_in_step calls later e = runner_carries (game_of o) (journal_of o es) calls (in_step calls later e)
 
-  pub fits : Fits (game_of o) (journal_of o es) (table_of o es).frame (table_of o es).top (watched c (table_of o es)).stage
+  pub fits : facts.Fits (game_of o) (journal_of o es) (table_of o es).frame (table_of o es).top (watched c (table_of o es)).stage
       (shown (game_of o) Joining (things_told o es c))
   fits =
       let p = leads in
-      subst (λ ts. Fits (game_of o) (journal_of o es) (table_of o es).frame (table_of o es).top (watched c (table_of o es)).stage
-      (shown (game_of o) Joining ts)) p.stream_is (subst (λ (s : Server Entry). Fits (game_of o) s.journal s.frame s.permitted s.stage
+      subst (λ ts. facts.Fits (game_of o) (journal_of o es) (table_of o es).frame (table_of o es).top (watched c (table_of o es)).stage
+      (shown (game_of o) Joining ts)) p.stream_is (subst (λ (s : Server Entry). facts.Fits (game_of o) s.journal s.frame s.permitted s.stage
       (shown (game_of o) Joining (stream (game_of o) initial p.steps))) p.after_is (kept_from_start (game_of o) p.steps).fits)
 
   pub agrees : (front later : List (Told WorldState Entry)) → things_told o es c ≡ front ++ later
@@ -178,12 +206,12 @@ module _ (maps : MapsAreMaps) (o : Origin) (h : IsOrigin o) (es : List Event) (a
   seated : (m : Member) → member_of (table_of o es) c ≡ Some m → (watched c (table_of o es)).stage ≡ stage_at (seat_of m)
   seated m is = ap (λ (x : Option Seat). stage_of (nat_le c (table_of o es).openings) x) (found-seat c (table_of o es).members m is)
 
-  fits-stage : (m : Member) → member_of (table_of o es) c ≡ Some m → Fits (game_of o) (journal_of o es) (table_of o es).frame
+  fits-stage : (m : Member) → member_of (table_of o es) c ≡ Some m → facts.Fits (game_of o) (journal_of o es) (table_of o es).frame
       (table_of o es).top (stage_at (seat_of m)) (shown (game_of o) Joining (things_told o es c))
-  fits-stage m is = subst (λ s. Fits (game_of o) (journal_of o es) (table_of o es).frame (table_of o es).top s (shown (game_of o) Joining
+  fits-stage m is = subst (λ s. facts.Fits (game_of o) (journal_of o es) (table_of o es).frame (table_of o es).top s (shown (game_of o) Joining
       (things_told o es c))) (seated m is) fits
 
-  none-by : (x : Seat) → plays_at x ≡ false → Fits (game_of o) (journal_of o es) (table_of o es).frame (table_of o es).top (stage_at x)
+  none-by : (x : Seat) → plays_at x ≡ false → facts.Fits (game_of o) (journal_of o es) (table_of o es).frame (table_of o es).top (stage_at x)
       (shown (game_of o) Joining (things_told o es c)) → entries_in (things_told o es c) ≡ []
   none-by AtDoor idle f = all-entries o (things_told o es c) Joining f refl
   none-by Welcome idle f = all-entries o (things_told o es c) Joining f refl
@@ -200,8 +228,8 @@ module _ (maps : MapsAreMaps) (o : Origin) (h : IsOrigin o) (es : List Event) (a
   pub told-all : (m : Member) → member_of (table_of o es) c ≡ Some m → is_playing m ≡ true
       → entries_in (things_told o es c) ≡ above o m.map_frame (journal_of o es)
   told-all m is plays =
-      let f : Fits (game_of o) (journal_of o es) (table_of o es).frame (table_of o es).top (Playing m.map_frame) (shown (game_of o) Joining
-      (things_told o es c)) = subst (λ x. Fits (game_of o) (journal_of o es) (table_of o es).frame (table_of o es).top (stage_at x)
+      let f : facts.Fits (game_of o) (journal_of o es) (table_of o es).frame (table_of o es).top (Playing m.map_frame) (shown (game_of o) Joining
+      (things_told o es c)) = subst (λ x. facts.Fits (game_of o) (journal_of o es) (table_of o es).frame (table_of o es).top (stage_at x)
       (shown (game_of o) Joining (things_told o es c))) (high-seat m plays) (fits-stage m is) in
       all-entries o (things_told o es c) (Running f.0) f.1 refl ∙ f.2.entries_are
 
@@ -223,3 +251,41 @@ module _ (maps : MapsAreMaps) (o : Origin) (h : IsOrigin o) (es : List Event) (a
       by true true a = a.has g l m
       by true false a = absurd a
       by false d a = absurd a
+
+  -- ---- over bytes
+
+  module _ (player : IsPlayer o es c) where
+    spelled : AreSpelled (game_messages (heard o es c))
+    spelled = all-spelled (heard o es c) player
+
+    sent_is : sent o es c ≡ stream_for (game_messages (heard o es c))
+    sent_is = sent-is (heard o es c) player
+
+    pub tells : (bytes later : List ℕ) → IsBytes bytes → sent o es c ≡ bytes ++ later
+        → (more : List (Told WorldState Entry)) × (things_told o es c ≡ things_in bytes ++ more)
+    tells bytes later fits e = front-things (game_messages (heard o es c)) bytes later fits spelled (sym sent_is ∙ e)
+
+    pub cut_fed : (calls : List PieceCall) (later : List ℕ) → IsBytes (fed_bytes calls) → sent o es c ≡ fed_bytes calls ++ later
+        → fed (calls_of calls) ≡ things_in (fed_bytes calls)
+    cut_fed calls later fits e = fed-pieces (game_messages (heard o es c)) later calls fits spelled (sym sent_is ∙ e)
+
+    pub cut_in_step : (calls : List PieceCall) (later : List ℕ) → IsBytes (fed_bytes calls) → sent o es c ≡ fed_bytes calls ++ later
+        → IsInStep (game_of o) (journal_of o es) (run (game_of o) unfed (calls_of calls))
+    cut_in_step calls later fits e =
+        let g = tells (fed_bytes calls) later fits e in
+        in_step (calls_of calls) g.0 (g.1 ∙ ap (λ (ts : List (Told WorldState Entry)). ts ++ g.0) (sym (cut_fed calls later fits e)))
+
+    pub cut_runs_in_step : (calls : List PieceCall) (later : List ℕ) → IsBytes (fed_bytes calls) → sent o es c ≡ fed_bytes calls ++ later
+        → IsRunnerInStep (game_of o) (journal_of o es) (runner_run (game_of o) RunnerJoining (calls_of calls))
+    cut_runs_in_step calls later fits e = runner_carries (game_of o) (journal_of o es) (calls_of calls) (cut_in_step calls later fits e)
+
+    pub shows : (bytes later : List ℕ) → IsBytes bytes → sent o es c ≡ bytes ++ later
+        → Agrees (game_of o) (journal_of o es) (table_of o es).top (book.shown o bytes).seen
+    shows bytes later fits e =
+        let g = tells bytes later fits e in
+        subst (λ k. Agrees (game_of o) (journal_of o es) (table_of o es).top k) (sym (is-seen o bytes)) (agrees (things_in bytes) g.0 g.1)
+
+    pub never_wrong : (bytes later : List ℕ) (at : ℕ) → IsBytes bytes → sent o es c ≡ bytes ++ later
+        → (book.shown o bytes).phase ≡ book.WrongAt at → ⊥
+    never_wrong bytes later at fits e wrong = agrees-not-wrong (game_of o) (journal_of o es) (table_of o es).top (book.shown o bytes).seen
+        (shows bytes later fits e) (wrong-seen o bytes at wrong)

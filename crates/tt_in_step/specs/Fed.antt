@@ -1,6 +1,7 @@
 -- A client that is fed bytes in pieces, as the theorem sees it: with each piece the things that are new by it.
 use Rattle.std.specs.Prelude.{ℕ, drop, length, List, [], ◌∷◌, ◌++◌, map}
 use Rattle.std.specs.List.{AllByRecursion}
+use Rattle.tt_edge.specs.declared.event.Event.{Event}
 use Rattle.tt_lockstep.specs.Client.{Call, Feed, Advance}
 use Rattle.tt_lockstep.specs.Wire.{PieceCall, FeedPiece, AdvanceBy}
 use Rattle.tt_game.specs.declared.message.GameMsg.{GameMsg}
@@ -9,6 +10,8 @@ use Rattle.tt_game.specs.Apart.{kind_of, body_bytes}
 use Rattle.tt_world.specs.declared.command.Entry.{Entry}
 use Rattle.tt_world.specs.World.{WorldState}
 use Rattle.tt_log.specs.Deed.{Said, game, admin}
+use Rattle.tt_log.specs.Origin.{Origin}
+use Rattle.tt_log.specs.Told.{heard}
 use Rattle.tt_log.specs.Shown.{things_in}
 
 -- the calls of a client that was fed these bytes before
@@ -29,7 +32,11 @@ IsSpelled m = Spells m (kind_of m) (body_bytes m)
 abbrev pub AreSpelled : List GameMsg → Type 0
 AreSpelled ms = AllByRecursion IsSpelled ms
 
--- a message of the game
+-- what is said is a message of the game that has its spelling
 abbrev pub IsOfGame : Said → Type 0
-IsOfGame (game m) = Unit
+IsOfGame (game m) = IsSpelled m
 IsOfGame (admin m) = ⊥
+
+-- all that a connection is told is of the game: it was not opened at the side door
+abbrev pub IsPlayer : Origin → List Event → ℕ → Type 0
+IsPlayer o events conn = AllByRecursion IsOfGame (heard o events conn)
