@@ -15,3 +15,4 @@ pub mod Histories
 pub mod Promises
 pub mod Bytes
 pub mod Phases
+pub mod Computed

@@ -93,13 +93,13 @@ module _ (o : Origin) where
       → entries_of (seen (game_of o) h t) ≡ entries_of h ++ entries_in (t ∷ [])
   entries-seen lockstep.Joining (told.Map s w) going = refl
   entries-seen lockstep.Joining told.Other going = refl
-  entries-seen lockstep.Joining other going = absurd cc
+  entries-seen lockstep.Joining _ going = absurd cc
   entries-seen (lockstep.Running v) (told.Command e) going =
       entry-seen (nat_lt v.permitted e.frame) (nat_le v.last_entry e.frame) v _ e refl going
   entries-seen (lockstep.Running v) (told.Frame f max) going = frame-seen (nat_le f max) (nat_le v.permitted max) v _ refl going
   entries-seen (lockstep.Running v) (told.Sync f w) going = sym (append-nil v.entries)
   entries-seen (lockstep.Running v) told.Other going = sym (append-nil v.entries)
-  entries-seen (lockstep.Running v) other going = absurd cc
+  entries-seen (lockstep.Running v) _ going = absurd cc
   entries-seen other t going = absurd cc
 
   ended-stays : (ts : List (Told WorldState Entry)) (h : lockstep.Shown WorldState Entry) → goes_on h ≡ false

@@ -2,3 +2,7 @@
 pub mod Watched
 -- Streams of bytes
 pub mod Fed
+-- A game that begins too late
+pub mod Late
+-- Worked games
+pub mod Worked

@@ -14,10 +14,11 @@ ghost use Rattle.tt_world.specs.Setup.{Fits};
 ghost use Rattle.tt_world.specs.declared.command.Entry.{Entry};
 ghost use Rattle.tt_world.specs.World.{WorldState};
 ghost use Rattle.tt_map.specs.Layout.{map_of};
+ghost use Rattle.tt_map.specs.Maps.{IsTold};
 ghost use Rattle.tt_map.specs.Reading.{map_in};
 ghost use Rattle.tt_lockstep.specs.Told.{Frame, Sync, Told};
 ghost use Rattle.tt_lockstep.specs.Server.{initial};
-ghost use Rattle.tt_lockstep.specs.Shown.{Joining, Running, View, shown};
+ghost use Rattle.tt_lockstep.specs.Shown.{Joining, Running, View, WrongJoining, shown};
 ghost use Rattle.tt_lockstep.specs.Client.{Call, Following, fed, is_recent, run, unfed};
 ghost use Rattle.tt_lockstep.specs.InStep.{IsInStep};
 ghost use Rattle.tt_lockstep.specs.Runner.{IsRunnerInStep, RunnerJoining, runner_run};
@@ -34,6 +35,8 @@ ghost use Rattle.tt_log.specs.Shown.{things_in};
 ghost use Rattle.tt_log.specs.Shown as book;
 ghost use Rattle.tt_in_step.specs.Watched.{entries_in, things_told, watched};
 ghost use Rattle.tt_in_step.specs.Fed.{IsPlayer, calls_of};
+ghost use Rattle.tt_in_step.specs.Late.{late, late_events};
+ghost use Rattle.tt_in_step.specs.Worked.{ahead, at_once, client_of, in_step_at, stands_at, two_clients};
 
 use tt_map::one_map;
 
@@ -147,6 +150,22 @@ pub fn every_game_may_begin()
         → IsOrigin (origin_of setup) }
     ensures saved { (setup : Setup) (bytes : List ℕ) (saved : IsSaved bytes) → Fits setup → setup.seed < 2 ^ 32 → IsName setup.name
         → IsName setup.revision → IsName setup.id → IsOrigin (record { setup = setup; start = saved.world }) }
+{}
+
+/// Why a game starts no later than it may: on the last day that a map can tell, a map of the next day is refused, and an
+/// honest client is wrong.
+pub fn a_late_start_goes_wrong()
+    ensures told { IsTold late.start }
+    ensures wrong { (book.shown late (sent late late_events 1)).seen ≡ WrongJoining }
+{}
+
+/// Two games of two clients each, computed to the end of both: the second client joins in mid-stream, and each stands at the
+/// permitted frame with the word of the journal's world and one entry.
+pub fn two_games_are_in_step()
+    ensures first { stands_at at_once (client_of at_once two_clients 1) ≡ in_step_at at_once two_clients 1 }
+    ensures second { stands_at at_once (client_of at_once two_clients 2) ≡ in_step_at at_once two_clients 1 }
+    ensures first_ahead { stands_at ahead (client_of ahead two_clients 1) ≡ in_step_at ahead two_clients 1 }
+    ensures second_ahead { stands_at ahead (client_of ahead two_clients 2) ≡ in_step_at ahead two_clients 1 }
 {}
 
 #[cfg(test)]
