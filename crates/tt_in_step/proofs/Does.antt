@@ -1,14 +1,11 @@
 -- What it is that each rule of the table keeps, and how rules are joined.
-use Rattle.std.proofs.Common.{◌≡◌, ℕ, ◌≤◌, Bool, true, false, List, [], ◌∷◌, ◌++◌, nat_le, Option, Some, None, refl, ap, sym, ◌∙◌, subst}
+use Rattle.std.proofs.Common.{◌≡◌, ℕ, ◌≤◌, Bool, true, false, List, [], nat_le, Option, Some, None, refl, ap, sym, ◌∙◌, subst}
 use Rattle.std.specs.Prelude.{◌==◌, is_some}
-use Rattle.std.specs.List.{AllByRecursion}
 use Rattle.std.proofs.lemmas.Bool.{eqb-true}
 use Rattle.tt_lockstep.specs.Server.{Server}
 use Rattle.tt_lockstep.proofs.Dialogs.{Goes-on, Goes-is}
 use Rattle.tt_game.specs.declared.message.GameMsg.{GameMsg}
 use Rattle.tt_world.specs.declared.command.Entry.{Entry}
-use Rattle.tt_world.specs.World.{WorldState}
-use Rattle.tt_log.specs.declared.deed.Step.{Step}
 use Rattle.tt_log.specs.declared.deed.What.{What}
 use Rattle.tt_log.specs.declared.deed.What.TheVariants.{Msg}
 use Rattle.tt_log.specs.Origin.{Origin, game_of, world_at}
@@ -18,7 +15,6 @@ use Rattle.tt_log.specs.Deed.{Deed, ◌▹◌, where_, where_some, becomes, tell
 use Rattle.tt_log.specs.Tellings.{Filling}
 use Rattle.tt_log.specs.Events.{last_frame}
 use Rattle.tt_log.specs.Shown.{Place, dialog}
-use Rattle.tt_log.proofs.Changes.{step}
 use Rattle.tt_log.proofs.Lists.{Within, any-not}
 use Rattle.tt_log.proofs.Crew.{On, put, conns, admin_conns, put-conns}
 use Rattle.tt_log.proofs.Ordered.{Ordered, IsOrdered, put-clients, clients}
@@ -184,6 +180,7 @@ module _ (o : Origin) (f : Filling) (c : ℕ) where
     where
       sat : seat m.conn t.members ≡ Some (seat_of m)
       sat = seated t place m on h
+
       by : (b : Bool) → (m.conn == c) ≡ b → Does Base t place (record { table = altered n words queue t; told = alone m.conn ws })
       by true is =
           let was : seat c t.members ≡ Some (seat_of m) = subst (λ k. seat k t.members ≡ Some (seat_of m)) (eqb-true m.conn c is) sat in

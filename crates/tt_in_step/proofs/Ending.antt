@@ -1,11 +1,10 @@
 -- How a member ends, and how it enters the game.
-use Rattle.std.proofs.Common.{◌≡◌, ℕ, ◌+◌, ◌<◌, ◌≤◌, Bool, true, false, List, [], ◌∷◌, ◌++◌, nat_le, Option, Some, None, refl, ap, ap₂, sym}
+use Rattle.std.proofs.Common.{◌≡◌, ℕ, Bool, true, false, List, [], ◌∷◌, ◌++◌, nat_le, Option, Some, None, refl, ap, ap₂, sym}
 use Rattle.std.proofs.Common.{◌∙◌, subst, append_assoc, map}
 use Rattle.std.specs.Prelude.{◌==◌, is_some}
 use Rattle.std.specs.List.{AllByRecursion}
 use Rattle.std.proofs.lemmas.Bool.{eqb-true, eq-eqb, leb-false}
 use Rattle.tt_edge.specs.declared.event.Event.TheVariants.{Stop}
-use Rattle.tt_lockstep.specs.Server.{Server}
 use Rattle.tt_lockstep.proofs.Dialogs.{Goes-on}
 use Rattle.tt_game.specs.declared.message.GameMsg.{GameMsg}
 use Rattle.tt_game.specs.declared.message.GameMsg.TheVariants.{ServerError, ServerFrame}
@@ -31,7 +30,7 @@ use Rattle.tt_log.proofs.Crew.{On, put, put-among, others}
 use Rattle.tt_log.proofs.Ordered.{Ordered, under-not, order-moves}
 use Rattle.tt_in_step.specs.Watched.{Seat, HasMap, Plays, seat_of, seat, watched}
 use Rattle.tt_in_step.proofs.Seats.{put-other, put-here, put-same, others-here, others-other, none-seated, ranked}
-use Rattle.tt_in_step.proofs.Hearing.{hears, alone, alone-own, alone-none, all_said, says, entries-said}
+use Rattle.tt_in_step.proofs.Hearing.{alone, alone-own, alone-none, all_said, entries-said}
 use Rattle.tt_in_step.proofs.Ways.{seen_as, Way, Fitting, FitsAt, stays, IsNoise, ways-noise, way-play, way-error, way-vanish}
 use Rattle.tt_in_step.proofs.Worlds.{MapsAreRead}
 use Rattle.tt_in_step.proofs.Lines.{line-but}
@@ -207,14 +206,17 @@ module _ (o : Origin) (reads : MapsAreRead o) (f : Filling) (c : ℕ) where
       ∷ Msg (frame_told t) ∷ []) ∙ sym (append_assoc each (entries ∷ []) (frame ∷ [])) in
       let p : Does o f c (Parting o f c m.conn) t place (record { table = u; told = alone m.conn (entry_words m t) }) =
       does-becomes o f c (Base o f c) (Parting o f c m.conn) t u place (record { table = v; told = alone m.conn (entry_words m t) }) d
-      (λ end b. (seen_same o f c t _ _ (sym same), record {
-        base = record {
-          ordered = put-ordered v k n (put-among n m t.members refl on) refl refl b.ordered;
-          steady = b.steady;
-          fits = subst (λ x. Fitting o t.frame t.journal (nat_le c t.openings) x end) (sym same) b.fits;
-        };
-        but = line-but m.conn t.members (put k ms) t.queue (λ e apart. put-other e k ms apart ∙ put-other e n t.members apart) h.line;
-      })) in
+      (λ end b. (
+        seen_same o f c t _ _ (sym same),
+        record {
+          base = record {
+            ordered = put-ordered v k n (put-among n m t.members refl on) refl refl b.ordered;
+            steady = b.steady;
+            fits = subst (λ x. Fitting o t.frame t.journal (nat_le c t.openings) x end) (sym same) b.fits;
+          };
+          but = line-but m.conn t.members (put k ms) t.queue (λ e apart. put-other e k ms apart ∙ put-other e n t.members apart) h.line;
+        },
+      )) in
       let q : Does o f c (Parting o f c m.conn) t place (record { table = u; told = (each ++ entries ∷ []) ++ frame ∷ [] }) =
       subst (λ (steps : List Step). Does o f c (Parting o f c m.conn) t place (record { table = u; told = steps })) told p in
       does-then o f c (Parting o f c m.conn) (Tied o f c) t place (record { table = u; told = (each ++ entries ∷ []) ++ frame ∷ [] })

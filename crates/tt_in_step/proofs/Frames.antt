@@ -1,24 +1,24 @@
 -- FRAME: each member that plays is told it once, and all seats stay.
-use Rattle.std.proofs.Common.{◌≡◌, ℕ, ◌+◌, ◌≤◌, Bool, true, false, cond, List, [], ◌∷◌, ◌++◌, Option, Some, None, refl, ap, ap₂, sym, ◌∙◌, subst, arith}
-use Rattle.std.specs.Prelude.{◌==◌, ◌||◌, ◌&&◌, is_some, nat_le, find}
-use Rattle.std.proofs.lemmas.Bool.{eqb-true, eq-eqb}
+use Rattle.std.proofs.Common.{◌≡◌, ℕ, Bool, true, false, cond, List, [], ◌∷◌, ◌++◌, Option, Some, None, refl, ap, ap₂, sym, ◌∙◌, subst, arith}
+use Rattle.std.specs.Prelude.{◌==◌, ◌||◌, ◌&&◌, find}
+use Rattle.std.proofs.lemmas.Bool.{eqb-true}
 use Rattle.tt_game.specs.declared.message.GameMsg.{GameMsg}
 use Rattle.tt_game.specs.declared.message.GameMsg.TheVariants.{ServerFrame}
 use Rattle.tt_world.specs.Random.{next_random}
 use Rattle.tt_log.specs.Origin.{Origin}
 use Rattle.tt_log.specs.Member.{Member, is_playing}
 use Rattle.tt_log.specs.Table.{Table, member_of}
-use Rattle.tt_log.specs.Deed.{Deed, ◌▹◌, where_, where_some, becomes}
+use Rattle.tt_log.specs.Deed.{Deed, where_, where_some}
 use Rattle.tt_log.specs.Tellings.{Filling}
 use Rattle.tt_log.specs.Frames.{fresh_token, opened_token, tells_frame_by, tells_frame, frames_told}
 use Rattle.tt_log.specs.Tick.{all_moved}
 use Rattle.tt_log.specs.PacketRules.{moves}
 use Rattle.tt_log.specs.History.{AreRising}
 use Rattle.tt_log.proofs.Lists.{any-not, found-among}
-use Rattle.tt_log.proofs.Crew.{On, on-found, found-on, put, conns}
+use Rattle.tt_log.proofs.Crew.{On, on-found, found-on, conns}
 use Rattle.tt_log.proofs.Ordered.{Ordered, rising-not}
 use Rattle.tt_in_step.specs.Watched.{Seat, seat_of, seat}
-use Rattle.tt_in_step.proofs.Seats.{among, put-same, found-seat, none-found, sits, plays, plays_at, plays-member, none-seated, not-any}
+use Rattle.tt_in_step.proofs.Seats.{among, put-same, found-seat, none-found, sits, plays, plays-member, none-seated, not-any}
 use Rattle.tt_in_step.proofs.Hearing.{hears, hears-append, if_told}
 use Rattle.tt_in_step.proofs.Ways.{if_plays}
 use Rattle.tt_in_step.proofs.Does.{altered, put-ordered}
@@ -128,6 +128,7 @@ module _ (o : Origin) (f : Filling) (c : ℕ) where
       playing : (conn == c) ≡ true → plays (seat c t.members) ≡ is_playing n
       playing own = ap plays (subst (λ k. seat k t.members ≡ Some (seat_of n)) (eqb-true conn c own) (found-seat conn t.members n is))
           ∙ sym (plays-member n)
+
       by : (b : Bool) → is_playing n ≡ b → Framed (conn == c) t (where_ b (tells_frame_by (n.token == 0) n) t)
       by true plays = one-token (n.token == 0) conn t n (on-found t conn n is) (found-on conn t.members n is) (λ own. playing own ∙ plays) h
       by false idle = record {
@@ -168,8 +169,12 @@ module _ (o : Origin) (f : Filling) (c : ℕ) where
   pub all-frames : (t : Table) → Ordered t → Framed true t (frames_told t.members t)
   all-frames t h =
       let a = frames 0 t.members t h.rise h in
-      record { token = a.token; heard = a.heard ∙ ap (λ (b : Bool). if_plays b (told_frame t a.token)) (there (among c (conns t.members))
-      (plays (seat c t.members)) (λ none. ap plays (none-seated c t.members (not-any c (conns t.members) none)))); same = a.same }
+      record {
+        token = a.token;
+        heard = a.heard ∙ ap (λ (b : Bool). if_plays b (told_frame t a.token)) (there (among c (conns t.members))
+            (plays (seat c t.members)) (λ none. ap plays (none-seated c t.members (not-any c (conns t.members) none))));
+        same = a.same;
+      }
     where
       there : (x p : Bool) → (x ≡ false → p ≡ false) → (x && p) ≡ (true && p)
       there true p h = refl

@@ -1,12 +1,10 @@
 -- What a connection hears of the steps of a deed: the messages of the game among them.
-use Rattle.std.proofs.Common.{◌≡◌, ℕ, Bool, true, false, List, [], ◌∷◌, ◌++◌, map, refl, ap, ap₂, sym, ◌∙◌, append-nil, append_assoc}
-use Rattle.std.specs.Prelude.{◌||◌, ◌==◌}
+use Rattle.std.proofs.Common.{◌≡◌, ℕ, Bool, true, false, List, [], ◌∷◌, ◌++◌, map, refl, ap, sym, ◌∙◌, append-nil, append_assoc}
+use Rattle.std.specs.Prelude.{◌==◌}
 use Rattle.tt_game.specs.declared.message.GameMsg.{GameMsg}
-use Rattle.tt_admin.specs.declared.message.AdminMsg.{AdminMsg}
 use Rattle.tt_world.specs.declared.command.Entry.{Entry}
 use Rattle.tt_log.specs.declared.deed.Step.{Step}
 use Rattle.tt_log.specs.declared.deed.What.{What}
-use Rattle.tt_log.specs.declared.deed.What.TheVariants.{Msg, ToAdmin}
 use Rattle.tt_log.specs.Origin.{Origin}
 use Rattle.tt_log.specs.Deed.{Said, game, admin}
 use Rattle.tt_log.specs.Tellings.{Filling, said_by, Telling, telling, filled}

@@ -2,59 +2,55 @@
 use Rattle.std.proofs.Common.{◌≡◌, ℕ, ◌+◌, ◌<◌, ◌≤◌, Bool, true, false, cond, List, [], ◌∷◌, ◌++◌, nat_le, drop, Option, Some, None, refl}
 use Rattle.std.proofs.Common.{ap, ap₂, sym, ◌∙◌, subst, arith, append-nil, append_assoc}
 use Rattle.std.proofs.lemmas.List.Sums.{fold-append}
-use Rattle.std.specs.Prelude.{◌==◌, ◌*◌, ◌||◌, ◌&&◌, not, is_some, fold, length, map}
-use Rattle.std.specs.List.{AllByRecursion}
-use Rattle.std.proofs.lemmas.Bool.{eqb-true, eqb-false, and_parts, le-leb, leb-true, leb-false, lt-leb}
+use Rattle.std.specs.Prelude.{◌==◌, ◌*◌, ◌||◌, is_some, length}
+use Rattle.std.proofs.lemmas.Bool.{eqb-true, eqb-false, le-leb, leb-true, leb-false, lt-leb}
 use Rattle.tt_edge.specs.declared.event.Door.TheVariants.{Main, Side}
 use Rattle.tt_edge.specs.declared.event.Event.{Event}
 use Rattle.tt_edge.specs.declared.event.Event.TheVariants.{Open, Packet, Broken, Shut, Tick, Stop}
-use Rattle.tt_edge.specs.Event.{is_tick, event_cost}
+use Rattle.tt_edge.specs.Event.{is_tick}
 use Rattle.tt_lockstep.specs.Server.{Server, initial}
 use Rattle.tt_lockstep.specs.Leads.{Leads}
-use Rattle.tt_lockstep.specs.Dialog.{things}
 use Rattle.tt_lockstep.proofs.Dialogs.{Goes-nowhere, Goes-on}
 use Rattle.tt_game.specs.declared.message.GameMsg.{GameMsg}
 use Rattle.tt_game.specs.declared.message.GameMsg.TheVariants.{ServerFull, ServerShutdown}
-use Rattle.tt_admin.specs.declared.message.AdminMsg.TheVariants as admins
 use Rattle.tt_world.specs.declared.command.Entry.{Entry}
 use Rattle.tt_rules.specs.Statuses.{is_at}
 use Rattle.tt_rules.specs.declared.status.Status.{Status}
 use Rattle.tt_rules.specs.declared.status.Status.TheVariants.{Inactive, NewgrfsCheck, AuthGame, AuthCompany, Authorized, MapWait, Map}
 use Rattle.tt_rules.specs.declared.status.Status.TheVariants.{DoneMap, PreActive, Active}
-use Rattle.tt_log.specs.declared.deed.What.TheVariants.{ToAdmin, End}
 use Rattle.tt_log.specs.Origin.{Origin, game_of, world_at}
-use Rattle.tt_log.specs.Admin.{Admin, new_admin}
-use Rattle.tt_log.specs.Member.{Member, is_in, new_member}
+use Rattle.tt_log.specs.Admin.{Admin}
+use Rattle.tt_log.specs.Member.{Member, new_member}
 use Rattle.tt_log.specs.Table.{Table, first, member_of, admin_of, first_loading, if_loading, is_admin_on, living_in}
-use Rattle.tt_log.specs.Deed.{Said, Deed, ◌▹◌, becomes, tells, tells_what, where_, where_some}
+use Rattle.tt_log.specs.Deed.{Said, Deed, ◌▹◌, where_}
 use Rattle.tt_log.specs.Judged.{is_empty}
 use Rattle.tt_log.specs.Ending.{Failing}
-use Rattle.tt_log.specs.Desk.{admin_arrives, counted_aside, most_admins, admin_hears, admin_leaves}
-use Rattle.tt_log.specs.Tick.{stamped, left_of, left_by, ticked}
+use Rattle.tt_log.specs.Desk.{admin_arrives, counted_aside, most_admins}
+use Rattle.tt_log.specs.Tick.{stamped, left_by, ticked}
 use Rattle.tt_log.specs.Tellings.{Filling, filling}
-use Rattle.tt_log.specs.Events.{arrives, counted_in, opened, read_msg, heard, to_named, on_conn, by_event, charged, shut_down, is_stop, stops, closed}
-use Rattle.tt_log.specs.Events.{last_frame, takes, names_live, taken, deed, stepped}
+use Rattle.tt_log.specs.Events.{arrives, counted_in, read_msg, to_named, on_conn, by_event, charged, shut_down, stops, closed}
+use Rattle.tt_log.specs.Events.{last_frame, takes, taken, deed, stepped}
 use Rattle.tt_log.specs.Told.{told_by, heard_from}
 use Rattle.tt_log.specs.Told as said
 use Rattle.tt_log.specs.History.{table_of, AreEvents, IsEvent}
 use Rattle.tt_log.specs.Shown.{Place, Asking, Parted, dialog}
-use Rattle.tt_log.proofs.Lists.{any-not, found-among}
-use Rattle.tt_log.proofs.Crew.{On, OnAdmin, on-found, found-on, conns}
-use Rattle.tt_log.proofs.Ordered.{Ordered, under-not, order-doors, order-closing, step-ordered, is-ordered}
+use Rattle.tt_log.proofs.Lists.{found-among}
+use Rattle.tt_log.proofs.Crew.{On, OnAdmin, on-found, conns}
+use Rattle.tt_log.proofs.Ordered.{Ordered, under-not, order-doors, order-closing, is-ordered}
 use Rattle.tt_log.proofs.Counting.{is-low}
 use Rattle.tt_log.proofs.Going.{heard-append}
 use Rattle.tt_log.proofs.Clock.{SameRun, no-tick, taken-run, ticked-is, stamped-same, is-near}
-use Rattle.tt_in_step.specs.Watched.{Seat, AtDoor, InQueue, Loads, HasMap, Plays, seat_at, seat_of, seat, watched, game_messages, things_told}
+use Rattle.tt_in_step.specs.Watched.{Seat, AtDoor, Loads, seat_at, seat_of, seat, watched, game_messages, things_told}
 use Rattle.tt_in_step.proofs.Seats.{among, found-seat, none-found, none-seated, more-other, more-here}
 use Rattle.tt_in_step.proofs.Hearing.{hears, heard-is, messages-append, if_told, if_told-nil}
-use Rattle.tt_in_step.proofs.Ways.{seen_as, Way, Fitting, FitsAt, map_at, stays, way-full, way-vanish, way-shutdown}
+use Rattle.tt_in_step.proofs.Ways.{seen_as, Way, Fitting, map_at, stays, way-full, way-vanish, way-shutdown}
 use Rattle.tt_in_step.proofs.Worlds.{MapsAreRead, AreShort}
-use Rattle.tt_in_step.proofs.Lines.{Line, in_line, line-more}
+use Rattle.tt_in_step.proofs.Lines.{Line, line-more}
 use Rattle.tt_in_step.proofs.Shorts.{Short, step-short}
-use Rattle.tt_in_step.proofs.Does.{Steady, Base, Tied, Does, way-is, does-then, does-quiet, does-still, does-where, does-some, does-silent}
+use Rattle.tt_in_step.proofs.Does.{Steady, Tied, Does, way-is, does-then, does-quiet, does-still, does-where, does-some}
 use Rattle.tt_in_step.proofs.Ending.{was-opened, does-leaves}
 use Rattle.tt_in_step.proofs.Packets.{does-heard, tied-but}
-use Rattle.tt_in_step.proofs.Ticks.{heads, Before, does-ticked, does-admin-leaves}
+use Rattle.tt_in_step.proofs.Ticks.{heads, does-ticked, does-admin-leaves}
 
 -- ---- an opening
 

@@ -1,5 +1,5 @@
 -- The queue: all that stand in it wait for their map or have it, and behind the first one all wait.
-use Rattle.std.proofs.Common.{◌≡◌, ◌⊎◌, inl, inr, ℕ, ◌<◌, ◌≤◌, length, arith, Bool, true, false, cond, List, [], ◌∷◌, ◌++◌, drop, take, Option}
+use Rattle.std.proofs.Common.{◌≡◌, ◌⊎◌, inl, inr, ℕ, Bool, true, false, cond, List, [], ◌∷◌, ◌++◌, Option}
 use Rattle.std.proofs.Common.{Some, None, refl, ap, sym, ◌∙◌, subst}
 use Rattle.std.specs.Prelude.{◌==◌, ◌||◌, is_some}
 use Rattle.std.specs.List.{AllByRecursion}
@@ -8,7 +8,7 @@ use Rattle.tt_log.specs.Member.{Member}
 use Rattle.tt_log.proofs.Lists.{NotIn, all-append, all-so}
 use Rattle.tt_log.proofs.Crew.{put}
 use Rattle.tt_log.proofs.Phases.{removed, none-removed, OnceIn}
-use Rattle.tt_in_step.specs.Watched.{Seat, AtDoor, Welcome, InQueue, Loads, HasMap, Plays, seat_of, seat}
+use Rattle.tt_in_step.specs.Watched.{Seat, InQueue, Loads, HasMap, seat_of, seat}
 use Rattle.tt_in_step.proofs.Seats.{among, put-here, put-other, more-there}
 
 abbrev pub in_line : Option Seat → Bool

@@ -1,7 +1,7 @@
 -- Each packet's rule.
 use Rattle.std.proofs.Common.{◌≡◌, ℕ, ◌+◌, ◌≤◌, Bool, true, false, List, [], ◌∷◌, nat_le, Option, Some, None, refl, ap, sym, ◌∙◌, subst, arith}
 use Rattle.std.specs.Prelude.{◌==◌, ◌&&◌, cond, filter, map, not}
-use Rattle.std.proofs.lemmas.Bool.{eqb-true, leb-true, and_parts}
+use Rattle.std.proofs.lemmas.Bool.{eqb-true, and_parts}
 use Rattle.tt_lockstep.specs.Told as told
 use Rattle.tt_lockstep.specs.Server.{Server, Stage, BeforeMap}
 use Rattle.tt_game.specs.declared.message.GameMsg.{GameMsg}
@@ -9,7 +9,7 @@ use Rattle.tt_game.specs.declared.message.GameMsg.TheVariants.{ClientJoin, Clien
 use Rattle.tt_game.specs.declared.message.GameMsg.TheVariants.{ClientGetmap, ClientMapOk, ClientAck, ClientCommand, ClientChat}
 use Rattle.tt_game.specs.declared.message.GameMsg.TheVariants.{ClientSetName, ClientSetPassword, ClientMove, ClientError, ClientQuit}
 use Rattle.tt_game.specs.declared.message.GameMsg.TheVariants.{ServerNeedGamePassword, ServerNeedCompanyPassword, ServerWelcome, ServerJoin}
-use Rattle.tt_game.specs.declared.message.GameMsg.TheVariants.{ServerChat, ServerMove}
+use Rattle.tt_game.specs.declared.message.GameMsg.TheVariants.{ServerChat}
 use Rattle.tt_world.specs.declared.command.Command.{Command}
 use Rattle.tt_world.specs.declared.command.Entry.{Entry}
 use Rattle.tt_rules.specs.Commands.{command_of}
@@ -17,18 +17,17 @@ use Rattle.tt_rules.specs.Statuses.{rank}
 use Rattle.tt_rules.specs.declared.status.Status.TheVariants.{AuthGame, AuthCompany, Authorized, PreActive, Active}
 use Rattle.tt_rules.specs.declared.status.Verdict.{Verdict}
 use Rattle.tt_rules.specs.declared.status.Verdict.TheVariants.{Allowed, Ends}
-use Rattle.tt_log.specs.declared.deed.What.{What}
 use Rattle.tt_log.specs.declared.deed.What.TheVariants.{Msg}
 use Rattle.tt_log.specs.Origin.{Origin}
 use Rattle.tt_log.specs.Member.{Member, is_in, is_playing}
 use Rattle.tt_log.specs.Table.{Table, now_in, digest_of, with_digest, playing, with_member}
-use Rattle.tt_log.specs.Deed.{Deed, ◌▹◌, where_, where_some, becomes, tells, tells_playing}
+use Rattle.tt_log.specs.Deed.{Deed, ◌▹◌, where_, becomes, tells, tells_playing}
 use Rattle.tt_log.specs.Names.{given_name}
 use Rattle.tt_log.specs.Tellings.{Filling}
 use Rattle.tt_log.specs.Judged.{is_empty, judged, founder}
 use Rattle.tt_log.specs.Ending.{Quitting, Failing}
 use Rattle.tt_log.specs.PacketRules.{client_info, first_company, welcomes, company_step_by, password_step_by, becomes_active, asks_company}
-use Rattle.tt_log.specs.PacketRules.{has_caught_up, acknowledged, acknowledges, closed_token, new_company, is_in_scope, chats, renames, moves}
+use Rattle.tt_log.specs.PacketRules.{has_caught_up, acknowledged, acknowledges, closed_token, is_in_scope, chats}
 use Rattle.tt_log.specs.PacketRules.{does, command_waits}
 use Rattle.tt_log.specs.Watching.{sees_welcome, sees_active, sees_chat, sees_change}
 use Rattle.tt_log.specs.Events.{by_verdict, heard}
@@ -36,14 +35,14 @@ use Rattle.tt_log.specs.Shown.{Place, Asking, Greeted, told_at, moves_on, other_
 use Rattle.tt_log.proofs.Changes.{answers, turned-conn, turned-client, Allows, allows}
 use Rattle.tt_log.proofs.Lists.{IsOther, Within, all-filter, map-filter-not}
 use Rattle.tt_log.proofs.Crew.{On, put-among}
-use Rattle.tt_in_step.specs.Watched.{Seat, AtDoor, Welcome, InQueue, Plays, stage_at, seat_of, seat, watched}
+use Rattle.tt_in_step.specs.Watched.{Seat, AtDoor, stage_at, seat_of}
 use Rattle.tt_in_step.proofs.Seats.{put-same, ranked, at-door}
-use Rattle.tt_in_step.proofs.Hearing.{alone, all_said}
+use Rattle.tt_in_step.proofs.Hearing.{alone}
 use Rattle.tt_in_step.proofs.Ways.{seen_as, Way, FitsAt, Fitting, way-on, IsNoise}
 use Rattle.tt_in_step.proofs.Worlds.{MapsAreRead}
 use Rattle.tt_in_step.proofs.Lines.{in_line}
-use Rattle.tt_in_step.proofs.Does.{altered, Base, Tied, Does, Turns, way-is, does-then, does-becomes, does-quiet, does-still, does-where}
-use Rattle.tt_in_step.proofs.Does.{does-some, does-silent, does-news, does-playing, does-turn, tied-turn, tied-same, seated, seen_same}
+use Rattle.tt_in_step.proofs.Does.{altered, Tied, Does, Turns, way-is, does-then, does-becomes, does-quiet, does-still, does-where}
+use Rattle.tt_in_step.proofs.Does.{does-some, does-silent, does-news, does-playing, tied-turn, tied-same, seated, seen_same}
 use Rattle.tt_in_step.proofs.Queueing.{does-asks}
 use Rattle.tt_in_step.proofs.Ending.{does-leaves, does-ends, does-enters}
 
@@ -126,14 +125,17 @@ module _ (o : Origin) (reads : MapsAreRead o) (named : is_empty o.setup.id ≡ f
       let d : Deed = record { table = altered m t.tokens t.queue t; told = alone m.conn (Msg said ∷ []) } in
       does-becomes o f c (Tied o f c) (Tied o f c) t t place d
       (does-door t place Asking m m said on (omega (arith, at)) refl refl stage is go fit h)
-      (λ end k. (seen_same o f c t _ _ same, record {
-        base = record {
-          ordered = h.base.ordered;
-          steady = h.base.steady;
-          fits = subst (λ x. Fitting o t.frame t.journal (nat_le c t.openings) x end) same k.base.fits;
-        };
-        line = h.line;
-      }))
+      (λ end k. (
+        seen_same o f c t _ _ same,
+        record {
+          base = record {
+            ordered = h.base.ordered;
+            steady = h.base.steady;
+            fits = subst (λ x. Fitting o t.frame t.journal (nat_le c t.openings) x end) same k.base.fits;
+          };
+          line = h.line;
+        },
+      ))
 
   -- ---- in the game
 

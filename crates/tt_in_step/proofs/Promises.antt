@@ -1,8 +1,7 @@
 -- The promises: of every origin, every list of events and every connection.
-use Rattle.std.proofs.Common.{◌≡◌, ◌⊎◌, ℕ, ◌+◌, ◌<◌, ◌≤◌, Bool, true, false, List, [], ◌∷◌, ◌++◌, length, Option, Some, None, refl, ap, sym, ◌∙◌}
+use Rattle.std.proofs.Common.{◌≡◌, ◌⊎◌, ℕ, ◌<◌, ◌≤◌, Bool, true, false, List, [], ◌∷◌, ◌++◌, length, Option, Some, refl, ap, sym, ◌∙◌}
 use Rattle.std.proofs.Common.{subst, arith, append-nil, append_assoc}
 use Rattle.std.specs.Prelude.{◌^◌, nat_le, nat_lt, Ok, if◌then◌else◌}
-use Rattle.std.specs.List.{AllByRecursion}
 use Rattle.tt_edge.specs.declared.event.Event.{Event}
 use Rattle.tt_world.specs.declared.command.Entry.{Entry}
 use Rattle.tt_world.specs.World.{WorldState}
@@ -33,7 +32,7 @@ use Rattle.tt_log.specs.Member.{Member, is_playing}
 use Rattle.tt_log.specs.Table.{member_of}
 use Rattle.tt_log.specs.History.{table_of, journal_of, AreEvents}
 use Rattle.tt_log.proofs.Counting.{is-low}
-use Rattle.tt_in_step.specs.Watched.{Seat, AtDoor, Welcome, InQueue, Loads, HasMap, Plays, seat_of, seat, stage_at, stage_of, watched, things_told}
+use Rattle.tt_in_step.specs.Watched.{Seat, AtDoor, Welcome, InQueue, Loads, HasMap, Plays, seat_of, stage_at, stage_of, watched, things_told}
 use Rattle.tt_in_step.specs.Watched.{entries_in}
 use Rattle.tt_in_step.specs.Watched.{game_messages}
 use Rattle.tt_frame.specs.Packet.{IsBytes}
@@ -47,7 +46,6 @@ use Rattle.tt_in_step.proofs.Bytes.{sent-is, all-spelled, stream_for, front-thin
 use Rattle.tt_in_step.proofs.Phases.{agrees-not-wrong, wrong-seen}
 use Rattle.tt_in_step.proofs.Seats.{found-seat, plays_at, plays-member, high-seat}
 use Rattle.tt_in_step.proofs.Worlds.{MapsAreMaps, maps_are_read}
-use Rattle.tt_in_step.proofs.Shorts.{Short}
 use Rattle.tt_in_step.proofs.Histories.{Leading, led, leads-there}
 
 not-empty : (bytes : List ℕ) → 1 ≤ length bytes → is_empty bytes ≡ false

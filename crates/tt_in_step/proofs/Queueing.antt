@@ -1,7 +1,7 @@
 -- The queue's rules: a download begins, others are told how many stand before them, one leaves, one asks.
-use Rattle.std.proofs.Common.{◌≡◌, ◌⊎◌, inl, inr, ℕ, suc, zero, ◌+◌, Bool, true, false, cond, List, [], ◌∷◌, ◌++◌, nat_le, length, take, drop}
+use Rattle.std.proofs.Common.{◌≡◌, ℕ, suc, ◌+◌, Bool, true, false, cond, List, [], ◌∷◌, ◌++◌, nat_le, length, take, drop}
 use Rattle.std.proofs.Common.{Option, Some, None, refl, ap, ap₂, sym, ◌∙◌, subst, arith}
-use Rattle.std.specs.Prelude.{◌==◌, ◌||◌, nat_lt, not, min, is_some}
+use Rattle.std.specs.Prelude.{◌==◌, nat_lt, not, min, is_some}
 use Rattle.std.specs.List.{AllByRecursion}
 use Rattle.std.proofs.lemmas.Bool.{eqb-true, eq-eqb, lt-ltb, ne_eqb}
 use Rattle.tt_game.specs.declared.message.GameMsg.{GameMsg}
@@ -14,22 +14,22 @@ use Rattle.tt_log.specs.declared.deed.What.TheVariants.{Msg, MapBegin}
 use Rattle.tt_log.specs.Origin.{Origin}
 use Rattle.tt_log.specs.Member.{Member, is_in}
 use Rattle.tt_log.specs.Table.{Table, member_of, now_in}
-use Rattle.tt_log.specs.Deed.{Deed, ◌▹◌, where_, where_some, becomes, tells}
+use Rattle.tt_log.specs.Deed.{Deed, where_some, becomes, tells}
 use Rattle.tt_log.specs.Tellings.{Filling}
 use Rattle.tt_log.specs.Queue.{asks, begins, begins_for, begins_where, downloading, left_place, leaves_queue, moved_up, waits}
 use Rattle.tt_log.specs.Shown.{Place, Greeted}
-use Rattle.tt_log.proofs.Lists.{NotIn, all-append, all-so, any-not}
+use Rattle.tt_log.proofs.Lists.{NotIn, all-append}
 use Rattle.tt_log.proofs.Crew.{On, on-found, found-on, put}
-use Rattle.tt_log.proofs.Phases.{removed, place_in, removed-is, cut-none, not-found, none-behind}
+use Rattle.tt_log.proofs.Phases.{removed, place_in, removed-is, cut-none, not-found}
 use Rattle.tt_in_step.specs.Watched.{Seat, Welcome, InQueue, Loads, seat_of, seat, watched}
 use Rattle.tt_in_step.proofs.Seats.{among, put-other, put-here, found-seat, none-found, ranked}
 use Rattle.tt_in_step.proofs.Hearing.{all_said, hears-one, hears-none}
 use Rattle.tt_in_step.proofs.Ways.{seen_as, Way, Fitting, FitsAt, place_at, map_at, stays, way-on, way-begin}
 use Rattle.tt_in_step.proofs.Worlds.{MapsAreRead, IsMapRead}
-use Rattle.tt_in_step.proofs.Lines.{in_line, Stands, Waits, Distinct, Line, Or, LineBut, out-of-line, all-others, all-removed, all-at}
+use Rattle.tt_in_step.proofs.Lines.{in_line, Stands, Waits, Distinct, Line, Or, LineBut, out-of-line, all-others, all-removed}
 use Rattle.tt_in_step.proofs.Lines.{distinct-removed, once-or-not, distinct-last, line-put}
-use Rattle.tt_in_step.proofs.Does.{altered, Base, Tied, Parting, Does, Turns, way-is, does-then, does-so, does-quiet, does-still, does-where}
-use Rattle.tt_in_step.proofs.Does.{does-turn, seated, same-turns}
+use Rattle.tt_in_step.proofs.Does.{altered, Base, Tied, Parting, Does, Turns, way-is, does-then, does-so, does-still, does-where}
+use Rattle.tt_in_step.proofs.Does.{does-turn, seated}
 
 module _ (o : Origin) (reads : MapsAreRead o) (f : Filling) (c : ℕ) where
   -- ---- those that wait are told how many stand before them
@@ -194,9 +194,11 @@ module _ (o : Origin) (reads : MapsAreRead o) (f : Filling) (c : ℕ) where
     where
       or-first : (x y : ℕ) (t : Table) → Or (Stands t.members) x y → (y == x) ≡ false → Stands t.members y
       or-first x y t h apart = (all-others (Stands t.members) x (y ∷ []) (apart, tt) (h, tt)).0
+
       all-behind : (P : ℕ → Type 0) (xs zs : List ℕ) → AllByRecursion P (xs ++ zs) → AllByRecursion P zs
       all-behind P [] zs a = a
       all-behind P (x ∷ xs) zs a = all-behind P xs zs a.1
+
       -- who stands behind the cut is behind the first one
       behind-waits : (x y : ℕ) (ys : List ℕ) (t : Table) → AllByRecursion (Waits t.members) (removed x ys)
           → place_in x (y ∷ ys) ≡ suc (place_in x ys) → AllByRecursion (Waits t.members) (drop (place_in x (y ∷ ys) + 1) (y ∷ ys))

@@ -1,10 +1,10 @@
 -- The seats of members: what becomes of a seat where members change, come and go.
-use Rattle.std.proofs.Common.{◌≡◌, ℕ, ◌+◌, ◌<◌, ◌≤◌, Bool, true, false, cond, List, [], ◌∷◌, ◌++◌, ◌==◌, Option, Some, None, map, refl}
+use Rattle.std.proofs.Common.{◌≡◌, ℕ, ◌<◌, ◌≤◌, Bool, true, false, cond, List, [], ◌∷◌, ◌++◌, ◌==◌, Option, Some, None, map, refl}
 use Rattle.std.proofs.Common.{ap, sym, ◌∙◌, subst, inl, inr, arith}
 use Rattle.std.specs.Prelude.{find, filter, not, option_map, is_some, ◌||◌, nat_le}
-use Rattle.std.specs.List.{AllByRecursion, list_any}
-use Rattle.std.proofs.lemmas.Bool.{eqb-true, eq-eqb, ne_eqb, leb-false, leb-true, le-leb}
-use Rattle.tt_rules.specs.Statuses.{rank, is_at}
+use Rattle.std.specs.List.{list_any}
+use Rattle.std.proofs.lemmas.Bool.{eqb-true, eq-eqb, ne_eqb}
+use Rattle.tt_rules.specs.Statuses.{rank}
 use Rattle.tt_rules.specs.declared.status.Status.{Status}
 use Rattle.tt_rules.specs.declared.status.Status.TheVariants.{Inactive, NewgrfsCheck, AuthGame, AuthCompany, Authorized, MapWait, Map}
 use Rattle.tt_rules.specs.declared.status.Status.TheVariants.{DoneMap, PreActive, Active}
@@ -14,7 +14,7 @@ use Rattle.tt_log.specs.History.{AreRising}
 use Rattle.tt_log.proofs.Lists.{Among, NotIn, any-not, all-of-filter}
 use Rattle.tt_log.proofs.Crew.{put, others, conns}
 use Rattle.tt_log.proofs.Ordered.{rising-not}
-use Rattle.tt_in_step.specs.Watched.{Seat, AtDoor, Welcome, InQueue, Loads, HasMap, Plays, seat_at, seat_of, seat}
+use Rattle.tt_in_step.specs.Watched.{Seat, AtDoor, Plays, seat_at, seat_of, seat}
 
 -- c stands in a list
 abbrev pub among : ℕ → List ℕ → Bool

@@ -1,5 +1,5 @@
 -- The texts of commands are short: of those that wait, of the server's own, and so of the journal.
-use Rattle.std.proofs.Common.{◌≡◌, ℕ, ◌+◌, Bool, true, false, cond, List, [], ◌∷◌, ◌++◌, Option, Some, None, refl, ap, sym, ◌∙◌, subst, map, take, arith}
+use Rattle.std.proofs.Common.{◌≡◌, ℕ, ◌+◌, Bool, true, false, cond, List, [], ◌∷◌, Option, Some, None, refl, ap, sym, subst, map, take, arith}
 use Rattle.std.specs.Prelude.{◌==◌, flat_map, Result, Ok, length, nat_le, not}
 use Rattle.std.specs.Result.{result_ok}
 use Rattle.std.specs.List.{AllByRecursion}
@@ -11,7 +11,6 @@ use Rattle.tt_frame.proofs.RowLaws.{row_takes}
 use Rattle.tt_frame.proofs.FamilyLaws.{kind_is}
 use Rattle.tt_frame.proofs.TextLaws.{IsText-from_is_text, IsText-from_is_plain, length_of_text}
 use Rattle.tt_edge.specs.declared.event.Event.{Event}
-use Rattle.tt_edge.specs.declared.event.Event.TheVariants.{Packet}
 use Rattle.tt_game.specs.declared.message.GameMsg.{GameMsg}
 use Rattle.tt_game.specs.declared.message.GameMsg.TheVariants.{ClientCommand}
 use Rattle.tt_game.specs.Messages.{messages, Spells}
@@ -20,7 +19,7 @@ use Rattle.tt_game.proofs.MessageLaws.{game_lawful}
 use Rattle.tt_world.specs.declared.command.Code.{Code}
 use Rattle.tt_world.specs.declared.command.Command.{Command}
 use Rattle.tt_world.specs.declared.command.Entry.{Entry}
-use Rattle.tt_rules.specs.Commands.{command_of, command_with, code_of}
+use Rattle.tt_rules.specs.Commands.{command_with, code_of}
 use Rattle.tt_log.specs.declared.deed.Step.{Step}
 use Rattle.tt_log.specs.Origin.{Origin}
 use Rattle.tt_log.specs.Member.{Member, new_member}
@@ -34,7 +33,7 @@ use Rattle.tt_log.proofs.Lists.{all-append, all-drop, all-filter, all-map, all-t
 use Rattle.tt_log.proofs.Crew.{put, put-all}
 use Rattle.tt_log.proofs.Changes.{Says, By, Change, wants_password, is_let_in, gets_token, gets_frame, answers, plays, May, Move, turned, moved}
 use Rattle.tt_log.proofs.Changes.{commands, has_name, goes_to, founds, gets_pieces, has_all, queues, begins_map, loads}
-use Rattle.tt_log.proofs.Walk.{Base, Walk, Doors, Closing, Moves, Ticks, running, of-asks, of-enters, of-leaves, of-deed}
+use Rattle.tt_log.proofs.Walk.{Base, Walk, Moves, Ticks, running, of-asks, of-enters, of-leaves, of-deed}
 use Rattle.tt_in_step.proofs.Worlds.{AreShort}
 
 -- what is read spells its message
@@ -169,8 +168,11 @@ module _ (o : Origin) (e : Event) (bytes : IsEvent e) where
     locks = λ t m digest on allowed h. h;
     orders = λ t c is still h. record {
       waiting = h.waiting;
-      owned = all-append (λ (c : Command). IsShort c.text) t.own (c ∷ []) h.owned (subst (λ (c : Command). IsShort c.text) (sym is.2)
-          nothing, tt);
+      owned = all-append (λ (c : Command). IsShort c.text) t.own (c ∷ []) h.owned (
+        subst (λ (c : Command). IsShort c.text) (sym is.2)
+            nothing,
+        tt,
+      );
       entries = h.entries;
     };
     asks_map = λ t m on at. of-asks o e KeepsShort short-base short-moves t m on at;

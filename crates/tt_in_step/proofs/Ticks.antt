@@ -1,12 +1,10 @@
 -- The steps of a tick.
 use Rattle.std.proofs.Common.{◌≡◌, ℕ, suc, ◌+◌, ◌<◌, ◌≤◌, Bool, true, false, cond, List, [], ◌∷◌, ◌++◌, nat_le, drop, take, length, Option}
 use Rattle.std.proofs.Common.{Some, None, refl, ap, ap₂, sym, ◌∙◌, subst, map, arith, append-nil}
-use Rattle.std.specs.Prelude.{◌==◌, ◌*◌, ◌%◌, ◌||◌, nat_lt, not, find, flat_map}
-use Rattle.std.specs.List.{AllByRecursion}
+use Rattle.std.specs.Prelude.{◌==◌, ◌*◌, ◌%◌, nat_lt, not, find, flat_map}
 use Rattle.std.proofs.lemmas.Bool.{eqb-true, eq-eqb, ltb-true, ltb-false}
 use Rattle.tt_edge.specs.declared.event.Event.TheVariants.{Stop}
 use Rattle.tt_lockstep.specs.Leads.{AreStamped}
-use Rattle.tt_lockstep.specs.Server.{Server}
 use Rattle.tt_game.specs.declared.message.GameMsg.{GameMsg}
 use Rattle.tt_game.specs.declared.message.GameMsg.TheVariants.{ServerMapData, ServerMapDone, ServerSync, ServerFrame}
 use Rattle.tt_admin.specs.declared.message.AdminMsg.TheVariants.{ServerError}
@@ -16,12 +14,11 @@ use Rattle.tt_world.specs.World.{WorldState}
 use Rattle.tt_map.specs.Layout.{map_of}
 use Rattle.tt_rules.specs.Statuses.{rank}
 use Rattle.tt_rules.specs.declared.status.Status.TheVariants.{Map, DoneMap}
-use Rattle.tt_log.specs.declared.deed.Step.{Step}
 use Rattle.tt_log.specs.declared.deed.What.TheVariants.{MapPieces, Sync, End, ToAdmin}
-use Rattle.tt_log.specs.Origin.{Origin, game_of, world_at, at_frame}
+use Rattle.tt_log.specs.Origin.{Origin, game_of, at_frame}
 use Rattle.tt_log.specs.Admin.{Admin}
 use Rattle.tt_log.specs.Member.{Member, is_in}
-use Rattle.tt_log.specs.Table.{Table, playing, member_of, admin_of, is_admin_on, is_on, with_member, world_of, downloader, first_loading, if_loading}
+use Rattle.tt_log.specs.Table.{Table, playing, member_of, admin_of, is_admin_on, with_member, world_of, downloader, first_loading, if_loading}
 use Rattle.tt_log.specs.Deed.{Deed, ◌▹◌, where_, where_some, becomes, tells_what}
 use Rattle.tt_log.specs.Tellings.{Filling, piece_messages}
 use Rattle.tt_log.specs.Judged.{is_empty}
@@ -30,24 +27,24 @@ use Rattle.tt_log.specs.PacketRules.{told_command, moves}
 use Rattle.tt_log.specs.Desk.{tells_admin, admins_limited, admin_ends, admin_leaves, admin_limited, each_admin_limited, is_slow}
 use Rattle.tt_log.specs.Frames.{frames_told}
 use Rattle.tt_log.specs.Tick.{own_entry, entry_of, stamps, drawn, tells_entries, stamped, frame_runs_by, frame_runs, foundings, all_moved}
-use Rattle.tt_log.specs.Tick.{founders_moved, synced, pieces_of, map_left, left_of, next_pieces, finishes_map, mapped, late, limited, each_limited}
+use Rattle.tt_log.specs.Tick.{founders_moved, synced, pieces_of, next_pieces, finishes_map, mapped, late, limited, each_limited}
 use Rattle.tt_log.specs.Tick.{timed, frame_follows}
 use Rattle.tt_log.specs.Shown.{Place}
 use Rattle.tt_log.proofs.Lists.{all-append, found-among}
 use Rattle.tt_log.proofs.Crew.{On, OnAdmin, on-found, found-on, put}
 use Rattle.tt_log.proofs.Ordered.{Ordered, KeepsOrder, order-walk, order-ticks}
 use Rattle.tt_log.proofs.Walk.{stamping, running, loader-on}
-use Rattle.tt_in_step.specs.Watched.{Seat, InQueue, Loads, HasMap, seat_of, seat, watched}
-use Rattle.tt_in_step.proofs.Seats.{among, map-same, sits, plays, playing-is, ranked, found-seat}
-use Rattle.tt_in_step.proofs.Hearing.{hears, if_told, if_told-nil, says, games, all_said, alone}
-use Rattle.tt_in_step.proofs.Ways.{seen_as, Way, Fitting, FitsAt, place_at, map_at, if_plays, stays, way-stamps, fitting-stamps, fitting-later}
+use Rattle.tt_in_step.specs.Watched.{Seat, InQueue, Loads, seat_of, seat, watched}
+use Rattle.tt_in_step.proofs.Seats.{among, map-same, plays, playing-is, ranked}
+use Rattle.tt_in_step.proofs.Hearing.{hears, if_told, if_told-nil, games, all_said, alone}
+use Rattle.tt_in_step.proofs.Ways.{seen_as, Fitting, FitsAt, map_at, if_plays, way-stamps, fitting-stamps, fitting-later}
 use Rattle.tt_in_step.proofs.Ways.{way-frame, way-run, way-sync, world-stays}
-use Rattle.tt_in_step.proofs.Pieces.{MapGoes, way-pieces, seat_then}
-use Rattle.tt_in_step.proofs.Worlds.{MapsAreRead, AreShort}
+use Rattle.tt_in_step.proofs.Pieces.{way-pieces, seat_then}
+use Rattle.tt_in_step.proofs.Worlds.{MapsAreRead}
 use Rattle.tt_in_step.proofs.Lines.{Line, line-same, in_line}
-use Rattle.tt_in_step.proofs.Does.{altered, Steady, Base, Tied, Does, Turns, way-is, does-then, does-so, does-quiet, does-still, does-where}
+use Rattle.tt_in_step.proofs.Does.{Steady, Tied, Does, Turns, way-is, does-then, does-so, does-quiet, does-still, does-where}
 use Rattle.tt_in_step.proofs.Does.{does-some, does-silent, tied-turn, seated}
-use Rattle.tt_in_step.proofs.Frames.{Same, moved-same, Framed, all-frames, told_frame}
+use Rattle.tt_in_step.proofs.Frames.{Same, moved-same, all-frames}
 use Rattle.tt_in_step.proofs.Ending.{does-ends}
 use Rattle.tt_in_step.proofs.Packets.{does-change}
 
@@ -329,7 +326,7 @@ module _ (o : Origin) (reads : MapsAreRead o) (named : is_empty o.setup.id ≡ f
       (low s t.frame here.1 steady.low)) here in
       let said : map ServerMapData (pieces_of 4 f.left) ++ cond more [] (ServerMapDone ∷ []) ≡ all_said o f (MapPieces ∷ []) =
       ap (λ (b : Bool). map ServerMapData (pieces_of 4 f.left) ++ cond b [] (ServerMapDone ∷ [])) (sym is)
-      ∙ sym (append-nil _ ) ∙ ap (λ (ms : List GameMsg). ms ++ []) (sym (games (piece_messages f.left))) in
+      ∙ sym (append-nil _) ∙ ap (λ (ms : List GameMsg). ms ++ []) (sym (games (piece_messages f.left))) in
       let now = behind-seat more m at in
       record {
         end = g.end;

@@ -1,5 +1,5 @@
 -- Each thing that the server does is a way of the server that one connection sees: by cases on its seat, and with no table.
-use Rattle.std.proofs.Common.{◌≡◌, ℕ, suc, ◌+◌, ◌<◌, ◌≤◌, Bool, true, false, List, [], ◌∷◌, ◌++◌, Option, Some, None, length, take, drop}
+use Rattle.std.proofs.Common.{◌≡◌, ℕ, suc, ◌+◌, ◌<◌, ◌≤◌, Bool, true, false, List, [], ◌∷◌, ◌++◌, Option, Some, None, length, take}
 use Rattle.std.proofs.Common.{refl, ap, ap₂, sym, ◌∙◌, subst, map, arith}
 use Rattle.std.specs.Prelude.{◌*◌}
 use Rattle.std.specs.List.{AllByRecursion}
@@ -187,9 +187,11 @@ world-stays o s f top journal es l m a = world-stable (game_of o) s top journal 
 pub fitting-stamps : (o : Origin) (f top : ℕ) (journal es : List Entry) (b : Bool) (x : Option Seat) (place : Place) → f ≤ top
     → AreStamped (game_of o) top es → Fitting o f journal b x place → Fitting o f (journal ++ es) b x place
 fitting-stamps o f top journal es b None place l a fit = fit
-fitting-stamps o f top journal es b (Some (Loads s k)) place l a fit =
-    (fit.0 ∙ ap (λ (w : WorldState). Fetching s (length (map_of w)) (take (1400 * k) (map_of w)))
-    (sym (world-stays o s f top journal es fit.1 l a)), fit.1)
+fitting-stamps o f top journal es b (Some (Loads s k)) place l a fit = (
+  fit.0 ∙ ap (λ (w : WorldState). Fetching s (length (map_of w)) (take (1400 * k) (map_of w)))
+      (sym (world-stays o s f top journal es fit.1 l a)),
+  fit.1,
+)
 fitting-stamps o f top journal es b (Some AtDoor) place l a fit = fit
 fitting-stamps o f top journal es b (Some Welcome) place l a fit = fit
 fitting-stamps o f top journal es b (Some InQueue) place l a fit = fit

@@ -1,7 +1,7 @@
 //! Each theorem is a function that can be called, and does nothing.
 use crate::{
-    a_late_start_goes_wrong, all_in_step, all_in_step_however_cut, entries_told, every_game_may_begin, fronts_agree, fronts_show, table_is_tied,
-    two_games_are_in_step,
+    a_late_start_goes_wrong, all_in_step, all_in_step_however_cut, entries_told,
+    every_game_may_begin, fronts_agree, fronts_show, table_is_tied, two_games_are_in_step,
 };
 
 #[test]
