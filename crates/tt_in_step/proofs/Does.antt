@@ -20,7 +20,8 @@ use Rattle.tt_log.proofs.Crew.{On, put, conns, admin_conns, put-conns}
 use Rattle.tt_log.proofs.Ordered.{Ordered, IsOrdered, put-clients, clients}
 use Rattle.tt_in_step.specs.Watched.{Seat, InQueue, seat_of, seat, watched}
 use Rattle.tt_in_step.proofs.Seats.{among, put-here, put-other, sits, plays, playing-is, not-any}
-use Rattle.tt_in_step.proofs.Hearing.{hears, hears-append, hears-one, hears-none, says, if_told, if_told-nil, alone, alone-own, alone-none, all_said}
+use Rattle.tt_in_step.proofs.Hearing.{hears, hears-append, hears-one, hears-none, says}
+use Rattle.tt_in_step.proofs.Hearing.{if_told, if_told-nil, alone, alone-own, alone-none, all_said}
 use Rattle.tt_in_step.proofs.Ways.{seen_as, Way, FitsAt, Fitting, stays, IsNoise, way-noise}
 use Rattle.tt_in_step.proofs.Worlds.{AreShort}
 use Rattle.tt_in_step.proofs.Lines.{Line, LineBut, in_line, line-put}
@@ -63,7 +64,8 @@ module _ (o : Origin) (f : Filling) (c : ℕ) where
     pub way : Way o place (hears c o f d.told) (watched c t) (watched c d.table) end
     pub tied : T d.table end
 
-  pub way-is : (place end : Place) (xs ys : List GameMsg) (a b old new : Server Entry) → Way o place xs a b end → xs ≡ ys → a ≡ old → b ≡ new
+  pub way-is : (place end : Place) (xs ys : List GameMsg) (a b old new : Server Entry) → Way o place xs a b end → xs ≡ ys
+      → a ≡ old → b ≡ new
       → Way o place ys old new end
   way-is place end xs ys a b old new way p q r = Goes-is (game_of o) dialog place end xs ys a b old new way p q r
 

@@ -1,5 +1,6 @@
 -- FRAME: each member that plays is told it once, and all seats stay.
-use Rattle.std.proofs.Common.{◌≡◌, ℕ, Bool, true, false, cond, List, [], ◌∷◌, ◌++◌, Option, Some, None, refl, ap, ap₂, sym, ◌∙◌, subst, arith}
+use Rattle.std.proofs.Common.{◌≡◌, ℕ, Bool, true, false, cond, List, [], ◌∷◌, ◌++◌}
+use Rattle.std.proofs.Common.{Option, Some, None, refl, ap, ap₂, sym, ◌∙◌, subst, arith}
 use Rattle.std.specs.Prelude.{◌==◌, ◌||◌, ◌&&◌, find}
 use Rattle.std.proofs.lemmas.Bool.{eqb-true}
 use Rattle.tt_game.specs.declared.message.GameMsg.{GameMsg}
@@ -97,7 +98,8 @@ module _ (o : Origin) (f : Filling) (c : ℕ) where
     pub heard : hears c o f d.told ≡ if_plays (is_one && plays (seat c t.members)) (told_frame t token)
     pub same : Same t d.table
 
-  one-token : (b : Bool) (conn : ℕ) (t : Table) (n : Member) → On t n → n.conn ≡ conn → ((conn == c) ≡ true → plays (seat c t.members) ≡ true)
+  one-token : (b : Bool) (conn : ℕ) (t : Table) (n : Member) → On t n → n.conn ≡ conn → ((conn == c) ≡ true → plays
+      (seat c t.members) ≡ true)
       → Ordered t → Framed (conn == c) t (tells_frame_by b n t)
   one-token true conn t n on own p h =
       let token : ℕ = fresh_token t.tokens in

@@ -84,7 +84,8 @@ abbrev pub all_said : Origin → Filling → List What → List GameMsg
 all_said o f [] = []
 all_said o f (w ∷ ws) = says o f w ++ all_said o f ws
 
-pub alone-own : (c conn : ℕ) (o : Origin) (f : Filling) (ws : List What) → (conn == c) ≡ true → hears c o f (alone conn ws) ≡ all_said o f ws
+pub alone-own : (c conn : ℕ) (o : Origin) (f : Filling) (ws : List What) → (conn == c) ≡ true → hears c o f
+    (alone conn ws) ≡ all_said o f ws
 alone-own c conn o f [] own = refl
 alone-own c conn o f (w ∷ ws) own = rw own (ap (λ (ms : List GameMsg). says o f w ++ ms) (alone-own c conn o f ws own))
 

@@ -217,7 +217,8 @@ module _ (o : Origin) (reads : MapsAreRead o) (named : is_empty o.setup.id ≡ f
     }
 
     -- who was not opened before, and is it, has ended for the game
-    aside-by : (full b : Bool) (t : Table) (place : Place) → (t.openings + 1 == c) ≡ b → Ordered (admin_arrives full (counted_aside t)).table
+    aside-by : (full b : Bool) (t : Table) (place : Place) → (t.openings + 1 == c) ≡ b → Ordered (admin_arrives full
+        (counted_aside t)).table
         → Tied o f c t place → Done t place (admin_arrives full (counted_aside t))
     aside-by full true t place is ordered h =
         let g = fresh t place is h in
@@ -251,7 +252,8 @@ module _ (o : Origin) (reads : MapsAreRead o) (named : is_empty o.setup.id ≡ f
     -- ---- events
 
     does-event : (e : Event) (t : Table) (place : Place) → is_tick e ≡ false → Tied o f c t place → Done t place (by_event o e t)
-    does-event (Open Main peer) t place other h = arrives-by (nat_le o.setup.max_clients (length t.members)) (t.openings + 1 == c) t place refl
+    does-event (Open Main peer) t place other h = arrives-by (nat_le o.setup.max_clients (length t.members))
+        (t.openings + 1 == c) t place refl
         ((order-doors o (Open Main peer)).comes t h.base.ordered) h
     does-event (Open Side peer) t place other h = aside-by (nat_le most_admins (length t.admins)) (t.openings + 1 == c) t place refl
         ((order-doors o (Open Side peer)).comes_aside t h.base.ordered) h
@@ -273,7 +275,8 @@ module _ (o : Origin) (reads : MapsAreRead o) (named : is_empty o.setup.id ≡ f
     among-conns [] = refl
     among-conns (m ∷ ms) = by (m.conn == c) (among-conns ms)
       where
-        by : (b : Bool) → among c (conns ms) ≡ is_some (seat c ms) → (b || among c (conns ms)) ≡ is_some (cond b (Some (seat_of m)) (seat c ms))
+        by : (b : Bool) → among c (conns ms) ≡ is_some (seat c ms) → (b || among c (conns ms)) ≡ is_some (cond b (Some
+            (seat_of m)) (seat c ms))
         by true later = refl
         by false later = later
 
@@ -300,7 +303,8 @@ module _ (o : Origin) (reads : MapsAreRead o) (named : is_empty o.setup.id ≡ f
         let b : nat_le c t.openings ≡ true = was-opened c t x h.base.ordered was in
         record {
           end = Parted;
-          way = way-is o f c place Parted _ _ _ _ _ _ (way-shutdown o t.frame t.top t.journal x place (subst (λ x. Fitting o t.frame t.journal
+          way = way-is o f c place Parted _ _ _ _ _ _ (way-shutdown o t.frame t.top t.journal x place (subst
+              (λ x. Fitting o t.frame t.journal
               (nat_le c t.openings) x place) was h.base.fits)) (sym (shut-heard true t (among-conns t.members ∙ ap is_some was)))
               (ap₂ (λ (b : Bool) (x : Option Seat). seen_as t.frame t.top t.journal b x) (sym b) (sym was))
               (ap (λ (b : Bool). seen_as t.frame t.top t.journal b None) (sym b));
@@ -406,7 +410,8 @@ module _ (o : Origin) (reads : MapsAreRead o) (named : is_empty o.setup.id ≡ f
       let near = is-near o es in
       let d = deed-by (is_tick e) (takes t e) e t p.end refl refl (is-ordered o es) near.ahead short low p.kept in
       let heard : game_messages (said.heard o (es ++ e ∷ []) c) ≡ game_messages (said.heard o es c) ++ hears c o f (deed o e t).told =
-      ap game_messages (heard-append o (first o) es (e ∷ []) c ∙ ap (λ (xs : List Said). said.heard o es c ++ xs) (append-nil (told_by o t e c)))
+      ap game_messages (heard-append o (first o) es (e ∷ []) c ∙ ap (λ (xs : List Said). said.heard o es c ++ xs) (append-nil
+          (told_by o t e c)))
       ∙ messages-append (said.heard o es c) (told_by o t e c) ∙ ap (λ (ms : List GameMsg). game_messages (said.heard o es c) ++ ms)
       (heard-is c o f (deed o e t).told) in
       record {

@@ -1,5 +1,6 @@
 -- Each packet's rule.
-use Rattle.std.proofs.Common.{◌≡◌, ℕ, ◌+◌, ◌≤◌, Bool, true, false, List, [], ◌∷◌, nat_le, Option, Some, None, refl, ap, sym, ◌∙◌, subst, arith}
+use Rattle.std.proofs.Common.{◌≡◌, ℕ, ◌+◌, ◌≤◌, Bool, true, false, List, [], ◌∷◌}
+use Rattle.std.proofs.Common.{nat_le, Option, Some, None, refl, ap, sym, ◌∙◌, subst, arith}
 use Rattle.std.specs.Prelude.{◌==◌, ◌&&◌, cond, filter, map, not}
 use Rattle.std.proofs.lemmas.Bool.{eqb-true, and_parts}
 use Rattle.tt_lockstep.specs.Told as told
@@ -69,7 +70,8 @@ module _ (o : Origin) (reads : MapsAreRead o) (named : is_empty o.setup.id ≡ f
       let door = seen_as t.frame t.top t.journal b (Some AtDoor) in
       record {
         end = end;
-        way = way-is o f c place end _ _ _ _ _ _ (subst (λ p. Way o p (said ∷ []) door door end) (sym here) (way-on o t.frame t.top t.journal
+        way = way-is o f c place end _ _ _ _ _ _ (subst (λ p. Way o p (said ∷ []) door door end) (sym here)
+            (way-on o t.frame t.top t.journal
             b AtDoor Asking end said is on)) refl (ap (λ (x : Seat). seen_as t.frame t.top t.journal b (Some x)) (sym at))
             (ap (λ (s : Stage). let v : Server Entry = record { frame = t.frame; permitted = t.top; journal = t.journal; stage = s } in v)
             (sym stage));
@@ -104,13 +106,15 @@ module _ (o : Origin) (reads : MapsAreRead o) (named : is_empty o.setup.id ≡ f
   does-company None t place m name asked on low h = does-welcomes t place m name asked on low h
   does-company (Some digest) t place m name asked on low h =
       does-door t place Asking m (now_in AuthCompany t (record m { name = name; asked = asked }))
-      (ServerNeedCompanyPassword o.setup.seed o.setup.id) on low refl refl refl (ap (λ (b : Bool). other_if (not b)) named) refl (refl, tt) h
+      (ServerNeedCompanyPassword o.setup.seed o.setup.id) on low refl refl refl (ap (λ (b : Bool). other_if (not b)) named) refl
+          (refl, tt) h
 
   does-password : (password : List ℕ) (t : Table) (place : Place) (m : Member) (name : List ℕ) (asked : ℕ) → On t m → rank m.status ≤ 3
       → Tied o f c t place → Done t place (password_step_by password o (record m { name = name; asked = asked }) t)
   does-password [] t place m name asked on low h = does-company (digest_of t asked) t place m name asked on low h
   does-password (b ∷ bs) t place m name asked on low h =
-      does-door t place Asking m (now_in AuthGame t (record m { name = name; asked = asked })) (ServerNeedGamePassword o.setup.seed o.setup.id)
+      does-door t place Asking m (now_in AuthGame t (record m { name = name; asked = asked }))
+          (ServerNeedGamePassword o.setup.seed o.setup.id)
       on low refl refl refl (ap (λ (b : Bool). other_if (not b)) named) refl (refl, tt) h
 
   -- one at the door is told about the game
@@ -139,7 +143,8 @@ module _ (o : Origin) (reads : MapsAreRead o) (named : is_empty o.setup.id ≡ f
 
   -- ---- in the game
 
-  does-active : (t : Table) (place : Place) (m : Member) → On t m → rank m.status ≡ 8 → Tied o f c t place → Done t place (becomes_active m t)
+  does-active : (t : Table) (place : Place) (m : Member) → On t m → rank m.status ≡ 8 → Tied o f c t place → Done t place
+      (becomes_active m t)
   does-active t place m on at h =
       let n : Member = now_in Active t m in
       let u : Table = with_member n t in
@@ -152,7 +157,8 @@ module _ (o : Origin) (reads : MapsAreRead o) (named : is_empty o.setup.id ≡ f
       (λ end k. tied-same o f c t.tokens t end m n on refl refl (sym (ranked 8 m at)) k) in
       let pb : Done t place b = does-then o f c (Tied o f c) (Tied o f c) t place a (sees_active n) pa
       (λ end k. does-silent o f c (Tied o f c) u end _ _ refl k) in
-      does-then o f c (Tied o f c) (Tied o f c) t place b (where_ (m.asked == founder) (asks_company n)) pb (λ end k. does-where o f c (Tied o f c) (m.asked == founder) (asks_company n)
+      does-then o f c (Tied o f c) (Tied o f c) t place b (where_ (m.asked == founder) (asks_company n)) pb
+          (λ end k. does-where o f c (Tied o f c) (m.asked == founder) (asks_company n)
       u end k (λ yes. does-quiet o f c (Tied o f c) u _ end refl (tied-but _ u.digests u.cost u end k)))
 
   acked-seat : (frame token : ℕ) (m : Member) → seat_of (acknowledged frame token m) ≡ seat_of m
@@ -196,7 +202,8 @@ module _ (o : Origin) (reads : MapsAreRead o) (named : is_empty o.setup.id ≡ f
   does-chats : (t : Table) (place : Place) (client scope to : ℕ) (text : List ℕ) → Tied o f c t place
       → Done t place (chats client scope to text t)
   does-chats t place client scope to text h =
-      let a : Deed = tells (map (λ m. m.conn) (filter (λ m. is_playing m && is_in_scope scope to m) t.members)) (ServerChat client scope text) t in
+      let a : Deed = tells (map (λ m. m.conn) (filter (λ m. is_playing m && is_in_scope scope to m) t.members))
+          (ServerChat client scope text) t in
       does-then o f c (Tied o f c) (Tied o f c) t place a (sees_chat client scope text)
       (does-news o f c (Tied o f c) t place _ (ServerChat client scope text) h.base h (λ c none. map-filter-not (λ (m : Member). m.conn)
       is_playing (is_in_scope scope to) c t.members none) (refl, refl))

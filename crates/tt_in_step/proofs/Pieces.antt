@@ -1,5 +1,6 @@
 -- Pieces of a map: the one place that needs maps to be read.
-use Rattle.std.proofs.Common.{◌≡◌, ℕ, zero, suc, ◌+◌, ◌<◌, ◌≤◌, Bool, true, false, cond, List, [], ◌∷◌, ◌++◌, Some, length, take, drop, refl}
+use Rattle.std.proofs.Common.{◌≡◌, ℕ, zero, suc, ◌+◌, ◌<◌, ◌≤◌, Bool, true, false}
+use Rattle.std.proofs.Common.{cond, List, [], ◌∷◌, ◌++◌, Some, length, take, drop, refl}
 use Rattle.std.proofs.Common.{ap, ap₂, sym, ◌∙◌, subst, map, append-nil, append_assoc, arith}
 use Rattle.std.specs.Prelude.{◌*◌, nat_lt, Result}
 use Rattle.std.specs.Result.{result_ok}
@@ -40,7 +41,8 @@ module _ (o : Origin) (f top : ℕ) (journal : List Entry) (b : Bool) where
 
   -- pieces, one behind the other
   data-ways : (x : Seat) (s size n : ℕ) (left come : List ℕ) → length come + length left ≤ size
-      → Way o (Fetching s size come) (map ServerMapData (pieces_of n left)) (seen x) (seen x) (Fetching s size (come ++ take (1400 * n) left))
+      → Way o (Fetching s size come) (map ServerMapData (pieces_of n left)) (seen x) (seen x) (Fetching s size (come ++ take
+          (1400 * n) left))
   data-ways x s size n [] come l =
       subst (λ (bs : List ℕ). Way o (Fetching s size come) [] (seen x) (seen x) (Fetching s size bs))
       (sym (ap (λ (bs : List ℕ). come ++ bs) (take_all (1400 * n) [] (omega arith)) ∙ append-nil come))
@@ -61,7 +63,8 @@ module _ (o : Origin) (f top : ℕ) (journal : List Entry) (b : Bool) where
       let count : 1400 + 1400 * n ≡ 1400 * suc n = omega arith in
       let e : (come ++ piece) ++ take (1400 * n) rest ≡ come ++ take (1400 * suc n) left = append_assoc come piece (take (1400 * n) rest)
       ∙ ap (λ (bs : List ℕ). come ++ bs) (take_on 1400 (1400 * n) left ∙ ap (λ (k : ℕ). take k left) count) in
-      subst (λ (bs : List ℕ). Way o here (ServerMapData piece ∷ map ServerMapData (pieces_of n rest)) (seen x) (seen x) (Fetching s size bs)) e
+      subst (λ (bs : List ℕ). Way o here (ServerMapData piece ∷ map ServerMapData (pieces_of n rest)) (seen x) (seen x)
+          (Fetching s size bs)) e
       (Goes-on (game_of o) dialog here there (Fetching s size ((come ++ piece) ++ take (1400 * n) rest)) (seen x) (seen x) (seen x)
       (ServerMapData piece ∷ []) (map ServerMapData (pieces_of n rest)) one more)
 

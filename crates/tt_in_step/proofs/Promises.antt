@@ -32,7 +32,8 @@ use Rattle.tt_log.specs.Member.{Member, is_playing}
 use Rattle.tt_log.specs.Table.{member_of}
 use Rattle.tt_log.specs.History.{table_of, journal_of, AreEvents}
 use Rattle.tt_log.proofs.Counting.{is-low}
-use Rattle.tt_in_step.specs.Watched.{Seat, AtDoor, Welcome, InQueue, Loads, HasMap, Plays, seat_of, stage_at, stage_of, watched, things_told}
+use Rattle.tt_in_step.specs.Watched.{Seat, AtDoor, Welcome, InQueue, Loads, HasMap}
+use Rattle.tt_in_step.specs.Watched.{Plays, seat_of, stage_at, stage_of, watched, things_told}
 use Rattle.tt_in_step.specs.Watched.{entries_in}
 use Rattle.tt_in_step.specs.Watched.{game_messages}
 use Rattle.tt_frame.specs.Packet.{IsBytes}
@@ -188,7 +189,8 @@ module _ (maps : MapsAreMaps) (o : Origin) (h : IsOrigin o) (es : List Event) (a
       compared_holds (game_of o) p.steps calls later v f g w less (p.stream_is ∙ e) is
 
   -- the map of a frame of the game is read back
-  pub map-read : (s : ℕ) → s ≤ (table_of o es).frame → map_in (map_of (world_at o (journal_of o es) s)) ≡ Ok (world_at o (journal_of o es) s)
+  pub map-read : (s : ℕ) → s ≤ (table_of o es).frame → map_in (map_of (world_at o (journal_of o es) s)) ≡ Ok (world_at o
+      (journal_of o es) s)
   map-read s l =
       let low = is-low o es in
       (maps_are_read maps o h (journal_of o es) s leading.short.entries (omega (arith, l, low))).is_read
@@ -206,10 +208,12 @@ module _ (maps : MapsAreMaps) (o : Origin) (h : IsOrigin o) (es : List Event) (a
 
   fits-stage : (m : Member) → member_of (table_of o es) c ≡ Some m → facts.Fits (game_of o) (journal_of o es) (table_of o es).frame
       (table_of o es).top (stage_at (seat_of m)) (shown (game_of o) Joining (things_told o es c))
-  fits-stage m is = subst (λ s. facts.Fits (game_of o) (journal_of o es) (table_of o es).frame (table_of o es).top s (shown (game_of o) Joining
+  fits-stage m is = subst (λ s. facts.Fits (game_of o) (journal_of o es) (table_of o es).frame (table_of o es).top s (shown
+      (game_of o) Joining
       (things_told o es c))) (seated m is) fits
 
-  none-by : (x : Seat) → plays_at x ≡ false → facts.Fits (game_of o) (journal_of o es) (table_of o es).frame (table_of o es).top (stage_at x)
+  none-by : (x : Seat) → plays_at x ≡ false → facts.Fits (game_of o) (journal_of o es) (table_of o es).frame (table_of o es).top
+      (stage_at x)
       (shown (game_of o) Joining (things_told o es c)) → entries_in (things_told o es c) ≡ []
   none-by AtDoor idle f = all-entries o (things_told o es c) Joining f refl
   none-by Welcome idle f = all-entries o (things_told o es c) Joining f refl
@@ -226,7 +230,8 @@ module _ (maps : MapsAreMaps) (o : Origin) (h : IsOrigin o) (es : List Event) (a
   pub told-all : (m : Member) → member_of (table_of o es) c ≡ Some m → is_playing m ≡ true
       → entries_in (things_told o es c) ≡ above o m.map_frame (journal_of o es)
   told-all m is plays =
-      let f : facts.Fits (game_of o) (journal_of o es) (table_of o es).frame (table_of o es).top (Playing m.map_frame) (shown (game_of o) Joining
+      let f : facts.Fits (game_of o) (journal_of o es) (table_of o es).frame (table_of o es).top (Playing m.map_frame) (shown
+          (game_of o) Joining
       (things_told o es c)) = subst (λ x. facts.Fits (game_of o) (journal_of o es) (table_of o es).frame (table_of o es).top (stage_at x)
       (shown (game_of o) Joining (things_told o es c))) (high-seat m plays) (fits-stage m is) in
       all-entries o (things_told o es c) (Running f.0) f.1 refl ∙ f.2.entries_are
@@ -236,7 +241,8 @@ module _ (maps : MapsAreMaps) (o : Origin) (h : IsOrigin o) (es : List Event) (a
       → things_told o es c ≡ front ++ told.Frame f max ∷ later → shown (game_of o) Joining front ≡ Running v → v.map_frame < g → g ≤ max
       → at_frame o g (entries_in front) ≡ at_frame o g (journal_of o es)
   frame-has front later v f max g e is l m =
-      let whole : things_told o es c ≡ (front ++ told.Frame f max ∷ []) ++ later = e ∙ sym (append_assoc front (told.Frame f max ∷ []) later) in
+      let whole : things_told o es c ≡ (front ++ told.Frame f max ∷ []) ++ later = e ∙ sym (append_assoc front
+          (told.Frame f max ∷ []) later) in
       let a = agrees (front ++ told.Frame f max ∷ []) later whole in
       let now : shown (game_of o) Joining (front ++ told.Frame f max ∷ []) ≡ seen (game_of o) (Running v) (told.Frame f max) =
       shown-append o front (told.Frame f max ∷ []) Joining ∙ ap (λ k. seen (game_of o) k (told.Frame f max)) is in

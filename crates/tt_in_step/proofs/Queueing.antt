@@ -86,7 +86,8 @@ module _ (o : Origin) (reads : MapsAreRead o) (f : Filling) (c : ℕ) where
       ∷ ServerMapSize (length (map_of v)) ∷ []) (sym h.steady.frame_is) (sym h.steady.world_is) in
       record {
         end = there;
-        way = way-is o f c place there _ _ _ _ _ _ (subst (λ p. Way o p said old new there) (sym at.0) (way-begin o t.frame t.top t.journal b
+        way = way-is o f c place there _ _ _ _ _ _ (subst (λ p. Way o p said old new there) (sym at.0)
+            (way-begin o t.frame t.top t.journal b
             read.fits)) ms (ap (λ (x : Seat). seen_as t.frame t.top t.journal b (Some x)) (sym is)) refl;
         fit = (refl, omega arith);
       }
@@ -112,7 +113,8 @@ module _ (o : Origin) (reads : MapsAreRead o) (f : Filling) (c : ℕ) where
       put-here z n t.members (eq-eqb m.conn z own) (ap (λ (y : Option Seat). is_some y) w) in
       does-where o f c (Begun z t) (is_in MapWait m) (begins_for m) t place still (λ yes.
       does-so o f c (Base o f c) (Begun z t) t place (begins_for m t)
-      (does-turn o f c t.tokens t.queue t place m n (MapBegin ∷ []) (on-found t z m is) refl refl h (λ own fit. begin-turns t place m h at fit))
+      (does-turn o f c t.tokens t.queue t place m n (MapBegin ∷ []) (on-found t z m is) refl refl h
+          (λ own fit. begin-turns t place m h at fit))
       (λ end k. record {
         base = k;
         here = ap in_line now;
@@ -221,7 +223,8 @@ module _ (o : Origin) (reads : MapsAreRead o) (f : Filling) (c : ℕ) where
 
   leave-in : (q : List ℕ) (x : ℕ) (t : Table) (place : Place) → t.queue ≡ q → Parting o f c x t place
       → Does o f c (Tied o f c) t place (left q (cond (nat_lt (place_in x q) (length q)) (Some (place_in x q)) None) t)
-  leave-in [] x t place q h = does-still o f c (Tied o f c) t place (record { base = h.base; line = subst (λ q. Line t.members q) (sym q) tt })
+  leave-in [] x t place q h = does-still o f c (Tied o f c) t place (record { base = h.base; line = subst (λ q. Line t.members q)
+      (sym q) tt })
   leave-in (y ∷ ys) x t place q h = leave-at (y == x) (nat_lt (place_in x (y ∷ ys)) (length (y ∷ ys))) x y ys t place refl h q refl
 
   left-is : (x : Option ℕ) (t : Table) → where_some x left_place t ≡ left t.queue x t

@@ -1,5 +1,6 @@
 -- The texts of commands are short: of those that wait, of the server's own, and so of the journal.
-use Rattle.std.proofs.Common.{◌≡◌, ℕ, ◌+◌, Bool, true, false, cond, List, [], ◌∷◌, Option, Some, None, refl, ap, sym, subst, map, take, arith}
+use Rattle.std.proofs.Common.{◌≡◌, ℕ, ◌+◌, Bool, true, false, cond, List, [], ◌∷◌}
+use Rattle.std.proofs.Common.{Option, Some, None, refl, ap, sym, subst, map, take, arith}
 use Rattle.std.specs.Prelude.{◌==◌, flat_map, Result, Ok, length, nat_le, not}
 use Rattle.std.specs.Result.{result_ok}
 use Rattle.std.specs.List.{AllByRecursion}
@@ -31,7 +32,8 @@ use Rattle.tt_log.specs.Events.{read_msg, arrives, counted_in, stepped}
 use Rattle.tt_log.specs.History.{IsEvent}
 use Rattle.tt_log.proofs.Lists.{all-append, all-drop, all-filter, all-map, all-take, among-all}
 use Rattle.tt_log.proofs.Crew.{put, put-all}
-use Rattle.tt_log.proofs.Changes.{Says, By, Change, wants_password, is_let_in, gets_token, gets_frame, answers, plays, May, Move, turned, moved}
+use Rattle.tt_log.proofs.Changes.{Says, By, Change, wants_password, is_let_in, gets_token}
+use Rattle.tt_log.proofs.Changes.{gets_frame, answers, plays, May, Move, turned, moved}
 use Rattle.tt_log.proofs.Changes.{commands, has_name, goes_to, founds, gets_pieces, has_all, queues, begins_map, loads}
 use Rattle.tt_log.proofs.Walk.{Base, Walk, Moves, Ticks, running, of-asks, of-enters, of-leaves, of-deed}
 use Rattle.tt_in_step.proofs.Worlds.{AreShort}
@@ -43,7 +45,8 @@ ok-is other m is = absurd cc
 
 spells : (kind : ℕ) (body : List ℕ) (m : GameMsg) → IsBytes body → read_msg kind body ≡ Some m → Spells m kind body
 spells kind body m bytes is =
-    row_takes (rule_of messages kind).fields (rule_of messages kind).make (whole body) m bytes (ok-is (read_by messages kind (whole body)) m is)
+    row_takes (rule_of messages kind).fields (rule_of messages kind).make (whole body) m bytes (ok-is (read_by messages kind
+        (whole body)) m is)
 
 abbrev text_in : GameMsg → List ℕ
 text_in (ClientCommand company code number to text) = text
@@ -139,7 +142,8 @@ module _ (o : Origin) (e : Event) (bytes : IsEvent e) where
   short-base = record {
     still = λ t h. h;
     joins = λ t u v xs ys a b h. b (a h);
-    turns = λ c t m on may by h. put-short t (turned c t m) (turned-brief c t m may by (among-all (λ (m : Member). AreBrief m.waiting) m t.members
+    turns = λ c t m on may by h. put-short t (turned c t m) (turned-brief c t m may by (among-all (λ
+        (m : Member). AreBrief m.waiting) m t.members
         on h.waiting)) h;
     tells_one = λ t m msg on talk h. h;
     tells_some = λ t to w there news h. h;

@@ -18,7 +18,8 @@ use Rattle.tt_log.specs.declared.deed.What.TheVariants.{MapPieces, Sync, End, To
 use Rattle.tt_log.specs.Origin.{Origin, game_of, at_frame}
 use Rattle.tt_log.specs.Admin.{Admin}
 use Rattle.tt_log.specs.Member.{Member, is_in}
-use Rattle.tt_log.specs.Table.{Table, playing, member_of, admin_of, is_admin_on, with_member, world_of, downloader, first_loading, if_loading}
+use Rattle.tt_log.specs.Table.{Table, playing, member_of, admin_of, is_admin_on}
+use Rattle.tt_log.specs.Table.{with_member, world_of, downloader, first_loading, if_loading}
 use Rattle.tt_log.specs.Deed.{Deed, ◌▹◌, where_, where_some, becomes, tells_what}
 use Rattle.tt_log.specs.Tellings.{Filling, piece_messages}
 use Rattle.tt_log.specs.Judged.{is_empty}
@@ -80,7 +81,8 @@ put-one false d n k x b is same = ap (λ (d : Bool). cond d k x) is
 
 put-put : (n k : Member) (ms : List Member) → n.conn ≡ k.conn → put k (put n ms) ≡ put k ms
 put-put n k [] same = refl
-put-put n k (x ∷ xs) same = ap₂ (λ (y : Member) (ys : List Member). y ∷ ys) (put-one (x.conn == n.conn) (x.conn == k.conn) n k x refl refl same)
+put-put n k (x ∷ xs) same = ap₂ (λ (y : Member) (ys : List Member). y ∷ ys) (put-one (x.conn == n.conn)
+    (x.conn == k.conn) n k x refl refl same)
     (put-put n k xs same)
 
 -- the first of a queue
@@ -144,7 +146,8 @@ module _ (o : Origin) (reads : MapsAreRead o) (named : is_empty o.setup.id ≡ f
       → Left t.queue (seat c t.members) (t.journal ++ es)
   left-stamps t place es a h s k first is =
       let fit = subst (λ x. Fitting o t.frame t.journal (nat_le c t.openings) x place) is h.fits in
-      h.left s k first is ∙ ap (λ (w : WorldState). drop (1400 * k) (map_of w)) (sym (world-stays o s t.frame t.top t.journal es fit.1 h.ahead a))
+      h.left s k first is ∙ ap (λ (w : WorldState). drop (1400 * k) (map_of w)) (sym
+          (world-stays o s t.frame t.top t.journal es fit.1 h.ahead a))
 
   drawn-same : (t : Table) (d : ℕ) → seat d (map drawn t.members) ≡ seat d t.members
   drawn-same t d = map-same d drawn t.members (λ m. refl) (λ m. refl)
@@ -277,11 +280,13 @@ module _ (o : Origin) (reads : MapsAreRead o) (named : is_empty o.setup.id ≡ f
       let told : among c (playing t) ≡ plays x = playing-is 0 c t.members base.ordered.rise in
       let said : if_plays (plays x) (ServerSync t.frame (world_of o t).words.0 ∷ [])
       ≡ if_told (among c (playing t)) (ServerSync f.frame f.world.words.0 ∷ []) [] = sym (ap (λ (b : Bool). if_told b (ServerSync f.frame
-      f.world.words.0 ∷ []) []) told ∙ one (plays x) (ServerSync f.frame f.world.words.0) ∙ ap₂ (λ (g : ℕ) (w : WorldState). if_plays (plays x)
+      f.world.words.0 ∷ []) []) told ∙ one (plays x) (ServerSync f.frame f.world.words.0) ∙ ap₂ (λ (g : ℕ)
+          (w : WorldState). if_plays (plays x)
       (ServerSync g w.words.0 ∷ [])) base.steady.frame_is base.steady.world_is) in
       record {
         end = place;
-        way = way-is o f c place place _ _ _ _ _ _ (way-sync o t.frame t.top t.journal (nat_le c t.openings) x place base.fits) said refl refl;
+        way = way-is o f c place place _ _ _ _ _ _ (way-sync o t.frame t.top t.journal
+            (nat_le c t.openings) x place base.fits) said refl refl;
         tied = h;
       }
     where
@@ -378,7 +383,8 @@ module _ (o : Origin) (reads : MapsAreRead o) (named : is_empty o.setup.id ≡ f
   each-by (m ∷ ms) t place h =
       let d : Deed = where_some (member_of t m.conn) (limited o) t in
       does-then o f c (Tied o f c) (Tied o f c) t place d (each_limited o ms)
-      (does-some o f c (Tied o f c) (member_of t m.conn) (limited o) t place h (λ n is. does-some o f c (Tied o f c) (late o.setup t.frame n)
+      (does-some o f c (Tied o f c) (member_of t m.conn) (limited o) t place h (λ n is. does-some o f c (Tied o f c)
+          (late o.setup t.frame n)
       (ends n) t place h (λ code late. does-ends o reads f c t place n code (on-found t m.conn n is) h)))
       (λ end k. each-by ms d.table end k)
 
@@ -401,7 +407,8 @@ module _ (o : Origin) (reads : MapsAreRead o) (named : is_empty o.setup.id ≡ f
   each-admin-by (a ∷ admins) t place h =
       let d : Deed = where_some (admin_of t a.conn) (admin_limited o) t in
       does-then o f c (Tied o f c) (Tied o f c) t place d (each_admin_limited o admins)
-      (does-some o f c (Tied o f c) (admin_of t a.conn) (admin_limited o) t place h (λ b is. does-where o f c (Tied o f c) (is_slow o t.frame b)
+      (does-some o f c (Tied o f c) (admin_of t a.conn) (admin_limited o) t place h (λ b is. does-where o f c (Tied o f c)
+          (is_slow o t.frame b)
       (admin_ends b 17) t place h (λ slow. does-then o f c (Tied o f c) (Tied o f c) t place
       (tells_admin b.conn (ServerError 17) t) (admin_leaves b)
       (does-silent o f c (Tied o f c) t place (b.conn ∷ []) (ToAdmin (ServerError 17)) refl h)

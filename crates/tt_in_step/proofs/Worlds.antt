@@ -1,5 +1,6 @@
 -- Each world that a game may come to is read back from its map: worlds stay sound, and the day comes slowly.
-use Rattle.std.proofs.Common.{◌≡◌, ℕ, zero, suc, ◌+◌, ◌<◌, ◌≤◌, Bool, true, false, cond, List, [], ◌∷◌, Option, Some, None, refl, sym, subst}
+use Rattle.std.proofs.Common.{◌≡◌, ℕ, zero, suc, ◌+◌, ◌<◌, ◌≤◌, Bool, true, false}
+use Rattle.std.proofs.Common.{cond, List, [], ◌∷◌, Option, Some, None, refl, sym, subst}
 use Rattle.std.proofs.Common.{arith, lit<, length}
 use Rattle.std.specs.Prelude.{◌==◌, ◌*◌, ◌^◌, ◌-◌, Ok}
 use Rattle.std.specs.List.{AllByRecursion}
