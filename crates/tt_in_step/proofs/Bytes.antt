@@ -189,7 +189,8 @@ goes-on ms before bytes later fits fits2 s e =
     let a = front-of ms before (bytes ++ later) s (e ∙ append_assoc before bytes later) in
     let b = front-of ms (before ++ bytes) later s e in
     let splits : Splits 32767 (before ++ bytes) (map packet_for a.front) (a.rest ++ bytes) = record { whole = ap (λ
-        (xs : List ℕ). xs ++ bytes) a.cut.splits.whole ∙ append_assoc (flat_map packet_bytes (map packet_for a.front)) a.rest bytes; each = a.cut.splits.each } in
+        (xs : List ℕ). xs ++ bytes) a.cut.splits.whole ∙ append_assoc (flat_map packet_bytes
+            (map packet_for a.front)) a.rest bytes; each = a.cut.splits.each } in
     let more = first_packets 32767 (before ++ bytes) (map packet_for a.front) (map packet_for b.front) (a.rest ++ bytes) b.rest
         (lit< tt) (none_in 32767 (before ++ bytes) (map packet_for b.front) (rest_of b.rest) b.cut (lit< tt)) splits b.cut.splits in
     let one = front-tells ms before fits2 s a in
@@ -197,7 +198,8 @@ goes-on ms before bytes later fits fits2 s e =
     let longer = longer-front a.front b.front more.0 more.1 a.back b.back (sym a.all ∙ b.all) in
     let ts = things dialog (place_after dialog Asking a.front) longer.0 in
     let same : things_in (before ++ bytes) ≡ things_in before ++ ts = two ∙ ap (λ
-        (xs : List GameMsg). things dialog Asking xs) longer.1 ∙ things-append dialog Asking a.front longer.0 ∙ ap (λ (us : List (Told WorldState Entry)). us ++ ts) (sym one) in
+        (xs : List GameMsg). things dialog Asking xs) longer.1 ∙ things-append dialog Asking a.front longer.0 ∙ ap (λ (us : List
+            (Told WorldState Entry)). us ++ ts) (sym one) in
     ap (λ (us : List (Told WorldState Entry)). things_in before ++ drop (length (things_in before)) us) same ∙ ap (λ (us : List
         (Told WorldState Entry)). things_in before ++ us) (drop-front (things_in before) ts) ∙ sym same
 

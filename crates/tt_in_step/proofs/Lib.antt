@@ -15,4 +15,5 @@ pub mod Histories
 pub mod Promises
 pub mod Bytes
 pub mod Phases
+pub mod Endings
 pub mod Computed

@@ -2,6 +2,7 @@
 pub mod Watched
 -- Streams of bytes
 pub mod Fed
+pub mod Ends
 -- A game that begins too late
 pub mod Late
 -- Worked games

@@ -31,9 +31,10 @@ ghost use Rattle.tt_log.specs.Member.{Member, is_playing};
 ghost use Rattle.tt_log.specs.Table.{member_of};
 ghost use Rattle.tt_log.specs.History.{AreEvents, journal_of, table_of};
 ghost use Rattle.tt_log.specs.Told.{sent};
-ghost use Rattle.tt_log.specs.Shown.{things_in};
+ghost use Rattle.tt_log.specs.Shown.{items_in, things_in};
 ghost use Rattle.tt_log.specs.Shown as book;
 ghost use Rattle.tt_in_step.specs.Watched.{entries_in, things_told, watched};
+ghost use Rattle.tt_in_step.specs.Ends.{HasEnd};
 ghost use Rattle.tt_in_step.specs.Fed.{IsPlayer, calls_of};
 ghost use Rattle.tt_in_step.specs.Late.{late, late_events};
 ghost use Rattle.tt_in_step.specs.Worked.{ahead, at_once, client_of, in_step_at, stands_at, two_clients};
@@ -140,6 +141,8 @@ pub fn fronts_show()
     ensures right { (o : Origin) (events : List Event) (conn : ℕ) (bytes later : List ℕ) (at : ℕ)
         → IsOrigin o → AreEvents events → IsPlayer o events conn → IsBytes bytes → sent o events conn ≡ bytes ++ later
         → (book.shown o bytes).phase ≡ book.WrongAt at → ⊥ }
+    // What any stream shows of an end stands in it: a code that is told, or that the game is over.
+    ensures ends { (o : Origin) (bytes : List ℕ) → HasEnd (book.shown o bytes).phase (items_in bytes) }
 {
     one_map();
 }

@@ -8,4 +8,5 @@ pub returns-clause-all : goal.returns-clause-all
 returns-clause-all c o es conn m h are is plays = told-all c.one_map.ensures.there o h es are conn m is plays
 
 pub returns-clause-frames : goal.returns-clause-frames
-returns-clause-frames c o es conn front later v f max g h are e is l k = frame-has c.one_map.ensures.there o h es are conn front later v f max g e is l k
+returns-clause-frames c o es conn front later v f max g h are e is l k = frame-has c.one_map.ensures.there o h
+    es are conn front later v f max g e is l k
