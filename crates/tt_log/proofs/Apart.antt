@@ -17,7 +17,7 @@ use Rattle.tt_log.specs.Events.{arrives, opened, counted_in, stepped, deed}
 use Rattle.tt_log.specs.Tellings.{Filling, Telling, telling, filled, said_by}
 use Rattle.tt_log.specs.Told.{told_to}
 use Rattle.tt_log.proofs.Lists.{Among, NotIn, IsOther, all-append, all-take, all-drop, any-not, all-of-filter}
-use Rattle.tt_log.proofs.Crew.{put, conns, admin_conns, put-conns, live-conns, live-admins}
+use Rattle.tt_log.proofs.Crew.{put, conns, admin_conns, put-conns, put-admin-conns, live-conns, live-admins}
 use Rattle.tt_log.proofs.Changes.{step, told_with, turned, moved, Move, queues, begins_map, loads}
 use Rattle.tt_log.proofs.Walk.{Base, Walk, Doors, Closing, Moves, Ticks, running, told_moved, of-asks, of-enters, of-leaves, of-deed}
 use Rattle.tt_log.proofs.Ordered.{map-same, all-more}
@@ -46,7 +46,7 @@ pub record Passes (c : ℕ) (t : Table) (steps : List Step) (u : Table) : Type 0
 
 -- ---- members
 
-among-not : (c : ℕ) (m : Member) (ms : List Member) → Among m ms → NotIn c (conns ms) → IsOther c m.conn
+pub among-not : (c : ℕ) (m : Member) (ms : List Member) → Among m ms → NotIn c (conns ms) → IsOther c m.conn
 among-not c m [] there a = absurd there
 among-not c m (x ∷ xs) (inl here) a = subst (λ (y : Member). IsOther c y.conn) here a.0
 among-not c m (x ∷ xs) (inr later) a = among-not c m xs later a.1
@@ -67,11 +67,11 @@ put-apart c n t a = record {
   queue = a.queue;
 }
 
-own-missed : (c conn : ℕ) (ws : List What) → IsOther c conn → Misses c (map (λ w. step (conn ∷ []) w) ws)
+pub own-missed : (c conn : ℕ) (ws : List What) → IsOther c conn → Misses c (map (λ w. step (conn ∷ []) w) ws)
 own-missed c conn [] ne = tt
 own-missed c conn (w ∷ ws) ne = ((ne, tt), own-missed c conn ws ne)
 
-moved-missed : (c : ℕ) (v : Move) (m : Member) → IsOther c m.conn → Misses c (told_moved v m)
+pub moved-missed : (c : ℕ) (v : Move) (m : Member) → IsOther c m.conn → Misses c (told_moved v m)
 moved-missed c queues m ne = tt
 moved-missed c begins_map m ne = ((ne, tt), tt)
 moved-missed c loads m ne = tt
@@ -119,7 +119,7 @@ apart-base c o e = record {
   });
   tells_one = λ t m msg on talk. says c t (m.conn ∷ []) _ (λ a. (among-not c m t.members on a.members, tt));
   tells_some = λ t to w there news. says c t to w (λ a. there c (playing-not c t a));
-  tells_admins = λ t to msg there. says c t to _ (λ a. there c a.admins);
+  tells_admins = λ t to r may. says c t to _ (λ a. may.within c a.admins);
 }
 
 apart-moves : (c : ℕ) (o : Origin) (e : Event) → Moves o e (PassesBy c)
@@ -184,6 +184,14 @@ apart-walk c o e = record {
   asks_map = λ t m on at. of-asks o e (PassesBy c) (apart-base c o e) (apart-moves c o e) t m on at;
   enters_game = λ t m on at. of-enters o e (PassesBy c) (apart-base c o e) (apart-moves c o e) t m on at;
   goes = λ t m farewell on. of-leaves o e (PassesBy c) (apart-base c o e) (apart-moves c o e) t m farewell on;
+  settles = λ t a b on is. passes c t [] _ refl (λ h. record {
+    apart = record {
+      members = h.members;
+      admins = subst (λ (xs : List ℕ). NotIn c xs) (sym (put-admin-conns b t.admins)) h.admins;
+      queue = h.queue;
+    };
+    misses = tt;
+  });
   goes_aside = λ t b on. passes c t _ _ refl
       (λ a. record {
         apart = record {
@@ -197,7 +205,7 @@ apart-walk c o e = record {
 }
 
 -- what is opened is another one
-is-new : (c n : ℕ) → (c ≤ n) ⊎ (n + 1 < c) → IsOther c (n + 1)
+pub is-new : (c n : ℕ) → (c ≤ n) ⊎ (n + 1 < c) → IsOther c (n + 1)
 is-new c n (inl opened) = ne_eqb (n + 1) c (λ e. omega (arith, e, opened))
 is-new c n (inr unopened) = ne_eqb (n + 1) c (λ e. omega (arith, e, unopened))
 
@@ -308,7 +316,7 @@ pub apart-not-live : (c : ℕ) (t : Table) → Apart c t → is_live t c ≡ fal
 apart-not-live c t a = any-or _ _ (live-conns c t.members ∙ any-not c (conns t.members) a.members) (live-admins c t.admins
     ∙ any-not c (admin_conns t.admins) a.admins)
 
-missed-one : (c : ℕ) (to : List ℕ) (said : List Said) (more : List Telling) → list_any (λ x. x == c) to ≡ false
+pub missed-one : (c : ℕ) (to : List ℕ) (said : List Said) (more : List Telling) → list_any (λ x. x == c) to ≡ false
     → told_to c (map (telling to) said ++ more) ≡ told_to c more
 missed-one c to [] more is = refl
 missed-one c to (s ∷ said) more is = rw is (missed-one c to said more is)

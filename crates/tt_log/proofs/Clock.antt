@@ -7,7 +7,7 @@ use Rattle.tt_edge.specs.declared.event.Event.TheVariants.{Open, Packet, Broken,
 use Rattle.tt_edge.specs.Event.{is_tick}
 use Rattle.tt_log.specs.declared.deed.Step.{Step}
 use Rattle.tt_log.specs.Origin.{Origin}
-use Rattle.tt_log.specs.Table.{Table, first, living_in}
+use Rattle.tt_log.specs.Table.{Table, first, world_of}
 use Rattle.tt_log.specs.Deed.{Deed, where_}
 use Rattle.tt_log.specs.Desk.{admin_arrives, counted_aside, most_admins}
 use Rattle.tt_log.specs.Tick.{stamps, stamped, frame_runs_by, left_of, ticked}
@@ -38,7 +38,7 @@ same-base o e = record {
   turns = λ c t m on may by. record { frame = refl; top = refl; over = refl; journal = refl };
   tells_one = λ t m msg on talk. record { frame = refl; top = refl; over = refl; journal = refl };
   tells_some = λ t to w there news. record { frame = refl; top = refl; over = refl; journal = refl };
-  tells_admins = λ t to msg there. record { frame = refl; top = refl; over = refl; journal = refl };
+  tells_admins = λ t to r may. record { frame = refl; top = refl; over = refl; journal = refl };
 }
 
 pub same-moves : (o : Origin) (e : Event) → Moves o e KeepsClock
@@ -60,6 +60,7 @@ same-walk o e = record {
   asks_map = λ t m on at. of-asks o e KeepsClock (same-base o e) (same-moves o e) t m on at;
   enters_game = λ t m on at. of-enters o e KeepsClock (same-base o e) (same-moves o e) t m on at;
   goes = λ t m farewell on. of-leaves o e KeepsClock (same-base o e) (same-moves o e) t m farewell on;
+  settles = λ t a b on is. record { frame = refl; top = refl; over = refl; journal = refl };
   goes_aside = λ t a on. record { frame = refl; top = refl; over = refl; journal = refl };
 }
 
@@ -122,7 +123,7 @@ ticked-is o t =
     let b : Bool = nat_lt s.top (s.frame + 1) in
     let u : Table = (frame_runs_by b o s).table in
     ticked-by b o t s u (ticked o t).table (stamped-same o t) refl (runs-same o b s) (of-follows o Tick KeepsClock (same-walk o Tick)
-    (living_in o t) (left_of o t) u)
+    (world_of o t) (left_of o t) u)
 
 -- ---- what follows the rule of an event
 

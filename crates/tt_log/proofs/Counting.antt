@@ -33,7 +33,7 @@ counts-base o e = record {
   turns = λ k t m on may by. record { openings = refl; cost = refl };
   tells_one = λ t m msg on talk. record { openings = refl; cost = refl };
   tells_some = λ t to w there news. record { openings = refl; cost = refl };
-  tells_admins = λ t to msg there. record { openings = refl; cost = refl };
+  tells_admins = λ t to r may. record { openings = refl; cost = refl };
 }
 
 counts-moves : (o : Origin) (e : Event) → Moves o e KeepsCounts
@@ -55,6 +55,7 @@ counts-walk o e = record {
   asks_map = λ t m on at. of-asks o e KeepsCounts (counts-base o e) (counts-moves o e) t m on at;
   enters_game = λ t m on at. of-enters o e KeepsCounts (counts-base o e) (counts-moves o e) t m on at;
   goes = λ t m farewell on. of-leaves o e KeepsCounts (counts-base o e) (counts-moves o e) t m farewell on;
+  settles = λ t a b on is. record { openings = refl; cost = refl };
   goes_aside = λ t a on. record { openings = refl; cost = refl };
 }
 
@@ -67,7 +68,7 @@ counts-ticks o e = record { stamping = λ t. record { openings = refl; cost = re
 
 -- ---- an event
 
-abbrev one_if : Bool → ℕ
+abbrev pub one_if : Bool → ℕ
 one_if b = cond b 1 0
 
 none-if : (b : Bool) → b ≡ false → one_if b ≡ 0
@@ -126,7 +127,7 @@ pub record Counted (t u : Table) (es : List Event) : Type 0 where
   pub ticks : u.frame ≡ t.frame + ticks_in es
   pub cost : u.cost ≡ t.cost + cost_of es
 
-taken-counts : (b : Bool) (o : Origin) (e : Event) (t : Table) → b ≡ true → ((where_ b (taken o e) t).table.openings
+pub taken-counts : (b : Bool) (o : Origin) (e : Event) (t : Table) → b ≡ true → ((where_ b (taken o e) t).table.openings
     ≡ t.openings + one_if (is_open e)) × ((where_ b (taken o e) t).table.frame ≡ t.frame + one_if (is_tick e))
     × ((where_ b (taken o e) t).table.cost ≡ t.cost + event_cost e)
 taken-counts true o e t is =

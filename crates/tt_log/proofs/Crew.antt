@@ -36,6 +36,18 @@ put-among n m [] same there = absurd there
 put-among n m (x ∷ xs) same (inl here) = put-among-here n x xs (same ∙ ap (λ (y : Member). y.conn) (sym here))
 put-among n m (x ∷ xs) same (inr later) = inr (put-among n m xs same later)
 
+-- and the admin in the place of the one on its connection
+abbrev pub put_admin : Admin → List Admin → List Admin
+put_admin a admins = map (λ b. cond (b.conn == a.conn) a b) admins
+
+put-admin-here : (b a : Admin) (admins : List Admin) → b.conn ≡ a.conn → Among b (put_admin b (a ∷ admins))
+put-admin-here b a admins same = inl (rw (eq-eqb a.conn b.conn (sym same)) refl)
+
+pub put-admin-among : (b a : Admin) (admins : List Admin) → b.conn ≡ a.conn → Among a admins → Among b (put_admin b admins)
+put-admin-among b a [] same there = absurd there
+put-admin-among b a (x ∷ xs) same (inl here) = put-admin-here b x xs (same ∙ ap (λ (y : Admin). y.conn) (sym here))
+put-admin-among b a (x ∷ xs) same (inr later) = inr (put-admin-among b a xs same later)
+
 pub put-one : (P : Member → Type 0) (b : Bool) (n x : Member) → P n → P x → P (cond b n x)
 put-one P true n x p q = p
 put-one P false n x p q = q
@@ -57,13 +69,22 @@ pub put-conns : (m : Member) (ms : List Member) → conns (put m ms) ≡ conns m
 put-conns m [] = refl
 put-conns m (n ∷ ns) = ap₂ (λ (x : ℕ) (xs : List ℕ). x ∷ xs) (put-conn (n.conn == m.conn) m n refl) (put-conns m ns)
 
+-- of admins too
+abbrev pub admin_conns : List Admin → List ℕ
+admin_conns admins = map (λ (a : Admin). a.conn) admins
+
+put-admin-conn : (b : Bool) (a x : Admin) → (x.conn == a.conn) ≡ b → (cond b a x).conn ≡ x.conn
+put-admin-conn true a x is = sym (eqb-true x.conn a.conn is)
+put-admin-conn false a x is = refl
+
+pub put-admin-conns : (a : Admin) (admins : List Admin) → admin_conns (put_admin a admins) ≡ admin_conns admins
+put-admin-conns a [] = refl
+put-admin-conns a (x ∷ xs) = ap₂ (λ (y : ℕ) (ys : List ℕ). y ∷ ys) (put-admin-conn (x.conn == a.conn) a x refl) (put-admin-conns a xs)
+
 pub live-conns : (c : ℕ) (ms : List Member) → is_some (find (is_on c) ms) ≡ list_any (λ x. x == c) (conns ms)
 live-conns c [] = refl
 live-conns c (m ∷ ms) = elim (m.conn == c) as (λ b. is_some (cond b (Some m) (find (is_on c) ms))
     ≡ (b || list_any (λ x. x == c) (conns ms))) [ true ↦ refl | false ↦ live-conns c ms ]
-
-abbrev pub admin_conns : List Admin → List ℕ
-admin_conns admins = map (λ (a : Admin). a.conn) admins
 
 pub live-admins : (c : ℕ) (admins : List Admin) → is_some (find (is_admin_on c) admins) ≡ list_any (λ x. x == c) (admin_conns admins)
 live-admins c [] = refl

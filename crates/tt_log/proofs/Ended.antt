@@ -8,6 +8,7 @@ use Rattle.std.proofs.lemmas.List.Sums.{fold-append}
 use Rattle.tt_edge.specs.declared.event.Door.TheVariants.{Main, Side}
 use Rattle.tt_edge.specs.declared.event.Event.{Event}
 use Rattle.tt_edge.specs.declared.event.Event.TheVariants.{Open, Packet, Broken, Shut, Tick, Stop}
+use Rattle.tt_admin.specs.declared.message.AdminMsg.{AdminMsg}
 use Rattle.tt_game.specs.declared.message.GameMsg.TheVariants.{ServerMapData, ServerMapDone}
 use Rattle.tt_rules.specs.Statuses.{rank}
 use Rattle.tt_log.specs.declared.deed.Step.{Step}
@@ -16,10 +17,11 @@ use Rattle.tt_log.specs.declared.deed.What.TheVariants.{Msg, ToAdmin, MapBegin, 
 use Rattle.tt_log.specs.Origin.{Origin}
 use Rattle.tt_log.specs.Member.{Member, is_playing}
 use Rattle.tt_log.specs.Table.{Table, first, member_of, is_live}
-use Rattle.tt_log.specs.Deed.{Said, game}
+use Rattle.tt_log.specs.Deed.{Said, game, admin}
 use Rattle.tt_log.specs.Tick.{pieces_of}
 use Rattle.tt_log.specs.Events.{deed, stepped}
 use Rattle.tt_log.specs.History.{table_of}
+use Rattle.tt_log.specs.Reports.{reported}
 use Rattle.tt_log.specs.Tellings.{Filling, Telling, telling, filled, said_by, filling}
 use Rattle.tt_log.specs.Told.{is_entry, kept_if, told_to, told_by, heard_from, heard}
 use Rattle.tt_log.proofs.Going.{heard-append}
@@ -48,9 +50,13 @@ pieces-plain [] true = tt
 pieces-plain [] false = (refl, tt)
 pieces-plain (x ∷ xs) b = (refl, pieces-plain xs b)
 
+admin-plain : (said : List AdminMsg) → ArePlain (map admin said)
+admin-plain [] = tt
+admin-plain (m ∷ said) = (refl, admin-plain said)
+
 what-plain : (w : What) (o : Origin) (f : Filling) → is_command w ≡ false → ArePlain (said_by o f w)
 what-plain (Msg m) o f is = (is, tt)
-what-plain (ToAdmin m) o f is = (refl, tt)
+what-plain (ToAdmin r) o f is = admin-plain (reported o f r)
 what-plain MapBegin o f is = (refl, (refl, tt))
 what-plain MapPieces o f is = pieces-plain (pieces_of 4 f.left) (nat_lt (4 * 1400) (length f.left))
 what-plain Sync o f is = (refl, tt)
@@ -248,7 +254,7 @@ first-false : (x y : Bool) → (x || y) ≡ false → (x ≡ false) × (y ≡ fa
 first-false true y is = absurd cc
 first-false false y is = (refl, is)
 
-place-gone : (p : Phase) (c : ℕ) (q xs : List ℕ) → list_any (λ x. x == c) xs ≡ false → Place p c q xs → NotIn c q
+pub place-gone : (p : Phase) (c : ℕ) (q xs : List ℕ) → list_any (λ x. x == c) xs ≡ false → Place p c q xs → NotIn c q
 place-gone Early c q xs gone h = h
 place-gone Queued c q xs gone h = let there : list_any (λ x. x == c) xs ≡ true = h.1 in absurd cc
 place-gone InGame c q xs gone h = h

@@ -32,7 +32,7 @@ sent-grows o es fs conn = (
 pub over-stays : (o : Origin) (t : Table) (e : Event) → t.over ≡ true → deed o e t ≡ becomes t
 over-stays o t e over = rw over refl
 
-over-from : (o : Origin) (es : List Event) (t : Table) → t.over ≡ true → fold (stepped o) t es ≡ t
+pub over-from : (o : Origin) (es : List Event) (t : Table) → t.over ≡ true → fold (stepped o) t es ≡ t
 over-from o [] t over = refl
 over-from o (e ∷ es) t over = ap (λ (d : Deed). fold (stepped o) d.table es) (over-stays o t e over) ∙ over-from o es t over
 

@@ -47,6 +47,10 @@ among-all P x [] there a = absurd there
 among-all P x (y ∷ ys) (inl here) a = subst P here a.0
 among-all P x (y ∷ ys) (inr later) a = among-all P x ys later a.1
 
+pub all-among : {A : Type 0} (xs : List A) → AllByRecursion (λ x. Among x xs) xs
+all-among [] = tt
+all-among (x ∷ xs) = (inl refl, all-so (λ y. Among y xs) (λ y. Among y (x ∷ xs)) xs (λ y there. inr there) (all-among xs))
+
 found-among-by : {A : Type 0} (b : Bool) (x y : A) (ys : List A) (found : Option A) → (found ≡ Some x → Among x ys) → cond b (Some y) found
     ≡ Some x → Among x (y ∷ ys)
 found-among-by true x y ys found later is = inl cc

@@ -20,8 +20,8 @@ use Rattle.tt_log.specs.Table.{Table, member_of, admin_of, is_live, with_member,
 use Rattle.tt_log.specs.Deed.{Said, game, Deed, ◌▹◌, where_, where_some}
 use Rattle.tt_log.specs.Queue.{moved_up, left_place, leaves_queue, begins, begins_for, begins_where, downloading}
 use Rattle.tt_log.specs.Ending.{Failing, tells_farewell, leaves, ends}
-use Rattle.tt_log.specs.Desk.{admin_hears}
-use Rattle.tt_log.specs.Events.{read_msg, read_admin, heard, to_named, by_verdict, by_event, charged, stops, closed, shut_down, taken}
+use Rattle.tt_log.specs.Desk.{read_admin, admin_hears}
+use Rattle.tt_log.specs.Events.{read_msg, heard, to_named, by_verdict, by_event, charged, stops, closed, shut_down, taken}
 use Rattle.tt_log.specs.Events.{takes, deed, stepped, last_frame}
 use Rattle.tt_log.specs.History.{table_of}
 use Rattle.tt_log.specs.Tellings.{Filling, Telling, telling, filled, said_by, filling}
@@ -41,10 +41,10 @@ use Rattle.tt_log.proofs.Refusing.{table-snoc}
 -- ---- what is not heard
 
 -- a step that a connection hears nothing of: it is not told, or the step tells nothing
-abbrev IsSilent : ℕ → Step → Type 0
+abbrev pub IsSilent : ℕ → Step → Type 0
 IsSilent c s = NotIn c s.to ⊎ (s.what ≡ End)
 
-abbrev Silent : ℕ → List Step → Type 0
+abbrev pub Silent : ℕ → List Step → Type 0
 Silent c steps = AllByRecursion (IsSilent c) steps
 
 missed-front : (c : ℕ) (to : List ℕ) (said : List Said) (more : List Telling) → list_any (λ x. x == c) to ≡ false
@@ -57,7 +57,7 @@ silent-step : (c : ℕ) (o : Origin) (f : Filling) (s : Step) (more : List Telli
 silent-step c o f s more (inl none) rest = missed-front c s.to (said_by o f s.what) more (any-not c s.to none) ∙ rest
 silent-step c o f s more (inr is) rest = ap (λ (w : What). told_to c (map (telling s.to) (said_by o f w) ++ more)) is ∙ rest
 
-silent-told : (c : ℕ) (o : Origin) (f : Filling) (steps : List Step) → Silent c steps → told_to c (filled o f steps) ≡ []
+pub silent-told : (c : ℕ) (o : Origin) (f : Filling) (steps : List Step) → Silent c steps → told_to c (filled o f steps) ≡ []
 silent-told c o f [] a = refl
 silent-told c o f (s ∷ steps) a = silent-step c o f s (filled o f steps) a.0 (silent-told c o f steps a.1)
 
@@ -114,7 +114,7 @@ rest-base c o e = record {
   turns = λ k t m on may by. record { admins = refl; own = refl; digests = refl; away = λ a. rest-put c (turned k t m) t a };
   tells_one = λ t m msg on talk. record { admins = refl; own = refl; digests = refl; away = λ a. a };
   tells_some = λ t to w there news. record { admins = refl; own = refl; digests = refl; away = λ a. a };
-  tells_admins = λ t to msg there. record { admins = refl; own = refl; digests = refl; away = λ a. a };
+  tells_admins = λ t to r may. record { admins = refl; own = refl; digests = refl; away = λ a. a };
 }
 
 rest-moves : (c : ℕ) (o : Origin) (e : Event) → Moves o e (KeepsRest c)
@@ -289,12 +289,12 @@ leaves-stays t m code c apart n there =
 
 -- ---- the whole event
 
-closed-silent : (b : Bool) (c : ℕ) (t : Table) → NotIn c (conns t.members) → NotIn c (admin_conns t.admins)
+pub closed-silent : (b : Bool) (c : ℕ) (t : Table) → NotIn c (conns t.members) → NotIn c (admin_conns t.admins)
     → Silent c (where_ b shut_down t).told
 closed-silent true c t none apart = (inl none, (inl apart, (inr refl, tt)))
 closed-silent false c t none apart = tt
 
-closed-gone : (b : Bool) (c : ℕ) (t : Table) → NotIn c (conns t.members) → NotIn c (admin_conns t.admins)
+pub closed-gone : (b : Bool) (c : ℕ) (t : Table) → NotIn c (conns t.members) → NotIn c (admin_conns t.admins)
     → is_live (where_ b shut_down t).table c ≡ false
 closed-gone true c t none apart = refl
 closed-gone false c t none apart = neither (live-conns c t.members ∙ any-not c (conns t.members) none) (live-admins c t.admins
@@ -303,7 +303,7 @@ closed-gone false c t none apart = neither (live-conns c t.members ∙ any-not c
     neither : {x y : Bool} → x ≡ false → y ≡ false → (x || y) ≡ false
     neither p q = rw (p, q) refl
 
-closed-not : (b : Bool) (t : Table) → (where_ b shut_down t).table.over ≡ false → (where_ b shut_down t).table ≡ t
+pub closed-not : (b : Bool) (t : Table) → (where_ b shut_down t).table.over ≡ false → (where_ b shut_down t).table ≡ t
 closed-not true t going = absurd cc
 closed-not false t going = refl
 
@@ -331,7 +331,7 @@ left-tokens (Some place) t = moved-tokens place (drop (place + 1) t.queue) (reco
       ++ drop (place + 1) t.queue;
 })
 
-none-member : (c : ℕ) (x : Option Member) (ms : List Member) → find (is_on c) ms ≡ x → x ≡ None → NotIn c (conns ms)
+pub none-member : (c : ℕ) (x : Option Member) (ms : List Member) → find (is_on c) ms ≡ x → x ≡ None → NotIn c (conns ms)
 none-member c x ms is none = none-there c (conns ms) (sym (live-conns c ms) ∙ ap (λ (y : Option Member). is_some y) (is ∙ none))
 
 module _ (o : Origin) (t : Table) (m : Member) (code : ℕ) (on : On t m) (apart : NotIn m.conn (admin_conns t.admins))
@@ -498,7 +498,7 @@ ends-found o t (Shut conn) m code is = absurd is
 ends-found o t Tick m code is = absurd is
 ends-found o t Stop m code is = absurd is
 
-where-taken : (b : Bool) (rule : Table → Deed) (t : Table) → b ≡ true → where_ b rule t ≡ rule t
+pub where-taken : (b : Bool) (rule : Table → Deed) (t : Table) → b ≡ true → where_ b rule t ≡ rule t
 where-taken true rule t is = refl
 where-taken false rule t is = absurd cc
 

@@ -319,7 +319,7 @@ mark-base o e = record {
   turns = λ c t m on may by h. put-marks t (turned c t m) (turned-mark c o t m may h.0 (found-mark t m on h)) h;
   tells_one = λ t m msg on talk h. h;
   tells_some = λ t to w there news h. h;
-  tells_admins = λ t to msg there h. h;
+  tells_admins = λ t to r may h. h;
 }
 
 greeted-mark : (t : Table) (m : Member) → rank m.status ≡ 8 → IsMarked t.frame t.top m
@@ -353,6 +353,7 @@ mark-walk o e = record {
   asks_map = λ t m on at. of-asks o e KeepsMarks (mark-base o e) (mark-moves o e) t m on at;
   enters_game = λ t m on at. of-enters o e KeepsMarks (mark-base o e) (mark-moves o e) t m on at;
   goes = λ t m farewell on. of-leaves o e KeepsMarks (mark-base o e) (mark-moves o e) t m farewell on;
+  settles = λ t a b on is h. h;
   goes_aside = λ t a on h. h;
 }
 

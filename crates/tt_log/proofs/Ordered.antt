@@ -15,7 +15,7 @@ use Rattle.tt_log.specs.Tick.{drawn}
 use Rattle.tt_log.specs.Events.{arrives, counted_in, stepped}
 use Rattle.tt_log.specs.History.{table_of, AreRising}
 use Rattle.tt_log.proofs.Lists.{Among, NotIn, IsOther, all-so, all-of-filter, among-all}
-use Rattle.tt_log.proofs.Crew.{On, put, conns, admin_conns, put-conns, on-found, found-on}
+use Rattle.tt_log.proofs.Crew.{On, put, conns, admin_conns, put-conns, put-admin-conns, on-found, found-on}
 use Rattle.tt_log.proofs.Changes.{turned-conn, turned-client, moved-conn, moved-client, turned, moved}
 use Rattle.tt_log.proofs.Walk.{Base, Walk, Doors, Closing, Moves, Ticks, running, of-asks, of-enters, of-leaves, of-deed}
 use Rattle.tt_log.proofs.Clock.{from-all}
@@ -176,7 +176,7 @@ order-base o e = record {
   turns = λ c t m on may by h. put-ordered t (turned c t m) m on (turned-conn c t m) (turned-client c t m) h;
   tells_one = λ t m msg on talk h. h;
   tells_some = λ t to w there news h. h;
-  tells_admins = λ t to msg there h. h;
+  tells_admins = λ t to r may h. h;
 }
 
 pub order-moves : (o : Origin) (e : Event) → Moves o e KeepsOrder
@@ -198,6 +198,8 @@ order-walk o e = record {
   asks_map = λ t m on at. of-asks o e KeepsOrder (order-base o e) (order-moves o e) t m on at;
   enters_game = λ t m on at. of-enters o e KeepsOrder (order-base o e) (order-moves o e) t m on at;
   goes = λ t m farewell on. of-leaves o e KeepsOrder (order-base o e) (order-moves o e) t m farewell on;
+  settles = λ t a b on is h. subst (λ (xs : List ℕ). IsOrdered t.openings t.clients (conns t.members) (clients t.members) xs)
+      (sym (put-admin-conns b t.admins)) h;
   goes_aside = λ t a on h. fewer-admins (λ b. not (is_admin_on a.conn b)) t h;
 }
 

@@ -9,7 +9,7 @@ use Rattle.tt_world.specs.declared.command.Command.{Command}
 use Rattle.tt_world.specs.declared.command.Entry.{Entry}
 use Rattle.tt_log.specs.declared.deed.Step.{Step}
 use Rattle.tt_log.specs.Origin.{Origin}
-use Rattle.tt_log.specs.Table.{Table, first, living_in}
+use Rattle.tt_log.specs.Table.{Table, first, world_of}
 use Rattle.tt_log.specs.Deed.{where_}
 use Rattle.tt_log.specs.Desk.{admin_arrives, counted_aside, most_admins}
 use Rattle.tt_log.specs.Tick.{stamps, own_entry, stamped, frame_runs_by, left_of, ticked}
@@ -48,7 +48,7 @@ own-base o e = record {
   turns = λ k t m on may by. same e t _ refl;
   tells_one = λ t m msg on talk. same e t t refl;
   tells_some = λ t to w there news. same e t t refl;
-  tells_admins = λ t to msg there. same e t t refl;
+  tells_admins = λ t to r may. same e t t refl;
 }
 
 own-moves : (o : Origin) (e : Event) → Moves o e (KeepsOwn e)
@@ -70,6 +70,7 @@ own-walk o e = record {
   asks_map = λ t m on at. of-asks o e (KeepsOwn e) (own-base o e) (own-moves o e) t m on at;
   enters_game = λ t m on at. of-enters o e (KeepsOwn e) (own-base o e) (own-moves o e) t m on at;
   goes = λ t m farewell on. of-leaves o e (KeepsOwn e) (own-base o e) (own-moves o e) t m farewell on;
+  settles = λ t a b on is. same e t _ refl;
   goes_aside = λ t a on. same e t _ refl;
 }
 
@@ -105,7 +106,7 @@ ticked-own o t =
     let s : Table = (stamped t).table in
     let b : Bool = nat_lt s.top (s.frame + 1) in
     let u : Table = (frame_runs_by b o s).table in
-    none-more u (ticked o t).table (of-follows o Tick (KeepsOwn Tick) (own-walk o Tick) (living_in o t) (left_of o t) u)
+    none-more u (ticked o t).table (of-follows o Tick (KeepsOwn Tick) (own-walk o Tick) (world_of o t) (left_of o t) u)
     ∙ none-more (running b o s) u (runs-own o b s) ∙ running-own o b s
     ∙ none-more (stamping t) s (of-entries o Tick (KeepsOwn Tick) (own-base o Tick) (stamps t) (stamping t))
 

@@ -170,7 +170,7 @@ further-base c o e = record {
       (with-quiet k c o t m);
   tells_one = λ t m msg on talk p h. goes-quiet c p _ _ _ h (quiet-if c (m.conn ∷ []) (Msg msg) (talk-quiet msg talk), tt);
   tells_some = λ t to w there news p h. news-goes p c t to w there h;
-  tells_admins = λ t to msg there p h. goes-quiet c p _ _ _ h (refl, tt);
+  tells_admins = λ t to r may p h. goes-quiet c p _ _ _ h (refl, tt);
 }
 
 further-walk : (c : ℕ) (o : Origin) (e : Event) → Walk o e (Further c)
@@ -181,6 +181,7 @@ further-walk c o e = record {
   asks_map = λ t m on at p h. asks-by (m.conn == c) c p m t refl at (among-all (Suits c p) m t.members on h.suits) on h;
   enters_game = λ t m on at p h. enters-by (m.conn == c) c p m t refl h;
   goes = λ t m farewell on p h. leaves-by (m.conn == c) c p m farewell t refl h;
+  settles = λ t a b on is p h. goes-quiet c p _ _ [] (record { suits = h.suits; place = h.place }) tt;
   goes_aside = λ t a on p h. goes-quiet c p _ _ _ (record { suits = h.suits; place = h.place }) (refl, tt);
 }
 

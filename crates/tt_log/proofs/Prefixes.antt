@@ -78,7 +78,7 @@ only-base c k o e = record {
   };
   tells_one = λ t m msg on talk h. h;
   tells_some = λ t to w there news h. h;
-  tells_admins = λ t to msg there h. h;
+  tells_admins = λ t to r may h. h;
 }
 
 only-moves : (c k : ℕ) (o : Origin) (e : Event) → Moves o e (KeepsOnly c k)
@@ -104,6 +104,7 @@ only-walk c k o e = record {
   asks_map = λ t m on at. of-asks o e (KeepsOnly c k) (only-base c k o e) (only-moves c k o e) t m on at;
   enters_game = λ t m on at. of-enters o e (KeepsOnly c k) (only-base c k o e) (only-moves c k o e) t m on at;
   goes = λ t m farewell on. of-leaves o e (KeepsOnly c k) (only-base c k o e) (only-moves c k o e) t m farewell on;
+  settles = λ t a b on is h. record { only = h.only; known = h.known };
   goes_aside = λ t a on h. record { only = h.only; known = h.known };
 }
 

@@ -17,7 +17,7 @@ use Rattle.tt_rules.specs.declared.status.Verdict.TheVariants.{Allowed, Ends}
 use Rattle.tt_log.specs.declared.deed.Step.{Step}
 use Rattle.tt_log.specs.Origin.{Origin}
 use Rattle.tt_log.specs.Member.{Member, new_member}
-use Rattle.tt_log.specs.Table.{Table, first, is_on, member_of, admin_of, with_member}
+use Rattle.tt_log.specs.Table.{Table, first, is_on, is_admin_on, member_of, admin_of, with_member}
 use Rattle.tt_log.specs.Deed.{Deed, ◌▹◌, where_, where_some}
 use Rattle.tt_log.specs.Judged.{judged}
 use Rattle.tt_log.specs.Ending.{ends}
@@ -25,17 +25,18 @@ use Rattle.tt_log.specs.PacketRules.{closed_token, command_waits}
 use Rattle.tt_log.specs.Desk.{admin_arrives, counted_aside, most_admins}
 use Rattle.tt_log.specs.Tick.{drawn, stamps, own_entry, entry_of}
 use Rattle.tt_log.specs.Admin.{Admin}
-use Rattle.tt_log.specs.Desk.{admin_hears}
-use Rattle.tt_log.specs.Events.{read_admin, arrives, counted_in, by_verdict, by_event, charged, closed, shut_down, stops, taken, takes}
+use Rattle.tt_log.specs.Desk.{read_admin, admin_hears}
+use Rattle.tt_log.specs.Events.{arrives, counted_in, by_verdict, by_event, charged, closed, shut_down, stops, taken, takes}
 use Rattle.tt_log.specs.Events.{stepped, read_msg, heard, to_named}
 use Rattle.tt_log.specs.History.{table_of, journal_of, AreRising}
 use Rattle.tt_log.specs.Stamps.{accepted, accepted_by, accepted_from, accepted_of, commands_in, for_company, if_allowed, if_so, stamped_of}
-use Rattle.tt_log.proofs.Lists.{Among, NotIn, all-append, all-so, among-all}
+use Rattle.tt_log.proofs.Lists.{Among, NotIn, all-append, all-so, among-all, found-among, found-passes}
 use Rattle.tt_log.proofs.Crew.{On, put, on-found, found-on, conns}
 use Rattle.tt_log.proofs.Changes.{Says, By, Change, wants_password, is_let_in, gets_token, gets_frame, answers, plays, commands, has_name}
 use Rattle.tt_log.proofs.Changes.{goes_to, founds, gets_pieces, has_all, turned, turned-conn, turned-client, moved, moved-conn}
 use Rattle.tt_log.proofs.Changes.{moved-client, Move, queues, begins_map, loads}
 use Rattle.tt_log.proofs.Walk.{Base, Walk, Doors, Closing, Moves, Ticks, running, of-asks, of-enters, of-leaves, of-deed, of-ends}
+use Rattle.tt_log.proofs.Walk.{of-admin-hears}
 use Rattle.tt_log.proofs.Ordered.{Ordered, is-ordered, step-ordered, order-base, order-moves, order-walk, order-doors, order-ticks}
 use Rattle.tt_log.proofs.Ordered.{order-closing, rising-not}
 
@@ -213,7 +214,7 @@ stamp-base c said o e quiet = record {
   );
   tells_one = λ t m msg on talk r h. (r, h);
   tells_some = λ t to w there news r h. (r, h);
-  tells_admins = λ t to msg there r h. (r, h);
+  tells_admins = λ t to report may r h. (r, h);
 }
 
 stamp-moves : (c : ℕ) (said : List (ℕ × Command)) (o : Origin) (e : Event) → Moves o e (KeepsStamps c said)
@@ -260,6 +261,7 @@ stamp-walk c said o e quiet = record {
   asks_map = λ t m on at. of-asks o e (KeepsStamps c said) (stamp-base c said o e quiet) (stamp-moves c said o e) t m on at;
   enters_game = λ t m on at. of-enters o e (KeepsStamps c said) (stamp-base c said o e quiet) (stamp-moves c said o e) t m on at;
   goes = λ t m farewell on. of-leaves o e (KeepsStamps c said) (stamp-base c said o e quiet) (stamp-moves c said o e) t m farewell on;
+  settles = λ t a b on is r h. ((order-walk o e).settles t a b on is r, record { live = h.live; early = h.early; senders = h.senders });
   goes_aside = λ t a on r h. ((order-walk o e).goes_aside t a on r, record { live = h.live; early = h.early; senders = h.senders });
 }
 
@@ -460,6 +462,9 @@ waits-kept c said t m w r on own h =
     conns-under k [] a = tt
     conns-under k (y ∷ ys) a = (a.0, conns-under k ys a.1)
 
+broken-quiet : (c : ℕ) → IsQuiet (Broken c) c
+broken-quiet c m company code number to text at (kind, body, is, said) = absurd cc
+
 stop-quiet : (c : ℕ) → IsQuiet Stop c
 stop-quiet c m company code number to text at (kind, body, is, said) = absurd cc
 
@@ -493,11 +498,13 @@ named-by : (x : Option Member) (c : ℕ) (said : List (ℕ × Command)) (o : Ori
     (admin_hears o (read_admin kind body)) t).table
 named-by None c said o t kind body company code number to text msg is r h =
     subst (λ (ws : List (ℕ × Command)). Kept c ws (where_some (admin_of t c) (admin_hears o (read_admin kind body)) t).table)
-    (sym (append-nil said)) (by (admin_of t c))
+    (sym (append-nil said)) (by (admin_of t c) refl)
   where
-    by : (a : Option Admin) → Kept c said (where_some a (admin_hears o (read_admin kind body)) t).table
-    by None = h
-    by (Some a) = h
+    by : (x : Option Admin) → admin_of t c ≡ x → Kept c said (where_some x (admin_hears o (read_admin kind body)) t).table
+    by None at = h
+    by (Some a) at = (of-admin-hears o (Broken c) (KeepsStamps c said) (stamp-walk c said o (Broken c) (broken-quiet c))
+        (read_admin kind body) t a
+        (found-among (is_admin_on c) a t.admins at) (sym (eqb-true a.conn c (found-passes (is_admin_on c) a t.admins at))) refl r h).1
 named-by (Some m) c said o t kind body company code number to text msg is r h =
     let P : Option GameMsg → Type 0 = λ x. Kept c (said ++ accepted_of o t (Some m) x) (heard o x m t).table in
     subst P (sym msg) (command-by (judged o t m (Some (ClientCommand company code number to text))) c said o t m company code number to text

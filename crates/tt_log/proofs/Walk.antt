@@ -1,8 +1,9 @@
 -- The one walk over the rules: a property of what a rule does (of the table before it, what it tells, and the table behind it)
 -- that holds of each part that rules are made of, and joins, holds of every event.
-use Rattle.std.proofs.Common.{◌≡◌, inl, inr, ℕ, ◌+◌, ◌≤◌, List, [], ◌∷◌, ◌++◌, refl, ap, sym, ◌∙◌, subst, true, false, Bool, Option, Some}
+use Rattle.std.proofs.Common.{◌≡◌, ◌⊎◌, inl, inr, ℕ, ◌+◌, ◌≤◌, List, [], ◌∷◌, ◌++◌, refl, ap, sym, ◌∙◌, subst, true, false, Bool}
+use Rattle.std.proofs.Common.{Option, Some}
 use Rattle.std.proofs.Common.{None, arith, zero, suc}
-use Rattle.std.specs.Prelude.{position, ◌*◌, ◌==◌, drop, take, length, nat_lt, nat_le, map, find, filter, cond, ◌%◌, not, ◌&&◌, ◌||◌}
+use Rattle.std.specs.Prelude.{position, slice_index, ◌*◌, ◌==◌, drop, take, length, nat_lt, nat_le, map, filter, cond, ◌%◌, not, ◌&&◌, ◌||◌}
 use Rattle.std.proofs.lemmas.Bool.{eqb-true, leb-true}
 use Rattle.tt_edge.specs.declared.event.Door.TheVariants.{Main, Side}
 use Rattle.tt_edge.specs.declared.event.Event.{Event}
@@ -18,6 +19,9 @@ use Rattle.tt_admin.specs.declared.message.AdminMsg.TheVariants as admins
 use Rattle.tt_world.specs.declared.command.Command.{Command}
 use Rattle.tt_world.specs.declared.command.Entry.{Entry}
 use Rattle.tt_rules.specs.Commands.{command_of}
+use Rattle.tt_rules.specs.Companies.{living}
+use Rattle.tt_world.specs.World.{WorldState}
+use Rattle.std.specs.List.{AllByRecursion}
 use Rattle.tt_rules.specs.Statuses.{rank}
 use Rattle.tt_rules.specs.declared.status.Status.TheVariants.{MapWait, PreActive}
 use Rattle.tt_rules.specs.declared.status.Verdict.{Verdict}
@@ -25,13 +29,16 @@ use Rattle.tt_rules.specs.declared.status.Verdict.TheVariants.{Allowed, Ends}
 use Rattle.tt_log.specs.declared.deed.Step.{Step}
 use Rattle.tt_log.specs.declared.deed.What.{What}
 use Rattle.tt_log.specs.declared.deed.What.TheVariants.{Msg, ToAdmin, MapBegin, Sync, Entries, Stamp, End}
+use Rattle.tt_log.specs.declared.report.Report.{Report}
+use Rattle.tt_log.specs.declared.report.Report.TheVariants.{Message, CompanyNews}
 use Rattle.tt_log.specs.Origin.{Origin, at_frame}
-use Rattle.tt_log.specs.Admin.{Admin, is_automatic, client_updates, chat_updates, command_updates}
+use Rattle.tt_log.specs.Admin.{Admin, is_automatic, has_bit, automatic_bit, client_updates, company_updates, chat_updates, console_updates}
+use Rattle.tt_log.specs.Admin.{command_updates}
 use Rattle.tt_log.specs.Member.{Member, is_in, is_playing, is_welcomed}
 use Rattle.tt_log.specs.Table.{Table, member_of, admin_of, is_admin_on, with_member, without_member, digest_of, with_digest, now_in}
-use Rattle.tt_log.specs.Table.{playing, welcomed, living_in, downloader, first_loading, if_loading}
+use Rattle.tt_log.specs.Table.{playing, welcomed, world_of, member_with, with_admin, downloader, first_loading, if_loading}
 use Rattle.tt_log.specs.Deed.{Deed, ◌▹◌, where_, where_some, tells, tells_what, tells_each, tells_playing}
-use Rattle.tt_log.specs.Watching.{watching, sees_stamp, sees_frame}
+use Rattle.tt_log.specs.Watching.{watching, sees_stamp, sees_console, sees_frame}
 use Rattle.tt_log.specs.Names.{given_name}
 use Rattle.tt_log.specs.Frames.{tells_fresh, tells_frame_by, tells_frame, frames_told}
 use Rattle.tt_log.specs.Queue.{asks, begins, begins_for, begins_where, waits, moved_up, left_place, leaves_queue}
@@ -40,14 +47,17 @@ use Rattle.tt_log.specs.Ending.{Farewell, Quitting, Failing, tells_farewell, lea
 use Rattle.tt_log.specs.PacketRules.{client_info, welcomes, company_step_by, password_step_by, enters, becomes_active, asks_company}
 use Rattle.tt_log.specs.PacketRules.{new_company, acknowledged, acknowledges, has_caught_up, closed_token, chats, is_in_scope, renames}
 use Rattle.tt_log.specs.PacketRules.{moves, does}
-use Rattle.tt_log.specs.Desk.{admin_opens, admin_leaves, admin_ends, admin_limited, each_admin_limited, admins_limited, admins_told}
-use Rattle.tt_log.specs.Desk.{is_slow}
+use Rattle.tt_log.specs.Polls.{tells_admin, poll_answers, due_reports, each_told, day_told, admins_told}
+use Rattle.tt_log.specs.Console.{ConsoleCommand, pauses, kicks, announces, command_in, lines_of, pause, kicks_out, console_does, obeys}
+use Rattle.tt_log.specs.Desk.{admin_opens, admin_leaves, admin_ends, admin_judged, admin_greeting, admin_joins, admin_does}
+use Rattle.tt_log.specs.Desk.{by_admin_verdict, admin_hears, read_admin, is_slow, admin_limited, each_admin_limited, admins_limited}
 use Rattle.tt_log.specs.Tick.{stamps, drawn, tells_entries, stamped, frame_runs_by, frame_runs, foundings, all_moved, founders_moved}
 use Rattle.tt_log.specs.Tick.{synced, next_pieces, finishes_map, mapped, left_of, late, limited, each_limited, timed, frame_follows, ticked}
 use Rattle.tt_log.specs.Events.{read_msg, opened, by_verdict, heard, to_named, on_conn, by_event, charged, stops, closed, shut_down, taken}
 use Rattle.tt_log.specs.Events.{takes, deed, last_frame}
-use Rattle.tt_log.proofs.Lists.{Among, Within, NotIn, IsOther, found-among, map-filter-not, all-of-filter, all-filter}
-use Rattle.tt_log.proofs.Crew.{On, OnAdmin, on-found, found-on, put-among, admin_conns}
+use Rattle.tt_log.proofs.Lists.{Among, Within, NotIn, IsOther, found-among, found-passes, map-filter-not, all-of-filter, all-filter}
+use Rattle.tt_log.proofs.Lists.{all-among}
+use Rattle.tt_log.proofs.Crew.{On, OnAdmin, on-found, found-on, put-among, put-admin-among, admin_conns}
 use Rattle.tt_log.proofs.Changes.{step, Allows, allows, Says, By, Change, wants_password, is_let_in, gets_token, gets_frame, answers, plays}
 use Rattle.tt_log.proofs.Changes.{commands, has_name, goes_to, founds, gets_pieces, has_all, Move, queues, begins_map, loads, Asks, May}
 use Rattle.tt_log.proofs.Changes.{turned, moved, turned_in, steps_with, IsTalk, IsNews, turned-conn}
@@ -74,9 +84,32 @@ told_moved queues m = []
 told_moved begins_map m = step (m.conn ∷ []) MapBegin ∷ []
 told_moved loads m = []
 
--- a command that the server may order for a member, or for an admin
+-- a command that the server may order: a company for a member, or a pause for an admin
 abbrev pub IsOrdered : Table → Command → Type 0
-IsOrdered t c = (m : Member) × On t m × (c ≡ new_company m)
+IsOrdered t c = ((m : Member) × On t m × (c ≡ new_company m)) ⊎ ((paused : Bool) × (c ≡ pause paused))
+
+-- the event is one of this connection
+abbrev pub Names : Event → ℕ → Type 0
+Names (Packet conn kind body) c = conn ≡ c
+Names (Broken conn) c = conn ≡ c
+Names other c = ⊥
+
+-- an admin as it was, but for what it has asked to be told, by an event of its own
+abbrev pub IsSettled : Event → Admin → Admin → Type 0
+IsSettled e a b = (b.conn ≡ a.conn) × (b.since ≡ a.since) × Names e a.conn
+
+-- the connections of the admins that have joined
+abbrev pub joined_conns : Table → List ℕ
+joined_conns t = admin_conns (filter (λ a. a.joined) t.admins)
+
+-- one is told something by an event of its own, or why it ends
+abbrev pub IsOwn : Event → List ℕ → Report → Type 0
+IsOwn e to r = (c : ℕ) × (to ≡ c ∷ []) × (Names e c ⊎ ((code : ℕ) × (r ≡ Message (admins.ServerError code))))
+
+-- admins that may be told a report: they have joined, or it is their own
+pub record MayTell (e : Event) (t : Table) (to : List ℕ) (r : Report) : Type 0 where
+  pub within : Within to (admin_conns t.admins)
+  pub turn : Within to (joined_conns t) ⊎ IsOwn e to r
 
 -- behind some of a queue
 none-behind : (c : ℕ) (xs ys : List ℕ) → NotIn c (xs ++ ys) → NotIn c ys
@@ -108,7 +141,7 @@ module _ (o : Origin) (e : Event) (P : Table → List Step → Table → Type 0)
     -- a member is told something, or some of those that play are, or some admins
     pub tells_one : (t : Table) (m : Member) (msg : GameMsg) → On t m → IsTalk msg → P t (step (m.conn ∷ []) (Msg msg) ∷ []) t
     pub tells_some : (t : Table) (to : List ℕ) (w : What) → Within to (playing t) → IsNews w → P t (step to w ∷ []) t
-    pub tells_admins : (t : Table) (to : List ℕ) (msg : AdminMsg) → Within to (admin_conns t.admins) → P t (step to (ToAdmin msg) ∷ []) t
+    pub tells_admins : (t : Table) (to : List ℕ) (r : Report) → MayTell e t to r → P t (step to (ToAdmin r) ∷ []) t
 
   -- it holds of each part that rules are made of, but for those of a tick
   pub record Walk : Type 0 where
@@ -121,7 +154,8 @@ module _ (o : Origin) (e : Event) (P : Table → List Step → Table → Type 0)
     pub asks_map : (t : Table) (m : Member) → On t m → rank m.status ≡ 4 → Of t (asks m t)
     pub enters_game : (t : Table) (m : Member) → On t m → rank m.status ≡ 7 → Of t (enters m t)
     pub goes : (t : Table) (m : Member) (farewell : Farewell) → On t m → Of t (leaves m farewell t)
-    -- an admin goes
+    -- an admin has joined, or asks to be told something; an admin goes
+    pub settles : (t : Table) (a b : Admin) → OnAdmin t a → IsSettled e a b → P t [] (with_admin b t)
     pub goes_aside : (t : Table) (a : Admin) → OnAdmin t a → Of t (admin_leaves a t)
 
   -- it holds of a connection that comes in by a door
@@ -177,9 +211,50 @@ module _ (o : Origin) (e : Event) (P : Table → List Step → Table → Type 0)
     pub of-playing : (t : Table) (msg : GameMsg) → IsTalk msg → Of t (tells_playing msg t)
     of-playing t msg talk = w.tells_some t (playing t) (Msg msg) (λ c h. h) talk
 
-    pub of-watched : (kind : ℕ) (msg : AdminMsg) (t : Table) → P t (step (watching kind t) (ToAdmin msg) ∷ []) t
-    of-watched kind msg t = w.tells_admins t (watching kind t) msg (λ c h. all-of-filter (λ (a : Admin). a.conn)
-        (is_automatic kind) c t.admins h)
+    pub of-seen : (kind : ℕ) (r : Report) (t : Table) → P t (step (watching kind t) (ToAdmin r) ∷ []) t
+    of-seen kind r t = w.tells_admins t (watching kind t) r (record {
+      within = λ c h. all-of-filter (λ (a : Admin). a.conn) (is_automatic kind) c t.admins h;
+      turn = inl (λ c h. map-filter-not (λ (a : Admin). a.conn) (λ a. a.joined) (λ a. has_bit automatic_bit (slice_index a.bits kind)) c
+          t.admins h);
+    })
+
+    pub of-watched : (kind : ℕ) (msg : AdminMsg) (t : Table) → P t (step (watching kind t) (ToAdmin (Message msg)) ∷ []) t
+    of-watched kind msg t = of-seen kind (Message msg) t
+
+    among-conn : (c : ℕ) (admins : List Admin) (a : Admin) → Among a admins → NotIn c (admin_conns admins) → IsOther c a.conn
+    among-conn c [] a there h = absurd there
+    among-conn c (x ∷ xs) a (inl here) h = subst (λ (y : Admin). IsOther c y.conn) here h.0
+    among-conn c (x ∷ xs) a (inr later) h = among-conn c xs a later h.1
+
+    of-told : (reports : List Report) (t : Table) (conn : ℕ) → ((r : Report) → MayTell e t (conn ∷ []) r)
+        → Of t (tells_admin conn reports t)
+    of-told [] t conn may = w.still t
+    of-told (r ∷ reports) t conn may = w.joins t t t _ _ (w.tells_admins t (conn ∷ []) r (may r)) (of-told reports t conn may)
+
+    -- by its own event
+    pub of-reports : (reports : List Report) (t : Table) (a : Admin) → OnAdmin t a → Names e a.conn → Of t (tells_admin a.conn reports t)
+    of-reports reports t a on own = of-told reports t a.conn (λ r. record {
+      within = λ c h. (among-conn c t.admins a on h, tt);
+      turn = inr (a.conn, refl, inl own);
+    })
+
+    -- what admins are told on a day that begins
+    of-each-told : (day : ℕ) (admins : List Admin) (t : Table) → AllByRecursion (λ a. Among a (filter (λ a. a.joined) t.admins)) admins
+        → Of t (each_told day admins t)
+    of-each-told day [] t on = w.still t
+    of-each-told day (a ∷ admins) t on =
+        let joined : List Admin = filter (λ a. a.joined) t.admins in
+        let d : Deed = tells_admin a.conn (due_reports day a t) t in
+        of-then t d (each_told day admins) (of-told (due_reports day a t) t a.conn (λ r. record {
+          within = λ c h. (among-conn c joined a on.0 (all-of-filter (λ (b : Admin). b.conn) (λ b. b.joined) c t.admins h), tt);
+          turn = inl (λ c h. (among-conn c joined a on.0 h, tt));
+        })) (of-each-told day admins t on.1)
+
+    pub of-admins-told : (before : ℕ) (t : Table) → Of t (admins_told before o t)
+    of-admins-told before t =
+        let day : ℕ = (world_of o t).day in
+        of-where (not (day == before)) (day_told day) t (λ is. of-each-told day (filter (λ a. a.joined) t.admins) t
+        (all-among (filter (λ a. a.joined) t.admins)))
 
     of-farewell : (f : Farewell) (m : Member) (t : Table) → Of t (tells_farewell f m t)
     of-farewell Quitting m t = w.joins t t t _ _ (of-playing t _ tt) (of-watched client_updates _ t)
@@ -298,10 +373,11 @@ module _ (o : Origin) (e : Event) (P : Table → List Step → Table → Type 0)
         let others : Within to (playing t) = λ c h. all-filter (IsOther c) (λ x. not (x == m.conn)) (playing t) h in
         let told : P t (step to (Msg (ServerJoin m.client)) ∷ []) u =
         w.base.joins t t u _ _ (w.base.tells_some t to (Msg (ServerJoin m.client)) others tt) (w.base.turns plays t m on at tt) in
-        let seen : P t (step to (Msg (ServerJoin m.client)) ∷ step (watching client_updates u) (ToAdmin (admins.ServerClientJoin m.client))
+        let news : Report = Message (admins.ServerClientJoin m.client) in
+        let seen : P t (step to (Msg (ServerJoin m.client)) ∷ step (watching client_updates u) (ToAdmin news)
         ∷ []) u = w.base.joins t u u _ _ told (of-watched w.base client_updates _ u) in
         w.base.joins t u _ _ _ seen (of-where w.base (m.asked == founder) (asks_company (turned plays t m)) u
-        (λ is. w.orders u (new_company (turned plays t m)) (turned plays t m, on-turned w.base plays t m on, refl) still))
+        (λ is. w.orders u (new_company (turned plays t m)) (inl (turned plays t m, on-turned w.base plays t m on, refl)) still))
 
     acked-status : (frame token : ℕ) (m : Member) → (acknowledged frame token m).status ≡ m.status
     acked-status frame token m = by (token == 0)
@@ -399,13 +475,50 @@ module _ (o : Origin) (e : Event) (P : Table → List Step → Table → Type 0)
     -- ---- the side door
 
     of-admin-ends : (t : Table) (a : Admin) (code : ℕ) → OnAdmin t a → Of t (admin_ends a code t)
-    of-admin-ends t a code on = of-then w.base t _ (admin_leaves a) (w.base.tells_admins t (a.conn ∷ []) (admins.ServerError code)
-        (λ c h. (among-conn c t.admins a on h, tt))) (w.goes_aside t a on)
-      where
-        among-conn : (c : ℕ) (admins : List Admin) (a : Admin) → Among a admins → NotIn c (admin_conns admins) → IsOther c a.conn
-        among-conn c [] a there h = absurd there
-        among-conn c (x ∷ xs) a (inl here) h = subst (λ (y : Admin). IsOther c y.conn) here h.0
-        among-conn c (x ∷ xs) a (inr later) h = among-conn c xs a later h.1
+    of-admin-ends t a code on = of-then w.base t _ (admin_leaves a) (w.base.tells_admins t (a.conn ∷ []) (Message (admins.ServerError code))
+        (record { within = λ c h. (among-conn w.base c t.admins a on h, tt); turn = inr (a.conn, refl, inr (code, refl)) }))
+        (w.goes_aside t a on)
+
+    of-console : (command : ConsoleCommand) (t : Table) → is_tick e ≡ false → Of t (console_does command t)
+    of-console (pauses paused) t still = w.orders t (pause paused) (inr (paused, refl)) still
+    of-console (kicks client) t still = of-some w.base (member_with client t) kicks_out t (λ m is. of-ends t m 12
+        (found-among (λ m. m.client == client) m t.members is))
+    of-console (announces text) t still = of-chats t 1 0 0 text
+    of-console other t still = w.base.still t
+
+    of-obeys : (command : ConsoleCommand) (text : List ℕ) (t : Table) (a : Admin) → OnAdmin t a → Names e a.conn → is_tick e ≡ false
+        → Of t (obeys command a.conn text t)
+    of-obeys command text t a on own still =
+        let reports : List Report = lines_of command t ++ Message (admins.ServerRconEnd text) ∷ [] in
+        let d : Deed = sees_console text t ▹ tells_admin a.conn reports in
+        of-then w.base t d (console_does command) (w.base.joins t t t _ _ (of-watched w.base console_updates _ t)
+        (of-reports w.base reports t a on own)) (of-console command t still)
+
+    of-admin-joins : (t : Table) (a : Admin) → OnAdmin t a → Names e a.conn → Of t (admin_joins a t)
+    of-admin-joins t a on own =
+        let b : Admin = record a { joined = true } in
+        let u : Table = with_admin b t in
+        w.base.joins t u u [] _ (w.settles t a b on (refl, refl, own)) (of-reports w.base admin_greeting u b
+        (put-admin-among b a t.admins refl on) own)
+
+    of-admin-does : (msg : AdminMsg) (t : Table) (a : Admin) → OnAdmin t a → Names e a.conn → is_tick e ≡ false → Of t (admin_does a msg t)
+    of-admin-does (admins.AdminJoin password application version) t a on own still = of-admin-joins t a on own
+    of-admin-does admins.AdminQuit t a on own still = w.goes_aside t a on
+    of-admin-does (admins.AdminUpdateFrequency kind bits) t a on own still = w.settles t a _ on (refl, refl, own)
+    of-admin-does (admins.AdminPoll kind id) t a on own still = of-reports w.base (poll_answers kind id t) t a on own
+    of-admin-does (admins.AdminChat scope to text) t a on own still = of-chats t 1 scope to text
+    of-admin-does (admins.AdminRcon text) t a on own still = of-obeys (command_in text) text t a on own still
+    of-admin-does (admins.AdminPing id) t a on own still = of-reports w.base (Message (admins.ServerPong id) ∷ []) t a on own
+    of-admin-does other t a on own still = w.base.still t
+
+    of-admin-verdict : (v : Verdict) (said : Option AdminMsg) (t : Table) (a : Admin) → OnAdmin t a → Names e a.conn → is_tick e ≡ false
+        → Of t (by_admin_verdict v a said t)
+    of-admin-verdict Allowed said t a on own still = of-some w.base said (admin_does a) t (λ msg is. of-admin-does msg t a on own still)
+    of-admin-verdict (Ends code) said t a on own still = of-admin-ends t a code on
+
+    pub of-admin-hears : (said : Option AdminMsg) (t : Table) (a : Admin) → OnAdmin t a → Names e a.conn → is_tick e ≡ false
+        → Of t (admin_hears o said a t)
+    of-admin-hears said t a on own still = of-admin-verdict (admin_judged o a said) said t a on own still
 
     of-admins-limited : (admins : List Admin) (t : Table) → Of t (each_admin_limited o admins t)
     of-admins-limited [] t = w.base.still t
@@ -422,9 +535,9 @@ module _ (o : Origin) (e : Event) (P : Table → List Step → Table → Type 0)
     of-all-moved [] t = w.base.still t
     of-all-moved (f ∷ fs) t =
         let rule : Member → Table → Deed = λ m. moves m f.1 in
-        let d : Deed = where_some (find (λ m. m.client == f.0) t.members) rule t in
+        let d : Deed = where_some (member_with f.0 t) rule t in
         of-then w.base t d (all_moved fs)
-        (of-some w.base (find (λ m. m.client == f.0) t.members) rule t (λ m is. of-moves (founds f.1) t m f.1
+        (of-some w.base (member_with f.0 t) rule t (λ m is. of-moves (founds f.1) t m f.1
         (found-among (λ m. m.client == f.0) m t.members is) tt tt refl refl))
         (of-all-moved fs d.table)
 
@@ -467,19 +580,19 @@ module _ (o : Origin) (e : Event) (P : Table → List Step → Table → Type 0)
     of-mapped left t = of-some w.base (downloader t) (next_pieces left) t (λ m is. let found = loader-on t m is in
         of-pieces left t m found.0 found.1)
 
-    pub of-follows : (live : List Bool) (left : List ℕ) (t : Table) → Of t (frame_follows live left o t)
-    of-follows live left t =
-        let a : Deed = founders_moved o live t in
+    pub of-follows : (before : WorldState) (left : List ℕ) (t : Table) → Of t (frame_follows before left o t)
+    of-follows before left t =
+        let a : Deed = founders_moved o (living before) t in
         let b : Deed = a ▹ synced o in
         let c : Deed = b ▹ mapped left in
         let d : Deed = c ▹ timed o in
         let e : Deed = d ▹ admins_limited o in
-        let pa : Of t a = of-all-moved (foundings live (at_frame o t.frame t.journal)) t in
+        let pa : Of t a = of-all-moved (foundings (living before) (at_frame o t.frame t.journal)) t in
         let pb : Of t b = of-then w.base t a (synced o) pa (of-synced a.table) in
         let pc : Of t c = of-then w.base t b (mapped left) pb (of-mapped left b.table) in
         let pd : Of t d = of-then w.base t c (timed o) pc (of-each-limited c.table.members c.table) in
         let pe : Of t e = of-then w.base t d (admins_limited o) pd (of-admins-limited d.table.admins d.table) in
-        of-then w.base t e (admins_told o) pe (w.base.still e.table)
+        of-then w.base t e (admins_told before.day o) pe (of-admins-told w.base before.day e.table)
 
     -- ---- events
 
@@ -489,21 +602,28 @@ module _ (o : Origin) (e : Event) (P : Table → List Step → Table → Type 0)
     of-named None y f g t p q = of-some w.base y g t q
 
     of-conn : (conn : ℕ) (f : Member → Table → Deed) (g : Admin → Table → Deed) (t : Table) → ((m : Member) → On t m → m.conn ≡ conn
-        → Of t (f m t)) → ((a : Admin) → OnAdmin t a → Of t (g a t)) → Of t (on_conn conn f g t)
+        → Of t (f m t)) → ((a : Admin) → OnAdmin t a → conn ≡ a.conn → Of t (g a t)) → Of t (on_conn conn f g t)
     of-conn conn f g t p q = of-named (member_of t conn) (admin_of t conn) f g t (λ m is. p m (on-found t conn m is)
-        (found-on conn t.members m is)) (λ a is. q a (found-among (is_admin_on conn) a t.admins is))
+        (found-on conn t.members m is)) (λ a is. q a (found-among (is_admin_on conn) a t.admins is)
+        (sym (eqb-true a.conn conn (found-passes (is_admin_on conn) a t.admins is))))
+
+    -- the event names the connection of its admin
+    named-is : (d : Event) (c : ℕ) → e ≡ d → Names d c → Names e c
+    named-is d c is own = subst (λ (x : Event). Names x c) (sym is) own
 
     of-packet : (conn kind : ℕ) (body : List ℕ) (t : Table) → e ≡ Packet conn kind body → Of t (by_event o (Packet conn kind body) t)
     of-packet conn kind body t is =
         of-conn conn _ _ t (λ m on at. of-heard (read_msg kind body) t m on (is-packet (read_msg kind body) kind body m refl (is
-        ∙ ap (λ (c : ℕ). Packet c kind body) (sym at)))) (λ a on. w.base.still t)
+        ∙ ap (λ (c : ℕ). Packet c kind body) (sym at)))) (λ a on at. of-admin-hears (read_admin kind body) t a on
+        (named-is (Packet conn kind body) a.conn is at) (ap (λ (d : Event). is_tick d) is))
 
     -- an event of a connection, or a stop
     of-event-by : (d : Event) (t : Table) → e ≡ d → is_tick d ≡ false → is_open d ≡ false → Of t (by_event o d t)
     of-event-by (Open door peer) t is still shut = absurd cc
     of-event-by (Packet conn kind body) t is still shut = of-packet conn kind body t is
-    of-event-by (Broken conn) t is still shut = of-conn conn _ _ t (λ m on at. of-heard None t m on tt) (λ a on. w.base.still t)
-    of-event-by (Shut conn) t is still shut = of-conn conn _ _ t (λ m on at. w.goes t m (Failing 3) on) (λ a on. w.goes_aside t a on)
+    of-event-by (Broken conn) t is still shut = of-conn conn _ _ t (λ m on at. of-heard None t m on tt)
+        (λ a on at. of-admin-hears None t a on (named-is (Broken conn) a.conn is at) (ap (λ (d : Event). is_tick d) is))
+    of-event-by (Shut conn) t is still shut = of-conn conn _ _ t (λ m on at. w.goes t m (Failing 3) on) (λ a on at. w.goes_aside t a on)
     of-event-by Tick t is still shut = absurd cc
     of-event-by Stop t is still shut = w.base.still t
 
@@ -554,8 +674,9 @@ module _ (o : Origin) (e : Event) (P : Table → List Step → Table → Type 0)
           let b : Deed = a ▹ frame_runs o in
           let c : Deed = b ▹ sees_frame in
           let pb : Of t b = of-then w.base t a (frame_runs o) (of-stamped t) (of-runs a.table) in
-          of-then w.base t c (frame_follows (living_in o t) (left_of o t) o) (of-then w.base t b sees_frame pb (w.base.still b.table))
-          (of-follows (living_in o t) (left_of o t) c.table)
+          of-then w.base t c (frame_follows (world_of o t) (left_of o t) o)
+          (of-then w.base t b sees_frame pb (of-seen w.base company_updates CompanyNews b.table))
+          (of-follows (world_of o t) (left_of o t) c.table)
 
       of-any-by : Doors → (d : Event) (t : Table) → e ≡ d → Of t (by_event o d t)
       of-any-by doors Tick t is = of-ticked t

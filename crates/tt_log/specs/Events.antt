@@ -7,17 +7,16 @@ use Rattle.tt_edge.specs.declared.event.Event.TheVariants.{Open, Packet, Broken,
 use Rattle.tt_edge.specs.Event.{event_cost}
 use Rattle.tt_game.specs.declared.message.GameMsg.{GameMsg}
 use Rattle.tt_game.specs.declared.message.GameMsg.TheVariants.{ServerFull, ServerShutdown}
-use Rattle.tt_admin.specs.declared.message.AdminMsg.{AdminMsg}
 use Rattle.tt_admin.specs.declared.message.AdminMsg.TheVariants as admins
 use Rattle.std.specs.Result.{result_ok}
 use Rattle.tt_frame.specs.Unread.{whole}
 use Rattle.tt_frame.specs.Tables.{read_by}
 use Rattle.tt_game.specs.Messages.{messages}
-use Rattle.tt_admin.specs.Messages as admin_family
 use Rattle.tt_rules.specs.declared.status.Verdict.{Verdict}
 use Rattle.tt_rules.specs.declared.status.Verdict.TheVariants.{Allowed, Ends}
 use Rattle.tt_rules.specs.Codes.{connection_lost}
 use Rattle.tt_log.specs.declared.deed.What.TheVariants.{ToAdmin, End}
+use Rattle.tt_log.specs.declared.report.Report.TheVariants.{Message}
 use Rattle.tt_log.specs.Member.{Member, new_member}
 use Rattle.tt_log.specs.Admin.{Admin}
 use Rattle.tt_log.specs.Origin.{Origin}
@@ -27,7 +26,7 @@ use Rattle.tt_log.specs.Judged.{judged}
 use Rattle.tt_log.specs.Ending.{ends, ends_untold}
 use Rattle.tt_log.specs.PacketRules.{does}
 use Rattle.tt_log.specs.Tick.{ticked}
-use Rattle.tt_log.specs.Desk.{admin_opens, admin_hears, admin_leaves, is_quit}
+use Rattle.tt_log.specs.Desk.{admin_opens, admin_leaves, read_admin, admin_hears, is_quit}
 
 -- ---- an opening
 
@@ -48,10 +47,6 @@ opened o t = arrives (nat_le o.setup.max_clients (length t.members)) (counted_in
 -- the message that a packet spells, if it spells one
 abbrev pub read_msg : ℕ → List ℕ → Option GameMsg
 read_msg kind body = result_ok (read_by messages kind (whole body))
-
--- and the message of the admin family
-abbrev pub read_admin : ℕ → List ℕ → Option AdminMsg
-read_admin kind body = result_ok (read_by admin_family.messages kind (whole body))
 
 -- an allowed packet does what its message does; another one ends its member
 abbrev pub by_verdict : Verdict → Origin → Member → Option GameMsg → Table → Deed
@@ -101,7 +96,7 @@ last_frame = 4000000000
 abbrev pub shut_down : Table → Deed
 shut_down t = let members = map (λ m. m.conn) t.members in let guests = map (λ a. a.conn) t.admins in
     tells members ServerShutdown (record t { members = []; admins = []; queue = []; over = true })
-    ▹ tells_what guests (ToAdmin admins.ServerShutdown) ▹ tells_what (members ++ guests) End
+    ▹ tells_what guests (ToAdmin (Message admins.ServerShutdown)) ▹ tells_what (members ++ guests) End
 
 -- the game is over where it was stopped, at its cost, and at its last frame
 abbrev pub closed : Origin → Bool → Table → Deed

@@ -79,6 +79,10 @@ is_admin_on conn a = a.conn == conn
 abbrev pub admin_of : Table → ℕ → Option Admin
 admin_of t conn = find (is_admin_on conn) t.admins
 
+-- the member that has a client number
+abbrev pub member_with : ℕ → Table → Option Member
+member_with client t = find (λ m. m.client == client) t.members
+
 -- a connection is live while a member or an admin is on it
 abbrev pub is_live : Table → ℕ → Bool
 is_live t conn = is_some (member_of t conn) || is_some (admin_of t conn)
@@ -97,6 +101,10 @@ with_member m t = record t { members = map (λ n. cond (n.conn == m.conn) m n) t
 
 abbrev pub without_member : ℕ → Table → Table
 without_member conn t = record t { members = filter (λ m. not (is_on conn m)) t.members }
+
+-- the table with an admin in the place of the one on its connection
+abbrev pub with_admin : Admin → Table → Table
+with_admin a t = record t { admins = map (λ b. cond (b.conn == a.conn) a b) t.admins }
 
 abbrev pub without_admin : ℕ → Table → Table
 without_admin conn t = record t { admins = filter (λ a. not (is_admin_on conn a)) t.admins }

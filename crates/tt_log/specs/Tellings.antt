@@ -2,24 +2,17 @@
 use Rattle.std.specs.Prelude.{ℕ, ◌*◌, nat_lt, List, [], ◌∷◌, ◌++◌, map, flat_map, length, if◌then◌else◌}
 use Rattle.tt_game.specs.declared.message.GameMsg.{GameMsg}
 use Rattle.tt_game.specs.declared.message.GameMsg.TheVariants.{ServerMapBegin, ServerMapSize, ServerMapData, ServerMapDone, ServerSync}
-use Rattle.tt_world.specs.declared.command.Entry.{Entry}
-use Rattle.tt_world.specs.World.{WorldState}
 use Rattle.tt_map.specs.Layout.{map_of}
 use Rattle.tt_log.specs.declared.deed.Step.{Step}
 use Rattle.tt_log.specs.declared.deed.What.{What}
 use Rattle.tt_log.specs.declared.deed.What.TheVariants.{Msg, ToAdmin, MapBegin, MapPieces, Sync, Entries, Stamp, End}
 use Rattle.tt_log.specs.Deed.{Said, game, admin, Deed}
+pub use Rattle.tt_log.specs.Filling.{Filling}
+use Rattle.tt_log.specs.Reports.{reported}
 use Rattle.tt_log.specs.Origin.{Origin, above}
 use Rattle.tt_log.specs.Table.{Table, world_of}
 use Rattle.tt_log.specs.Tick.{left_of, pieces_of}
 use Rattle.tt_log.specs.PacketRules.{told_command}
-
--- what is filled in from: the frame, its world, the journal, and the bytes of the running download that were not told yet
-pub record Filling : Type 0 where
-  pub frame : ℕ
-  pub world : WorldState
-  pub journal : List Entry
-  pub left : List ℕ
 
 -- up to four pieces, and behind the last one that the map is done
 abbrev pub piece_messages : List ℕ → List GameMsg
@@ -28,7 +21,7 @@ piece_messages left = map ServerMapData (pieces_of 4 left) ++ (if nat_lt (4 * 14
 -- what a step says; a connection that ends is told nothing by this
 abbrev pub said_by : Origin → Filling → What → List Said
 said_by o f (Msg m) = game m ∷ []
-said_by o f (ToAdmin m) = admin m ∷ []
+said_by o f (ToAdmin r) = map admin (reported o f r)
 said_by o f MapBegin = game (ServerMapBegin f.frame) ∷ game (ServerMapSize (length (map_of f.world))) ∷ []
 said_by o f MapPieces = map game (piece_messages f.left)
 said_by o f Sync = game (ServerSync f.frame f.world.words.0) ∷ []
@@ -48,9 +41,16 @@ telling to said = record { to = to; said = said }
 abbrev pub filled : Origin → Filling → List Step → List Telling
 filled o f steps = flat_map (λ (s : Step). map (telling s.to) (said_by o f s.what)) steps
 
--- the frame, world and journal behind a deed, and the map bytes that were left before it
+-- the frame, world, journal and digests behind a deed, and the world and the map bytes that were left before it
 abbrev pub filling : Origin → Table → Table → Filling
-filling o before behind = record { frame = behind.frame; world = world_of o behind; journal = behind.journal; left = left_of o before }
+filling o before behind = record {
+  frame = behind.frame;
+  world = world_of o behind;
+  before = world_of o before;
+  journal = behind.journal;
+  digests = behind.digests;
+  left = left_of o before;
+}
 
 -- what a deed tells
 abbrev pub tellings : Origin → Table → Deed → List Telling

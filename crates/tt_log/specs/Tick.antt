@@ -1,29 +1,31 @@
 -- A tick: nine steps in order.
 use Rattle.std.specs.Prelude.{ℕ, zero, suc, ◌+◌, ◌-◌, ◌*◌, ◌%◌, Bool, true, false, not, ◌&&◌, ◌||◌, ◌==◌, nat_lt, List, [], ◌∷◌, ◌++◌, map}
-use Rattle.std.specs.Prelude.{flat_map, find, length, take, drop, Option, Some, None}
+use Rattle.std.specs.Prelude.{flat_map, length, take, drop, Option, Some, None}
 use Rattle.tt_world.specs.declared.command.Code.{Code}
 use Rattle.tt_world.specs.declared.command.Code.TheVariants.{NewCompany}
 use Rattle.tt_world.specs.declared.command.Command.{Command}
 use Rattle.tt_world.specs.declared.command.Entry.{Entry}
 use Rattle.tt_world.specs.declared.setup.Setup.{Setup}
+use Rattle.tt_world.specs.World.{WorldState}
 use Rattle.tt_map.specs.Layout.{map_of}
 use Rattle.tt_rules.specs.declared.status.Status.{Status}
 use Rattle.tt_rules.specs.declared.status.Status.TheVariants.{Inactive, NewgrfsCheck, AuthGame, AuthCompany, Authorized, MapWait, Map}
 use Rattle.tt_rules.specs.declared.status.Status.TheVariants.{DoneMap, PreActive, Active}
 use Rattle.tt_rules.specs.Codes.{timeout_password, timeout_computer, timeout_map, timeout_join}
-use Rattle.tt_rules.specs.Companies.{least_free, founded}
+use Rattle.tt_rules.specs.Companies.{least_free, founded, living}
 use Rattle.tt_rules.specs.Verdict.{spectator}
 use Rattle.tt_rules.specs.Reasons.{◌⇒◌}
 use Rattle.tt_log.specs.declared.deed.What.TheVariants.{Stamp, Sync, MapPieces}
 use Rattle.tt_log.specs.Member.{Member}
 use Rattle.tt_log.specs.Origin.{Origin, at_frame, world_at}
-use Rattle.tt_log.specs.Table.{playing, Table, member_of, with_member, living_in, downloader}
+use Rattle.tt_log.specs.Table.{playing, Table, member_of, member_with, with_member, world_of, downloader}
 use Rattle.tt_log.specs.Deed.{tells_what, Deed, ◌▹◌, where_, where_some, becomes}
 use Rattle.tt_log.specs.Frames.{frames_told}
 use Rattle.tt_log.specs.Ending.{ends}
 use Rattle.tt_log.specs.PacketRules.{moves}
 use Rattle.tt_log.specs.Watching.{sees_stamp, sees_frame}
-use Rattle.tt_log.specs.Desk.{admins_limited, admins_told}
+use Rattle.tt_log.specs.Desk.{admins_limited}
+use Rattle.tt_log.specs.Polls.{admins_told}
 
 -- ---- 1. Stamping
 
@@ -84,7 +86,7 @@ foundings live (e ∷ es) = let new = founding e.command.code live in founder_of
 
 abbrev pub all_moved : List (ℕ × ℕ) → Table → Deed
 all_moved [] t = becomes t
-all_moved (f ∷ fs) t = where_some (find (λ m. m.client == f.0) t.members) (λ m. moves m f.1) t ▹ all_moved fs
+all_moved (f ∷ fs) t = where_some (member_with f.0 t) (λ m. moves m f.1) t ▹ all_moved fs
 
 abbrev pub founders_moved : Origin → List Bool → Table → Deed
 founders_moved o live t = all_moved (foundings live (at_frame o t.frame t.journal)) t
@@ -161,10 +163,11 @@ timed o t = each_limited o t.members t
 
 -- ---- the steps in order; the ninth, the end of the game, follows every event
 
--- the steps behind the frame: the live companies are those before it, and the bytes of the running download those that were
--- left before it
-abbrev pub frame_follows : List Bool → List ℕ → Origin → Table → Deed
-frame_follows live left o t = founders_moved o live t ▹ synced o ▹ mapped left ▹ timed o ▹ admins_limited o ▹ admins_told o
+-- the steps behind the frame: the live companies and the day are those of the world before it, and the bytes of the running
+-- download those that were left before it
+abbrev pub frame_follows : WorldState → List ℕ → Origin → Table → Deed
+frame_follows before left o t = founders_moved o (living before) t ▹ synced o ▹ mapped left ▹ timed o ▹ admins_limited o
+    ▹ admins_told before.day o
 
 abbrev pub ticked : Origin → Table → Deed
-ticked o t = stamped t ▹ frame_runs o ▹ sees_frame ▹ frame_follows (living_in o t) (left_of o t) o
+ticked o t = stamped t ▹ frame_runs o ▹ sees_frame ▹ frame_follows (world_of o t) (left_of o t) o

@@ -1,8 +1,8 @@
 //! What a rule of the game's book tells, step by step: some connections, and what they are told.
 ghost use Rattle.std.specs.Prelude.{◌≡◌};
 
+use crate::report::Report;
 use std::marker::Model;
-use tt_admin::AdminMsg;
 use tt_game::GameMsg;
 use tt_world::Entry;
 
@@ -11,8 +11,8 @@ use tt_world::Entry;
 pub enum What {
     /// This message, to members.
     Msg(GameMsg),
-    /// This message, to admins.
-    ToAdmin(AdminMsg),
+    /// This report, to admins.
+    ToAdmin(Report),
     /// That the map begins: the frame, and the size of the map of its world.
     MapBegin,
     /// The next pieces of the map, and behind the last one that it is done.

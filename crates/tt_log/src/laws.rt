@@ -1,8 +1,9 @@
 //! Laws of the definitions, for every list of events.
-ghost use Rattle.std.specs.Prelude.{◌≡◌, ℕ, [], ◌≤◌, ◌<◌, ◌^◌, List, ◌++◌, ◌+◌, ◌∷◌, ◌==◌, filter, fold, length, map, true, false, None, Some};
+ghost use Rattle.std.specs.Prelude.{◌≡◌, ℕ, [], ◌≤◌, ◌<◌, ◌^◌, List, ◌++◌, ◌+◌, ◌∷◌, ◌==◌, filter, fold, length, map};
+ghost use Rattle.std.specs.Prelude.{true, false, None, Some};
 ghost use Rattle.tt_edge.specs.declared.event.Event.{Event};
 ghost use Rattle.tt_edge.specs.declared.event.Event.TheVariants.{Tick};
-ghost use Rattle.tt_edge.specs.Event.{cost_of, is_tick, opens, ticks_in};
+ghost use Rattle.tt_edge.specs.Event.{cost_of, event_cost, is_tick, opens, ticks_in};
 ghost use Rattle.std.specs.List.{AllByRecursion, list_any};
 ghost use Rattle.tt_log.specs.Member.{Member, is_loading, is_playing};
 ghost use Rattle.tt_log.specs.Admin.{Admin};
@@ -14,6 +15,7 @@ ghost use Rattle.tt_log.specs.Foundings.{foundings_in};
 ghost use Rattle.tt_log.specs.Tick.{foundings};
 ghost use Rattle.tt_rules.specs.Companies.{living};
 ghost use Rattle.tt_world.specs.World.{WorldState};
+ghost use Rattle.tt_log.specs.Quiet.{bare, is_quiet, loud, of_game};
 ghost use Rattle.tt_log.specs.Stamps.{accepted, ordered, owned, stamped_of};
 ghost use Rattle.tt_rules.specs.Codes.{illegal_packet};
 ghost use Rattle.tt_rules.specs.declared.status.Verdict.TheVariants.{Ends};
@@ -21,7 +23,11 @@ ghost use Rattle.tt_game.specs.declared.message.GameMsg.TheVariants.{ServerError
 ghost use Rattle.tt_world.specs.declared.setup.Setup.{Setup};
 ghost use Rattle.tt_world.specs.Setup.{Fits};
 ghost use Rattle.tt_frame.specs.Text.{IsName};
-ghost use Rattle.tt_log.specs.Deed.{Said, becomes, game};
+ghost use Rattle.tt_admin.specs.declared.message.AdminMsg.TheVariants as admins;
+ghost use Rattle.tt_edge.specs.declared.event.Door.TheVariants.{Main, Side};
+ghost use Rattle.tt_log.specs.Deed.{Said, admin, becomes, game};
+ghost use Rattle.tt_log.specs.Desk.{admin_judged, most_admins};
+ghost use Rattle.tt_log.specs.Doors.{AdminEndsWith, IsFirstWord, IsOfAdmins, IsOfGame, IsShutdown, door_of, says_join};
 ghost use Rattle.tt_log.specs.History.{AreFor, AreRising, IsHistory, journal_of, table_of};
 ghost use Rattle.tt_log.specs.Origin.{IsJournal, IsOrigin, Origin, above, folded, game_of, origin_of, world_at};
 ghost use Rattle.tt_lockstep.specs.Journal.{AreAbove, AreUpTo};
@@ -29,7 +35,7 @@ ghost use Rattle.tt_lockstep.specs.Shown as lockstep;
 ghost use Rattle.tt_log.specs.Shown.{shown, things_in};
 ghost use Rattle.tt_world.specs.declared.command.Command.{Command};
 ghost use Rattle.tt_world.specs.declared.command.Entry.{Entry};
-ghost use Rattle.tt_log.specs.Table.{Table, admin_of, is_live, member_of};
+ghost use Rattle.tt_log.specs.Table.{Table, admin_of, is_live, member_of, without_admin};
 ghost use Rattle.tt_log.specs.Told.{heard, heard_from, is_entry, sent, told};
 
 /// A new game of a setup in range is one that games are made from.
@@ -196,7 +202,6 @@ pub fn queue_is_of_those_that_load()
 {}
 
 /// The members stand in the order of their connections, each on one of its own, and each connection was opened; their client
-/// The members stand in the order of their connections, each on one of its own, and each connection was opened; their client
 /// numbers rise in the same order, from above the server's own, and each was given. So do the admins, and nobody is both.
 pub fn members_in_order()
     ensures rising { (o : Origin) (es : List Event) → AreRising 0 (map (λ (m : Member). m.conn) (table_of o es).members) }
@@ -210,6 +215,60 @@ pub fn members_in_order()
         (map (λ (a : Admin). a.conn) (table_of o es).admins) }
     ensures apart { (o : Origin) (es : List Event) (conn : ℕ) (m : Member) → member_of (table_of o es) conn ≡ Some m
         → admin_of (table_of o es) conn ≡ None }
+{}
+
+/// Each door has its family of messages: who was not opened at the main door is told nothing of the game, and who was not
+/// opened at the side door nothing of the admin family.
+pub fn a_door_has_its_family()
+    ensures game { (o : Origin) (es : List Event) (conn : ℕ) → (door_of es conn ≡ Some Main → ⊥)
+        → AllByRecursion IsOfAdmins (heard o es conn) }
+    ensures admins { (o : Origin) (es : List Event) (conn : ℕ) → (door_of es conn ≡ Some Side → ⊥)
+        → AllByRecursion IsOfGame (heard o es conn) }
+{}
+
+/// What admins do players do not see, but for chats and the console's commands.
+pub fn admins_are_unseen()
+    // An event of an admin that is quiet changes nothing but the admins and the cost, and tells nobody anything of the game, as
+    // long as the game goes on.
+    ensures table { (o : Origin) (es : List Event) (e : Event) → is_quiet o (table_of o es) e ≡ true
+        → (table_of o (es ++ e ∷ [])).over ≡ false → bare (table_of o (es ++ e ∷ [])) ≡ bare (table_of o es) }
+    ensures told { (o : Origin) (es : List Event) (e : Event) (conn : ℕ) → is_quiet o (table_of o es) e ≡ true
+        → (table_of o (es ++ e ∷ [])).over ≡ false → of_game (told o es e conn) ≡ [] }
+    // So two lists of events that differ in quiet events alone make the same game, with the same journal, and tell each player
+    // the same, as long as both games go on.
+    ensures tables { (o : Origin) (es fs : List Event) → (table_of o es).over ≡ false → (table_of o fs).over ≡ false
+        → loud o es ≡ loud o fs → bare (table_of o es) ≡ bare (table_of o fs) }
+    ensures players { (o : Origin) (es fs : List Event) (conn : ℕ) → (table_of o es).over ≡ false → (table_of o fs).over ≡ false
+        → loud o es ≡ loud o fs → (door_of es conn ≡ Some Side → ⊥) → (door_of fs conn ≡ Some Side → ⊥)
+        → heard o es conn ≡ heard o fs conn }
+{}
+
+/// An admin that has not joined is told nothing but the protocol and the game, where it joins, why it ends, and that the game
+/// is over; and at most sixteen admins are there.
+pub fn who_has_not_joined_hears_little()
+    ensures told { (o : Origin) (es : List Event) (e : Event) (a : Admin) → admin_of (table_of o es) a.conn ≡ Some a → a.joined ≡ false
+        → AllByRecursion (IsFirstWord (says_join e a.conn)) (told o es e a.conn) }
+    ensures few { (o : Origin) (es : List Event) → length (table_of o es).admins ≤ most_admins }
+{}
+
+/// A packet of an admin that spells nothing, a stream that breaks, and a refusal end their own admin with their code, and
+/// change nothing else but where the game is over by what the event costs.
+pub fn a_refused_admin_ends_alone()
+    // What spells nothing, and a stream that breaks, are judged with code 4.
+    ensures illegal { (o : Origin) (a : Admin) → admin_judged o a None ≡ Ends illegal_packet }
+    // It is told its code, and nothing else, and is live no longer.
+    ensures own { (o : Origin) (es : List Event) (e : Event) (a : Admin) (code : ℕ) → AdminEndsWith o (table_of o es) e a code
+        → told o es e a.conn ≡ admin (admins.ServerError code) ∷ [] }
+    ensures ended { (o : Origin) (es : List Event) (e : Event) (a : Admin) (code : ℕ) → AdminEndsWith o (table_of o es) e a code
+        → is_live (table_of o (es ++ e ∷ [])) a.conn ≡ false }
+    // Nobody else is told anything but that the game is over, where it is.
+    ensures told { (o : Origin) (es : List Event) (e : Event) (a : Admin) (code other : ℕ) → AdminEndsWith o (table_of o es) e a code
+        → (a.conn == other) ≡ false
+        → AllByRecursion (λ (s : Said). ((table_of o (es ++ e ∷ [])).over ≡ true) × IsShutdown s) (told o es e other) }
+    // Where it is not, all is as it was, but for the admin and the cost.
+    ensures table { (o : Origin) (es : List Event) (e : Event) (a : Admin) (code : ℕ) → AdminEndsWith o (table_of o es) e a code
+        → (table_of o (es ++ e ∷ [])).over ≡ false
+        → table_of o (es ++ e ∷ []) ≡ record (without_admin a.conn (table_of o es)) { cost = (table_of o es).cost + event_cost e } }
 {}
 
 /// Only a tick runs the game, and it runs one frame; any other event leaves the frame, the permitted frame and the journal.

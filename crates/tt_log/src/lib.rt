@@ -16,14 +16,16 @@
 
 pub mod deed;
 mod laws;
+pub mod report;
 pub mod script;
 
 pub use laws::{
-    a_tick_is_a_frame, ended_stays, foundings_are_the_worlds, frame_and_top, journal_rises,
-    malformed_ends_its_own, members_are_marked, members_in_order, new_game_is_one,
-    nobody_behind_the_end, not_yet_told, one_journal_one_world, over_stays,
-    queue_is_of_those_that_load, refused_event_changes_nothing, shown_is_seen, stamped_once,
-    told_goes_on, unopened_hears_nothing,
+    a_door_has_its_family, a_refused_admin_ends_alone, a_tick_is_a_frame, admins_are_unseen,
+    ended_stays, foundings_are_the_worlds, frame_and_top, journal_rises, malformed_ends_its_own,
+    members_are_marked, members_in_order, new_game_is_one, nobody_behind_the_end, not_yet_told,
+    one_journal_one_world, over_stays, queue_is_of_those_that_load, refused_event_changes_nothing,
+    shown_is_seen, stamped_once, told_goes_on, unopened_hears_nothing,
+    who_has_not_joined_hears_little,
 };
 pub use script::{
     Bytes, Line1, Script, ScriptBad, ScriptReader, Setting, Step, parse_script, print_script,

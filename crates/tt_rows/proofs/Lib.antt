@@ -5,6 +5,7 @@ pub mod PlayingComputed
 pub mod LastingComputed
 pub mod StreamsComputed
 pub mod MapsComputed
+pub mod AsideComputed
 pub mod JoinsComputed
 pub mod LimitsComputed
 pub mod CommandsComputed

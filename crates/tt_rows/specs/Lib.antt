@@ -13,3 +13,4 @@ pub mod PlayingGames
 pub mod LastingGames
 pub mod StreamsGames
 pub mod MapsGames
+pub mod AsideGames

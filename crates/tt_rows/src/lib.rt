@@ -5,6 +5,7 @@
 //! definitions.
 #![tactic(auto)]
 
+mod aside;
 mod commands;
 mod entering;
 mod joins;
@@ -19,6 +20,7 @@ mod streams;
 mod talks;
 mod tokens;
 
+pub use aside::admins_come_to;
 pub use commands::commands_come_to;
 pub use entering::ways_in_come_to;
 pub use joins::joins_come_to;
