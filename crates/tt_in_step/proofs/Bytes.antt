@@ -27,11 +27,12 @@ use Rattle.tt_game.proofs.MessageLaws.{game_lawful}
 use Rattle.tt_world.specs.declared.command.Entry.{Entry}
 use Rattle.tt_world.specs.World.{WorldState}
 use Rattle.std.specs.List.{AllByRecursion}
+use Rattle.tt_log.specs.Doors.{IsOfGame}
 use Rattle.tt_log.specs.Deed.{Said, game, admin, spelled}
 use Rattle.tt_log.specs.Events.{read_msg}
 use Rattle.tt_log.specs.Shown.{Place, Asking, dialog, place_behind, items_from, item_told, place_then, things_of, things_in}
 use Rattle.tt_in_step.specs.Watched.{game_messages}
-use Rattle.tt_in_step.specs.Fed.{calls_behind, calls_of, IsSpelled, AreSpelled, IsOfGame}
+use Rattle.tt_in_step.specs.Fed.{calls_behind, calls_of, IsSpelled, AreSpelled}
 
 abbrev packet_for : GameMsg → Packet
 packet_for m = record { kind = kind_of m; body = body_bytes m }
@@ -44,11 +45,6 @@ pub sent-is : (said : List Said) → AllByRecursion IsOfGame said → flat_map s
 sent-is [] a = refl
 sent-is (game m ∷ said) a = ap (λ (bs : List ℕ). packet (kind_of m) (body_bytes m) ++ bs) (sent-is said a.1)
 sent-is (admin m ∷ said) a = absurd a.0
-
-pub all-spelled : (said : List Said) → AllByRecursion IsOfGame said → AreSpelled (game_messages said)
-all-spelled [] a = tt
-all-spelled (game m ∷ said) a = (a.0, all-spelled said a.1)
-all-spelled (admin m ∷ said) a = absurd a.0
 
 within : (m : GameMsg) → IsSpelled m → IsWithin 32767 (packet_for m)
 within m s = record { size = spelled_size GameMsg game_family game_lawful m (kind_of m) (body_bytes m) s }

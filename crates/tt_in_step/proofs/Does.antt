@@ -12,6 +12,8 @@ use Rattle.tt_log.specs.Origin.{Origin, game_of, world_at}
 use Rattle.tt_log.specs.Member.{Member}
 use Rattle.tt_log.specs.Table.{Table, playing}
 use Rattle.tt_log.specs.Deed.{Deed, ◌▹◌, where_, where_some, becomes, tells, tells_what}
+use Rattle.tt_log.specs.declared.report.Report.{Report}
+use Rattle.tt_log.specs.Polls.{tells_admin}
 use Rattle.tt_log.specs.Tellings.{Filling}
 use Rattle.tt_log.specs.Events.{last_frame}
 use Rattle.tt_log.specs.Shown.{Place, dialog}
@@ -20,6 +22,7 @@ use Rattle.tt_log.proofs.Crew.{On, put, conns, admin_conns, put-conns}
 use Rattle.tt_log.proofs.Ordered.{Ordered, IsOrdered, put-clients, clients}
 use Rattle.tt_in_step.specs.Watched.{Seat, InQueue, seat_of, seat, watched}
 use Rattle.tt_in_step.proofs.Seats.{among, put-here, put-other, sits, plays, playing-is, not-any}
+use Rattle.tt_in_step.proofs.Hearing.{reports-silent}
 use Rattle.tt_in_step.proofs.Hearing.{hears, hears-append, hears-one, hears-none, says}
 use Rattle.tt_in_step.proofs.Hearing.{if_told, if_told-nil, alone, alone-own, alone-none, all_said}
 use Rattle.tt_in_step.proofs.Ways.{seen_as, Way, FitsAt, Fitting, stays, IsNoise, way-noise}
@@ -130,6 +133,15 @@ module _ (o : Origin) (f : Filling) (c : ℕ) where
     end = place;
     way = way-is place place _ _ _ _ _ _ (stays o place (watched c t))
         (sym (ap (λ (ms : List GameMsg). if_told (among c to) ms []) silent ∙ if_told-nil (among c to) [])) refl refl;
+    tied = h;
+  }
+
+  -- an admin is told reports
+  pub does-reports : (T : Table → Place → Type 0) (t : Table) (place : Place) (conn : ℕ) (reports : List Report) → T t place
+      → Does T t place (tells_admin conn reports t)
+  does-reports T t place conn reports h = record {
+    end = place;
+    way = way-is place place _ _ _ _ _ _ (stays o place (watched c t)) (sym (reports-silent c o f conn reports)) refl refl;
     tied = h;
   }
 

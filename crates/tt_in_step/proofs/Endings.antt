@@ -162,7 +162,8 @@ module _ (o : Origin) where
       let next : Shown = with_item o s i in
       let there : Stands next (done ++ i ∷ []) = record {
         goes = λ g. sym (phase-going next.seen i) ∙ g;
-        has = has-back next.phase done (i ∷ []) (item-phase next.seen s.place i (λ e. end-told s.seen (item_told s.place i.msg) (h.goes is) e));
+        has = has-back next.phase done (i ∷ []) (item-phase next.seen s.place i (λ e. end-told s.seen (item_told s.place i.msg)
+            (h.goes is) e));
       } in
       by (goes_on next.phase) next there
     where

@@ -1,10 +1,14 @@
 -- What a connection hears of the steps of a deed: the messages of the game among them.
-use Rattle.std.proofs.Common.{◌≡◌, ℕ, Bool, true, false, List, [], ◌∷◌, ◌++◌, map, refl, ap, sym, ◌∙◌, append-nil, append_assoc}
+use Rattle.std.proofs.Common.{◌≡◌, ℕ, Bool, true, false, List, [], ◌∷◌, ◌++◌, map, refl, ap, ap₂, sym, ◌∙◌, append-nil, append_assoc}
 use Rattle.std.specs.Prelude.{◌==◌}
 use Rattle.tt_game.specs.declared.message.GameMsg.{GameMsg}
 use Rattle.tt_world.specs.declared.command.Entry.{Entry}
 use Rattle.tt_log.specs.declared.deed.Step.{Step}
 use Rattle.tt_log.specs.declared.deed.What.{What}
+use Rattle.tt_admin.specs.declared.message.AdminMsg.{AdminMsg}
+use Rattle.tt_log.specs.declared.deed.What.TheVariants.{ToAdmin}
+use Rattle.tt_log.specs.declared.report.Report.{Report}
+use Rattle.tt_log.specs.Reports.{reported}
 use Rattle.tt_log.specs.Origin.{Origin}
 use Rattle.tt_log.specs.Deed.{Said, game, admin}
 use Rattle.tt_log.specs.Tellings.{Filling, said_by, Telling, telling, filled}
@@ -54,6 +58,21 @@ games (m ∷ ms) = ap (λ (xs : List GameMsg). m ∷ xs) (games ms)
 pub entries-said : (es : List Entry) → game_messages (map (λ e. game (told_command e)) es) ≡ map told_command es
 entries-said [] = refl
 entries-said (e ∷ es) = ap (λ (xs : List GameMsg). told_command e ∷ xs) (entries-said es)
+
+-- what admins are told is no message of the game
+no-games : (ms : List AdminMsg) → game_messages (map admin ms) ≡ []
+no-games [] = refl
+no-games (m ∷ ms) = no-games ms
+
+pub report-silent : (o : Origin) (f : Filling) (r : Report) → says o f (ToAdmin r) ≡ []
+report-silent o f r = no-games (reported o f r)
+
+pub reports-silent : (c : ℕ) (o : Origin) (f : Filling) (conn : ℕ) (reports : List Report)
+    → hears c o f (map (λ r. step (conn ∷ []) (ToAdmin r)) reports) ≡ []
+reports-silent c o f conn [] = refl
+reports-silent c o f conn (r ∷ reports) =
+    ap₂ (λ (ms rest : List GameMsg). if_told (among c (conn ∷ [])) ms rest) (report-silent o f r) (reports-silent c o f conn reports)
+    ∙ if_told-nil (among c (conn ∷ [])) []
 
 one-step : (b : Bool) (c : ℕ) (to : List ℕ) (said : List Said) (more : List Telling) (rest : List GameMsg) → among c to ≡ b
     → game_messages (told_to c more) ≡ rest

@@ -21,11 +21,13 @@ use Rattle.tt_rules.specs.declared.status.Status.TheVariants.{DoneMap, PreActive
 use Rattle.tt_log.specs.Origin.{Origin, game_of, world_at}
 use Rattle.tt_log.specs.Admin.{Admin}
 use Rattle.tt_log.specs.Member.{Member, new_member}
-use Rattle.tt_log.specs.Table.{Table, first, member_of, admin_of, first_loading, if_loading, is_admin_on, living_in}
+use Rattle.tt_log.specs.Table.{Table, first, member_of, admin_of, first_loading, if_loading, is_admin_on, world_of}
 use Rattle.tt_log.specs.Deed.{Said, Deed, ◌▹◌, where_}
 use Rattle.tt_log.specs.Judged.{is_empty}
 use Rattle.tt_log.specs.Ending.{Failing}
 use Rattle.tt_log.specs.Desk.{admin_arrives, counted_aside, most_admins}
+use Rattle.tt_log.specs.Desk.{read_admin}
+use Rattle.tt_in_step.proofs.Admins.{does-admin-hears}
 use Rattle.tt_log.specs.Tick.{stamped, left_by, ticked}
 use Rattle.tt_log.specs.Tellings.{Filling, filling}
 use Rattle.tt_log.specs.Events.{arrives, counted_in, read_msg, to_named, on_conn, by_event, charged, shut_down, stops, closed}
@@ -259,10 +261,10 @@ module _ (o : Origin) (reads : MapsAreRead o) (named : is_empty o.setup.id ≡ f
         ((order-doors o (Open Side peer)).comes_aside t h.base.ordered) h
     does-event (Packet conn kind body) t place other h =
         does-named conn _ _ t place h (λ m on. does-heard o reads named f c (read_msg kind body) t place m on h)
-        (λ a on. does-still o f c (Tied o f c) t place h)
+        (λ a on. does-admin-hears o reads named f c (read_admin kind body) t place a on h)
     does-event (Broken conn) t place other h =
         does-named conn _ _ t place h (λ m on. does-heard o reads named f c None t place m on h)
-        (λ a on. does-still o f c (Tied o f c) t place h)
+        (λ a on. does-admin-hears o reads named f c None t place a on h)
     does-event (Shut conn) t place other h =
         does-named conn _ _ t place h (λ m on. does-leaves o reads f c t place m (Failing 3) on h)
         (λ a on. does-admin-leaves o reads named f c t place a on h)
@@ -377,7 +379,7 @@ module _ (o : Origin) (reads : MapsAreRead o) (named : is_empty o.setup.id ≡ f
       let s = stamped-same o t in
       let frame : u.frame ≡ v.frame + 1 = rest.frame ∙ runs.frame ∙ ap (λ (n : ℕ). n + 1) (sym s.frame) in
       let journal : u.journal ≡ v.journal = rest.journal ∙ runs.journal ∙ sym s.journal in
-      does-rest f Tick t place (does-ticked o reads named f c (living_in o t) t place (record {
+      does-rest f Tick t place (does-ticked o reads named f c (world_of o t) t place (record {
         ordered = ordered;
         fits = h.fits;
         ahead = ahead;

@@ -10,6 +10,7 @@ pub mod Ending
 pub mod Packets
 pub mod Frames
 pub mod Ticks
+pub mod Admins
 pub mod Shorts
 pub mod Histories
 pub mod Promises

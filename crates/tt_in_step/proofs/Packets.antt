@@ -199,7 +199,7 @@ module _ (o : Origin) (reads : MapsAreRead o) (named : is_empty o.setup.id ≡ f
       (λ end k. does-playing o f c (Tied o f c) u end said k.base k noise))
       (λ end k. does-silent o f c (Tied o f c) u end _ _ refl k)
 
-  does-chats : (t : Table) (place : Place) (client scope to : ℕ) (text : List ℕ) → Tied o f c t place
+  pub does-chats : (t : Table) (place : Place) (client scope to : ℕ) (text : List ℕ) → Tied o f c t place
       → Done t place (chats client scope to text t)
   does-chats t place client scope to text h =
       let a : Deed = tells (map (λ m. m.conn) (filter (λ m. is_playing m && is_in_scope scope to m) t.members))

@@ -35,6 +35,8 @@ use Rattle.tt_log.proofs.Crew.{put, put-all}
 use Rattle.tt_log.proofs.Changes.{Says, By, Change, wants_password, is_let_in, gets_token}
 use Rattle.tt_log.proofs.Changes.{gets_frame, answers, plays, May, Move, turned, moved}
 use Rattle.tt_log.proofs.Changes.{commands, has_name, goes_to, founds, gets_pieces, has_all, queues, begins_map, loads}
+use Rattle.std.proofs.Common.{inl, inr}
+use Rattle.tt_log.proofs.Walk.{IsOrdered}
 use Rattle.tt_log.proofs.Walk.{Base, Walk, Moves, Ticks, running, of-asks, of-enters, of-leaves, of-deed}
 use Rattle.tt_in_step.proofs.Worlds.{AreShort}
 
@@ -138,6 +140,10 @@ module _ (o : Origin) (e : Event) (bytes : IsEvent e) where
   turned-brief (gets_pieces left) t m may by h = h
   turned-brief has_all t m may by h = h
 
+  ordered-brief : (t : Table) (c : Command) → IsOrdered t c → IsShort c.text
+  ordered-brief t c (inl is) = subst (λ (c : Command). IsShort c.text) (sym is.2) nothing
+  ordered-brief t c (inr is) = subst (λ (c : Command). IsShort c.text) (sym is.1) nothing
+
   short-base : Base o e KeepsShort
   short-base = record {
     still = λ t h. h;
@@ -172,16 +178,13 @@ module _ (o : Origin) (e : Event) (bytes : IsEvent e) where
     locks = λ t m digest on allowed h. h;
     orders = λ t c is still h. record {
       waiting = h.waiting;
-      owned = all-append (λ (c : Command). IsShort c.text) t.own (c ∷ []) h.owned (
-        subst (λ (c : Command). IsShort c.text) (sym is.2)
-            nothing,
-        tt,
-      );
+      owned = all-append (λ (c : Command). IsShort c.text) t.own (c ∷ []) h.owned (ordered-brief t c is, tt);
       entries = h.entries;
     };
     asks_map = λ t m on at. of-asks o e KeepsShort short-base short-moves t m on at;
     enters_game = λ t m on at. of-enters o e KeepsShort short-base short-moves t m on at;
     goes = λ t m farewell on. of-leaves o e KeepsShort short-base short-moves t m farewell on;
+    settles = λ t a b on is h. h;
     goes_aside = λ t a on h. h;
   }
 

@@ -21,11 +21,20 @@ use Rattle.tt_log.specs.Member.{Member, is_in}
 use Rattle.tt_log.specs.Table.{Table, playing, member_of, admin_of, is_admin_on}
 use Rattle.tt_log.specs.Table.{with_member, world_of, downloader, first_loading, if_loading}
 use Rattle.tt_log.specs.Deed.{Deed, ◌▹◌, where_, where_some, becomes, tells_what}
+use Rattle.std.specs.Prelude.{filter}
+use Rattle.tt_rules.specs.Companies.{living}
+use Rattle.tt_log.specs.declared.report.Report.{Report}
+use Rattle.tt_log.specs.declared.report.Report.TheVariants.{Message, CompanyNews}
+use Rattle.tt_log.specs.Admin.{company_updates}
+use Rattle.tt_log.specs.Watching.{watching, sees_frame}
+use Rattle.tt_log.specs.Polls.{tells_admin, due_reports, each_told, day_told, admins_told}
+use Rattle.tt_in_step.proofs.Hearing.{report-silent}
+use Rattle.tt_in_step.proofs.Does.{does-reports}
 use Rattle.tt_log.specs.Tellings.{Filling, piece_messages}
 use Rattle.tt_log.specs.Judged.{is_empty}
 use Rattle.tt_log.specs.Ending.{ends}
 use Rattle.tt_log.specs.PacketRules.{told_command, moves}
-use Rattle.tt_log.specs.Desk.{tells_admin, admins_limited, admin_ends, admin_leaves, admin_limited, each_admin_limited, is_slow}
+use Rattle.tt_log.specs.Desk.{admins_limited, admin_ends, admin_leaves, admin_limited, each_admin_limited, is_slow}
 use Rattle.tt_log.specs.Frames.{frames_told}
 use Rattle.tt_log.specs.Tick.{own_entry, entry_of, stamps, drawn, tells_entries, stamped, frame_runs_by, frame_runs, foundings, all_moved}
 use Rattle.tt_log.specs.Tick.{founders_moved, synced, pieces_of, next_pieces, finishes_map, mapped, late, limited, each_limited}
@@ -410,33 +419,51 @@ module _ (o : Origin) (reads : MapsAreRead o) (named : is_empty o.setup.id ≡ f
       (does-some o f c (Tied o f c) (admin_of t a.conn) (admin_limited o) t place h (λ b is. does-where o f c (Tied o f c)
           (is_slow o t.frame b)
       (admin_ends b 17) t place h (λ slow. does-then o f c (Tied o f c) (Tied o f c) t place
-      (tells_admin b.conn (ServerError 17) t) (admin_leaves b)
-      (does-silent o f c (Tied o f c) t place (b.conn ∷ []) (ToAdmin (ServerError 17)) refl h)
+      (tells_admin b.conn (Message (ServerError 17) ∷ []) t) (admin_leaves b)
+      (does-silent o f c (Tied o f c) t place (b.conn ∷ []) (ToAdmin (Message (ServerError 17))) refl h)
       (λ end k. does-admin-leaves t end b (found-among (is_admin_on a.conn) b t.admins is) k))))
       (λ end k. each-admin-by admins d.table end k)
 
+  -- on a day that begins admins are told what they have asked for
+  each-told-by : (day : ℕ) (admins : List Admin) (t : Table) (place : Place) → Tied o f c t place → Done t place (each_told day admins t)
+  each-told-by day [] t place h = does-still o f c (Tied o f c) t place h
+  each-told-by day (a ∷ admins) t place h =
+      let reports : List Report = due_reports day a t in
+      does-then o f c (Tied o f c) (Tied o f c) t place (tells_admin a.conn reports t) (each_told day admins)
+      (does-reports o f c (Tied o f c) t place a.conn reports h) (λ end k. each-told-by day admins t end k)
+
+  does-admins-told : (before : ℕ) (t : Table) (place : Place) → Tied o f c t place → Done t place (admins_told before o t)
+  does-admins-told before t place h =
+      let day : ℕ = (world_of o t).day in
+      does-where o f c (Tied o f c) (not (day == before)) (day_told day) t place h
+      (λ yes. each-told-by day (filter (λ a. a.joined) t.admins) t place h)
+
   -- ---- a whole tick
 
-  pub does-ticked : (live : List Bool) (t : Table) (place : Place) → Before t place
+  pub does-ticked : (before : WorldState) (t : Table) (place : Place) → Before t place
       → Steady o f c ((stamped t).table.frame + 1) (stamped t).table.journal
-      → Done t place (stamped t ▹ frame_runs o ▹ becomes ▹ frame_follows live f.left o)
-  does-ticked live t place h steady =
+      → Done t place (stamped t ▹ frame_runs o ▹ sees_frame ▹ frame_follows before f.left o)
+  does-ticked before t place h steady =
       let d0 : Deed = stamped t ▹ frame_runs o in
       let u : Table = d0.table in
-      let d1 : Deed = founders_moved o live u in
+      let d1 : Deed = founders_moved o (living before) u in
       let d2 : Deed = d1 ▹ synced o in
       let d3 : Deed = d2 ▹ mapped f.left in
       let d4 : Deed = d3 ▹ timed o in
+      let d5 : Deed = d4 ▹ admins_limited o in
       let v : Table = (stamped t).table in
       let p0 : Does o f c Ticks t place d0 = does-then o f c Before Ticks t place (stamped t) (frame_runs o) (does-stamped t place h)
       (λ end k. runs-by (nat_lt v.top (v.frame + 1)) v end refl k steady) in
-      does-then o f c Ticks (Tied o f c) t place (d0 ▹ becomes) (frame_follows live f.left o)
-      (does-then o f c Ticks Ticks t place d0 becomes p0 (λ end k. does-still o f c Ticks u end k)) (λ end k.
-      let p1 : Does o f c Ticks u end d1 = does-founders live u end k in
+      does-then o f c Ticks (Tied o f c) t place (d0 ▹ sees_frame) (frame_follows before f.left o)
+      (does-then o f c Ticks Ticks t place d0 sees_frame p0
+      (λ end k. does-silent o f c Ticks u end (watching company_updates u) (ToAdmin CompanyNews)
+          (report-silent o f CompanyNews) k)) (λ end k.
+      let p1 : Does o f c Ticks u end d1 = does-founders (living before) u end k in
       let p2 : Does o f c Ticks u end d2 = does-then o f c Ticks Ticks u end d1 (synced o) p1 (λ end k. does-synced d1.table end k) in
       let p3 : Done u end d3 = does-then o f c Ticks (Tied o f c) u end d2 (mapped f.left) p2 (λ end k. does-mapped d2.table end k) in
       let p4 : Done u end d4 = does-then o f c (Tied o f c) (Tied o f c) u end d3 (timed o) p3
       (λ end k. each-by d3.table.members d3.table end k) in
-      does-then o f c (Tied o f c) (Tied o f c) u end (d4 ▹ admins_limited o) becomes (does-then o f c (Tied o f c) (Tied o f c) u end d4
-      (admins_limited o) p4
-      (λ end k. each-admin-by d4.table.admins d4.table end k)) (λ end k. does-still o f c (Tied o f c) (d4 ▹ admins_limited o).table end k))
+      let p5 : Done u end d5 = does-then o f c (Tied o f c) (Tied o f c) u end d4 (admins_limited o) p4
+      (λ end k. each-admin-by d4.table.admins d4.table end k) in
+      does-then o f c (Tied o f c) (Tied o f c) u end d5 (admins_told before.day o) p5 (λ end k.
+          does-admins-told before.day d5.table end k))

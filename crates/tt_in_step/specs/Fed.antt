@@ -1,5 +1,5 @@
 -- A client that is fed bytes in pieces, as the theorem sees it: with each piece the things that are new by it.
-use Rattle.std.specs.Prelude.{ℕ, drop, length, List, [], ◌∷◌, ◌++◌, map}
+use Rattle.std.specs.Prelude.{◌≡◌, ℕ, Some, drop, length, List, [], ◌∷◌, ◌++◌, map}
 use Rattle.std.specs.List.{AllByRecursion}
 use Rattle.tt_edge.specs.declared.event.Event.{Event}
 use Rattle.tt_lockstep.specs.Client.{Call, Feed, Advance}
@@ -9,10 +9,12 @@ use Rattle.tt_game.specs.Messages.{Spells}
 use Rattle.tt_game.specs.Apart.{kind_of, body_bytes}
 use Rattle.tt_world.specs.declared.command.Entry.{Entry}
 use Rattle.tt_world.specs.World.{WorldState}
-use Rattle.tt_log.specs.Deed.{Said, game, admin}
 use Rattle.tt_log.specs.Origin.{Origin}
 use Rattle.tt_log.specs.Told.{heard}
 use Rattle.tt_log.specs.Shown.{things_in}
+use Rattle.tt_log.specs.Doors.{door_of}
+use Rattle.tt_edge.specs.declared.event.Door.TheVariants.{Side}
+use Rattle.tt_in_step.specs.Watched.{game_messages}
 
 -- the calls of a client that was fed these bytes before
 abbrev pub calls_behind : List ℕ → List PieceCall → List (Call WorldState Entry)
@@ -32,11 +34,10 @@ IsSpelled m = Spells m (kind_of m) (body_bytes m)
 abbrev pub AreSpelled : List GameMsg → Type 0
 AreSpelled ms = AllByRecursion IsSpelled ms
 
--- what is said is a message of the game that has its spelling
-abbrev pub IsOfGame : Said → Type 0
-IsOfGame (game m) = IsSpelled m
-IsOfGame (admin m) = ⊥
+-- a connection that was not opened at the side door
+abbrev pub IsPlayer : List Event → ℕ → Type 0
+IsPlayer events conn = door_of events conn ≡ Some Side → ⊥
 
--- all that a connection is told is of the game: it was not opened at the side door
-abbrev pub IsPlayer : Origin → List Event → ℕ → Type 0
-IsPlayer o events conn = AllByRecursion IsOfGame (heard o events conn)
+-- all that it is told has its spelling
+abbrev pub IsToldInRange : Origin → List Event → ℕ → Type 0
+IsToldInRange o events conn = AreSpelled (game_messages (heard o events conn))
