@@ -119,7 +119,7 @@ apart-base c o e = record {
   });
   tells_one = λ t m msg on talk. says c t (m.conn ∷ []) _ (λ a. (among-not c m t.members on a.members, tt));
   tells_some = λ t to w there news. says c t to w (λ a. there c (playing-not c t a));
-  tells_admins = λ t to r may. says c t to _ (λ a. may.within c a.admins);
+  tells_admins = λ t to r may is. says c t to _ (λ a. may.within c a.admins);
 }
 
 apart-moves : (c : ℕ) (o : Origin) (e : Event) → Moves o e (PassesBy c)
@@ -149,14 +149,15 @@ apart-moves c o e = record {
     };
     misses = tt;
   });
-  parts = λ t m on. passes c t _ _ refl
+  ends_one = λ t m on. says c t (m.conn ∷ []) _ (λ a. (among-not c m t.members on a.members, tt));
+  parts = λ t m on. passes c t [] _ refl
       (λ a. record {
         apart = record {
           members = all-of-filter (λ (n : Member). n.conn) (λ n. not (is_on m.conn n)) c t.members a.members;
           admins = a.admins;
           queue = a.queue;
         };
-        misses = ((among-not c m t.members on a.members, tt), tt);
+        misses = tt;
       });
   greets = λ t m on at. passes c t _ _ refl (λ a. record {
     apart = put-apart c _ t a;
@@ -183,7 +184,7 @@ apart-walk c o e = record {
   });
   asks_map = λ t m on at. of-asks o e (PassesBy c) (apart-base c o e) (apart-moves c o e) t m on at;
   enters_game = λ t m on at. of-enters o e (PassesBy c) (apart-base c o e) (apart-moves c o e) t m on at;
-  goes = λ t m farewell on. of-leaves o e (PassesBy c) (apart-base c o e) (apart-moves c o e) t m farewell on;
+  goes = λ t m farewell on is. of-leaves o e (PassesBy c) (apart-base c o e) (apart-moves c o e) t m farewell on is;
   settles = λ t a b on is. passes c t [] _ refl (λ h. record {
     apart = record {
       members = h.members;

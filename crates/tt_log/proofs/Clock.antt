@@ -15,6 +15,8 @@ use Rattle.tt_log.specs.Events.{arrives, counted_in, by_event, charged, shut_dow
 use Rattle.tt_log.specs.History.{table_of}
 use Rattle.tt_log.proofs.Walk.{stamping, running, Base, Walk, Doors, Moves, of-entries, of-frames, of-asks, of-enters, of-leaves}
 use Rattle.tt_log.proofs.Walk.{of-follows, of-still}
+use Rattle.tt_log.proofs.Lists.{last-among}
+use Rattle.tt_log.proofs.Places.{world-places}
 
 -- ---- what leaves the clock
 
@@ -38,7 +40,7 @@ same-base o e = record {
   turns = λ c t m on may by. record { frame = refl; top = refl; over = refl; journal = refl };
   tells_one = λ t m msg on talk. record { frame = refl; top = refl; over = refl; journal = refl };
   tells_some = λ t to w there news. record { frame = refl; top = refl; over = refl; journal = refl };
-  tells_admins = λ t to r may. record { frame = refl; top = refl; over = refl; journal = refl };
+  tells_admins = λ t to r may is. record { frame = refl; top = refl; over = refl; journal = refl };
 }
 
 pub same-moves : (o : Origin) (e : Event) → Moves o e KeepsClock
@@ -48,6 +50,7 @@ same-moves o e = record {
   waits_on = λ t conn n there. record { frame = refl; top = refl; over = refl; journal = refl };
   stands = λ t m on. record { frame = refl; top = refl; over = refl; journal = refl };
   cuts = λ t place. record { frame = refl; top = refl; over = refl; journal = refl };
+  ends_one = λ t m on. record { frame = refl; top = refl; over = refl; journal = refl };
   parts = λ t m on. record { frame = refl; top = refl; over = refl; journal = refl };
   greets = λ t m on at. record { frame = refl; top = refl; over = refl; journal = refl };
 }
@@ -59,7 +62,7 @@ same-walk o e = record {
   orders = λ t c is still. record { frame = refl; top = refl; over = refl; journal = refl };
   asks_map = λ t m on at. of-asks o e KeepsClock (same-base o e) (same-moves o e) t m on at;
   enters_game = λ t m on at. of-enters o e KeepsClock (same-base o e) (same-moves o e) t m on at;
-  goes = λ t m farewell on. of-leaves o e KeepsClock (same-base o e) (same-moves o e) t m farewell on;
+  goes = λ t m farewell on is. of-leaves o e KeepsClock (same-base o e) (same-moves o e) t m farewell on is;
   settles = λ t a b on is. record { frame = refl; top = refl; over = refl; journal = refl };
   goes_aside = λ t a on. record { frame = refl; top = refl; over = refl; journal = refl };
 }
@@ -85,7 +88,7 @@ event-same o e t other = of-still o e KeepsClock (same-walk o e) (same-doors o e
 -- ---- a tick
 
 pub stamped-same : (o : Origin) (t : Table) → SameClock (stamping t) (stamped t).table
-stamped-same o t = of-entries o Tick KeepsClock (same-base o Tick) (stamps t) (stamping t)
+stamped-same o t = of-entries o Tick KeepsClock (same-base o Tick) (stamps t) (stamping t) (last-among t.journal (stamps t))
 
 runs-same : (o : Origin) (b : Bool) (t : Table) → SameClock (running b o t) (frame_runs_by b o t).table
 runs-same o true t = of-frames o Tick KeepsClock (same-base o Tick) t.members (running true o t)
@@ -123,7 +126,7 @@ ticked-is o t =
     let b : Bool = nat_lt s.top (s.frame + 1) in
     let u : Table = (frame_runs_by b o s).table in
     ticked-by b o t s u (ticked o t).table (stamped-same o t) refl (runs-same o b s) (of-follows o Tick KeepsClock (same-walk o Tick)
-    (world_of o t) (left_of o t) u)
+    (world_of o t) (left_of o t) u (world-places o t.journal t.frame))
 
 -- ---- what follows the rule of an event
 

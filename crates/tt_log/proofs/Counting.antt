@@ -21,6 +21,7 @@ use Rattle.tt_log.proofs.Clock.{ticked-is, event-same, taken-run, from-all}
 
 pub record SameCounts (t u : Table) : Type 0 where
   pub openings : u.openings ≡ t.openings
+  pub clients : u.clients ≡ t.clients
   pub cost : u.cost ≡ t.cost
 
 abbrev KeepsCounts : Table → List Step → Table → Type 0
@@ -28,43 +29,48 @@ KeepsCounts t steps u = SameCounts t u
 
 counts-base : (o : Origin) (e : Event) → Base o e KeepsCounts
 counts-base o e = record {
-  still = λ t. record { openings = refl; cost = refl };
-  joins = λ t u v xs ys a b. record { openings = b.openings ∙ a.openings; cost = b.cost ∙ a.cost };
-  turns = λ k t m on may by. record { openings = refl; cost = refl };
-  tells_one = λ t m msg on talk. record { openings = refl; cost = refl };
-  tells_some = λ t to w there news. record { openings = refl; cost = refl };
-  tells_admins = λ t to r may. record { openings = refl; cost = refl };
+  still = λ t. record { openings = refl; clients = refl; cost = refl };
+  joins = λ t u v xs ys a b. record {
+    openings = b.openings ∙ a.openings;
+    clients = b.clients ∙ a.clients;
+    cost = b.cost ∙ a.cost;
+  };
+  turns = λ k t m on may by. record { openings = refl; clients = refl; cost = refl };
+  tells_one = λ t m msg on talk. record { openings = refl; clients = refl; cost = refl };
+  tells_some = λ t to w there news. record { openings = refl; clients = refl; cost = refl };
+  tells_admins = λ t to r may is. record { openings = refl; clients = refl; cost = refl };
 }
 
 counts-moves : (o : Origin) (e : Event) → Moves o e KeepsCounts
 counts-moves o e = record {
-  moving = λ v t m on may. record { openings = refl; cost = refl };
-  recalls = λ t m on at. record { openings = refl; cost = refl };
-  waits_on = λ t conn n there. record { openings = refl; cost = refl };
-  stands = λ t m on. record { openings = refl; cost = refl };
-  cuts = λ t place. record { openings = refl; cost = refl };
-  parts = λ t m on. record { openings = refl; cost = refl };
-  greets = λ t m on at. record { openings = refl; cost = refl };
+  moving = λ v t m on may. record { openings = refl; clients = refl; cost = refl };
+  recalls = λ t m on at. record { openings = refl; clients = refl; cost = refl };
+  waits_on = λ t conn n there. record { openings = refl; clients = refl; cost = refl };
+  stands = λ t m on. record { openings = refl; clients = refl; cost = refl };
+  cuts = λ t place. record { openings = refl; clients = refl; cost = refl };
+  ends_one = λ t m on. record { openings = refl; clients = refl; cost = refl };
+  parts = λ t m on. record { openings = refl; clients = refl; cost = refl };
+  greets = λ t m on at. record { openings = refl; clients = refl; cost = refl };
 }
 
 counts-walk : (o : Origin) (e : Event) → Walk o e KeepsCounts
 counts-walk o e = record {
   base = counts-base o e;
-  locks = λ t m digest on allowed. record { openings = refl; cost = refl };
-  orders = λ t c is still. record { openings = refl; cost = refl };
+  locks = λ t m digest on allowed. record { openings = refl; clients = refl; cost = refl };
+  orders = λ t c is still. record { openings = refl; clients = refl; cost = refl };
   asks_map = λ t m on at. of-asks o e KeepsCounts (counts-base o e) (counts-moves o e) t m on at;
   enters_game = λ t m on at. of-enters o e KeepsCounts (counts-base o e) (counts-moves o e) t m on at;
-  goes = λ t m farewell on. of-leaves o e KeepsCounts (counts-base o e) (counts-moves o e) t m farewell on;
-  settles = λ t a b on is. record { openings = refl; cost = refl };
-  goes_aside = λ t a on. record { openings = refl; cost = refl };
+  goes = λ t m farewell on is. of-leaves o e KeepsCounts (counts-base o e) (counts-moves o e) t m farewell on is;
+  settles = λ t a b on is. record { openings = refl; clients = refl; cost = refl };
+  goes_aside = λ t a on. record { openings = refl; clients = refl; cost = refl };
 }
 
 run-counts : (b : Bool) (o : Origin) (t : Table) → SameCounts t (running b o t)
-run-counts true o t = record { openings = refl; cost = refl }
-run-counts false o t = record { openings = refl; cost = refl }
+run-counts true o t = record { openings = refl; clients = refl; cost = refl }
+run-counts false o t = record { openings = refl; clients = refl; cost = refl }
 
 counts-ticks : (o : Origin) (e : Event) → Ticks o e KeepsCounts
-counts-ticks o e = record { stamping = λ t. record { openings = refl; cost = refl }; running = λ t b is. run-counts b o t }
+counts-ticks o e = record { stamping = λ t. record { openings = refl; clients = refl; cost = refl }; running = λ t b is. run-counts b o t }
 
 -- ---- an event
 
@@ -80,18 +86,19 @@ none-more a b e = omega (arith, e)
 -- it opens a connection or none, makes a frame or none, and costs what it costs
 record Counts (e : Event) (t u : Table) : Type 0 where
   openings : u.openings ≡ t.openings + one_if (is_open e)
+  clients : u.clients ≤ t.clients + one_if (is_open e)
   frame : u.frame ≡ t.frame + one_if (is_tick e)
   cost : u.cost ≡ t.cost
 
 arrives-counts : (full : Bool) (t : Table) → ((arrives full (counted_in t)).table.openings ≡ t.openings + 1)
-    × ((arrives full (counted_in t)).table.cost ≡ t.cost)
-arrives-counts true t = (refl, refl)
-arrives-counts false t = (refl, refl)
+    × ((arrives full (counted_in t)).table.cost ≡ t.cost) × ((arrives full (counted_in t)).table.clients ≡ t.clients + 1)
+arrives-counts true t = (refl, refl, refl)
+arrives-counts false t = (refl, refl, refl)
 
 aside-counts : (full : Bool) (t : Table) → ((admin_arrives full (counted_aside t)).table.openings ≡ t.openings + 1)
-    × ((admin_arrives full (counted_aside t)).table.cost ≡ t.cost)
-aside-counts true t = (refl, refl)
-aside-counts false t = (refl, refl)
+    × ((admin_arrives full (counted_aside t)).table.cost ≡ t.cost) × ((admin_arrives full (counted_aside t)).table.clients ≡ t.clients)
+aside-counts true t = (refl, refl, refl)
+aside-counts false t = (refl, refl, refl)
 
 still-counts : (o : Origin) (e : Event) (t : Table) → is_tick e ≡ false → is_open e ≡ false → Counts e t (by_event o e t).table
 still-counts o e t still shut =
@@ -99,26 +106,43 @@ still-counts o e t still shut =
     let clock = event-same o e t still in
     record {
       openings = omega (arith, same.openings, none-if (is_open e) shut);
+      clients = let n = same.clients in omega (arith, n);
       frame = omega (arith, clock.frame, none-if (is_tick e) still);
       cost = same.cost;
     }
 
 event-counts : (o : Origin) (e : Event) (t : Table) → Counts e t (by_event o e t).table
 event-counts o (Open Main peer) t = let a = arrives-counts (nat_le o.setup.max_clients (length t.members)) t in
-    record { openings = a.0; frame = none-more _ _ (event-same o (Open Main peer) t refl).frame; cost = a.1 }
+    record {
+      openings = a.0;
+      clients = let n = a.2 in omega (arith, n);
+      frame = none-more _ _ (event-same o (Open Main peer) t refl).frame;
+      cost = a.1;
+    }
 event-counts o (Open Side peer) t = let a = aside-counts (nat_le most_admins (length t.admins)) t in
-    record { openings = a.0; frame = none-more _ _ (event-same o (Open Side peer) t refl).frame; cost = a.1 }
+    record {
+      openings = a.0;
+      clients = let n = a.2 in omega (arith, n);
+      frame = none-more _ _ (event-same o (Open Side peer) t refl).frame;
+      cost = a.1;
+    }
 event-counts o (Packet conn kind body) t = still-counts o (Packet conn kind body) t refl refl
 event-counts o (Broken conn) t = still-counts o (Broken conn) t refl refl
 event-counts o (Shut conn) t = still-counts o (Shut conn) t refl refl
 event-counts o Tick t =
     let same : SameCounts t (by_event o Tick t).table = of-ticked o Tick KeepsCounts (counts-walk o Tick) (counts-ticks o Tick) t in
-    record { openings = none-more _ _ same.openings; frame = (ticked-is o t).frame; cost = same.cost }
+    record {
+      openings = none-more _ _ same.openings;
+      clients = let n = same.clients in omega (arith, n);
+      frame = (ticked-is o t).frame;
+      cost = same.cost;
+    }
 event-counts o Stop t = still-counts o Stop t refl refl
 
 closed-counts : (b : Bool) (t : Table) → ((where_ b shut_down t).table.openings ≡ t.openings) × ((where_ b shut_down t).table.cost ≡ t.cost)
-closed-counts true t = (refl, refl)
-closed-counts false t = (refl, refl)
+    × ((where_ b shut_down t).table.clients ≡ t.clients)
+closed-counts true t = (refl, refl, refl)
+closed-counts false t = (refl, refl, refl)
 
 -- ---- a history
 
@@ -130,11 +154,16 @@ pub record Counted (t u : Table) (es : List Event) : Type 0 where
 pub taken-counts : (b : Bool) (o : Origin) (e : Event) (t : Table) → b ≡ true → ((where_ b (taken o e) t).table.openings
     ≡ t.openings + one_if (is_open e)) × ((where_ b (taken o e) t).table.frame ≡ t.frame + one_if (is_tick e))
     × ((where_ b (taken o e) t).table.cost ≡ t.cost + event_cost e)
+    × ((where_ b (taken o e) t).table.clients ≤ t.clients + one_if (is_open e))
 taken-counts true o e t is =
     let a : Counts e t (by_event o e t).table = event-counts o e t in
     let v : Table = (charged e (by_event o e t).table).table in
-    let c = closed-counts (stops o e t || nat_le o.setup.cost v.cost || (v.frame == last_frame)) v in
-    (c.0 ∙ a.openings, (taken-run o e t).frame ∙ a.frame, c.1 ∙ ap (λ (n : ℕ). n + event_cost e) a.cost)
+    let c = closed-counts (stops o e t || nat_le o.setup.cost v.cost || (v.frame == last_frame)) v in (
+      c.0 ∙ a.openings,
+      (taken-run o e t).frame ∙ a.frame,
+      c.1 ∙ ap (λ (n : ℕ). n + event_cost e) a.cost,
+      let n = c.2 in let l = a.clients in omega (arith, n, l),
+    )
 taken-counts false o e t is = absurd cc
 
 opens-more : (e : Event) (es : List Event) → opens (e ∷ es) ≡ one_if (is_open e) + opens es
@@ -168,9 +197,9 @@ is-counted o es all =
 -- ---- no game passes its last frame
 
 -- it is over at the last frame, and before it the frame is lower
-record Low (t : Table) : Type 0 where
-  least : t.frame ≤ last_frame
-  over : t.over ≡ false → t.frame < last_frame
+pub record Low (t : Table) : Type 0 where
+  pub least : t.frame ≤ last_frame
+  pub over : t.over ≡ false → t.frame < last_frame
 
 closed-low : (b : Bool) (t : Table) → t.frame ≤ last_frame → (b ≡ false → t.frame < last_frame) → Low (where_ b shut_down t).table
 closed-low true t l later = record { least = l; over = λ going. absurd cc }
@@ -192,7 +221,7 @@ not-over : (x y : Bool) → not x && y ≡ true → x ≡ false
 not-over true y e = absurd cc
 not-over false y e = refl
 
-low-by : (b : Bool) (o : Origin) (e : Event) (t : Table) → takes t e ≡ b → Low t → Low (where_ b (taken o e) t).table
+pub low-by : (b : Bool) (o : Origin) (e : Event) (t : Table) → takes t e ≡ b → Low t → Low (where_ b (taken o e) t).table
 low-by true o e t is h =
     let v : Table = (charged e (by_event o e t).table).table in
     let l : v.frame ≤ last_frame = event-low o e t (h.over (not-over t.over (names_live t e) is)) in

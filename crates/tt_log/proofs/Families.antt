@@ -119,7 +119,7 @@ out-base c o e = record {
   );
   tells_one = λ t m msg on talk h. (h, (inl (among-not c m t.members on h.members, tt), tt));
   tells_some = λ t to w there news h. (h, (inl (there c (all-of-filter (λ (m : Member). m.conn) is_playing c t.members h.members)), tt));
-  tells_admins = λ t to r there h. (h, (inr tt, tt));
+  tells_admins = λ t to r there is h. (h, (inr tt, tt));
 }
 
 out-moves : (c : ℕ) (o : Origin) (e : Event) → Moves o e (KeepsOut c)
@@ -146,12 +146,13 @@ out-moves c o e = record {
     },
     tt,
   );
+  ends_one = λ t m on h. (h, (inr tt, tt));
   parts = λ t m on h. (
     record {
       members = all-of-filter (λ (n : Member). n.conn) (λ n. not (is_on m.conn n)) c t.members h.members;
       queue = h.queue;
     },
-    (inr tt, tt),
+    tt,
   );
   greets = λ t m on at h. (put-out c _ t h, (inl (among-not c m t.members on h.members, tt), tt));
 }
@@ -163,7 +164,7 @@ out-walk c o e = record {
   orders = λ t k is still h. (record { members = h.members; queue = h.queue }, tt);
   asks_map = λ t m on at. of-asks o e (KeepsOut c) (out-base c o e) (out-moves c o e) t m on at;
   enters_game = λ t m on at. of-enters o e (KeepsOut c) (out-base c o e) (out-moves c o e) t m on at;
-  goes = λ t m farewell on. of-leaves o e (KeepsOut c) (out-base c o e) (out-moves c o e) t m farewell on;
+  goes = λ t m farewell on is. of-leaves o e (KeepsOut c) (out-base c o e) (out-moves c o e) t m farewell on is;
   settles = λ t a b on is h. (record { members = h.members; queue = h.queue }, tt);
   goes_aside = λ t a on h. (record { members = h.members; queue = h.queue }, (inr tt, tt));
 }
@@ -259,15 +260,15 @@ with-inside (goes_to company digest) c o t m = tt
 with-inside (founds company) c o t m = tt
 with-inside has_all c o t m = tt
 
-pub news-inside : (w : What) → IsNews w → IsInside w
-news-inside (Msg m) news = tt
-news-inside (Stamp e) news = tt
-news-inside Sync news = tt
-news-inside (ToAdmin r) news = absurd news
-news-inside MapBegin news = tt
-news-inside MapPieces news = tt
-news-inside (Entries frame) news = tt
-news-inside End news = tt
+pub news-inside : (o : Origin) (e : Event) (t : Table) (w : What) → IsNews o e t w → IsInside w
+news-inside o e t (Msg m) news = tt
+news-inside o e t (Stamp x) news = tt
+news-inside o e t Sync news = tt
+news-inside o e t (ToAdmin r) news = absurd news
+news-inside o e t MapBegin news = tt
+news-inside o e t MapPieces news = tt
+news-inside o e t (Entries frame) news = tt
+news-inside o e t End news = tt
 
 pub moved-inside : (c : ℕ) (v : Move) (m : Member) → AllByRecursion (Inside c) (told_moved v m)
 moved-inside c queues m = tt
@@ -280,8 +281,8 @@ in-base c o e = record {
   joins = λ t u v xs ys a b h. let p = a h in let q = b p.0 in (q.0, all-append (Inside c) xs ys p.1 q.1);
   turns = λ k t m on may by h. (h, with-inside k c o t m);
   tells_one = λ t m msg on talk h. (h, (inr tt, tt));
-  tells_some = λ t to w there news h. (h, (inr (news-inside w news), tt));
-  tells_admins = λ t to r may h. (h, (inl (may.within c h), tt));
+  tells_some = λ t to w there news h. (h, (inr (news-inside o e t w news), tt));
+  tells_admins = λ t to r may is h. (h, (inl (may.within c h), tt));
 }
 
 in-moves : (c : ℕ) (o : Origin) (e : Event) → Moves o e (KeepsIn c)
@@ -291,7 +292,8 @@ in-moves c o e = record {
   waits_on = λ t conn n there h. (h, (inr tt, tt));
   stands = λ t m on h. (h, tt);
   cuts = λ t place h. (h, tt);
-  parts = λ t m on h. (h, (inr tt, tt));
+  ends_one = λ t m on h. (h, (inr tt, tt));
+  parts = λ t m on h. (h, tt);
   greets = λ t m on at h. (h, (inr tt, tt));
 }
 
@@ -302,7 +304,7 @@ in-walk c o e = record {
   orders = λ t k is still h. (h, tt);
   asks_map = λ t m on at. of-asks o e (KeepsIn c) (in-base c o e) (in-moves c o e) t m on at;
   enters_game = λ t m on at. of-enters o e (KeepsIn c) (in-base c o e) (in-moves c o e) t m on at;
-  goes = λ t m farewell on. of-leaves o e (KeepsIn c) (in-base c o e) (in-moves c o e) t m farewell on;
+  goes = λ t m farewell on is. of-leaves o e (KeepsIn c) (in-base c o e) (in-moves c o e) t m farewell on is;
   settles = λ t a b on is h. (subst (λ (xs : List ℕ). NotIn c xs) (sym (put-admin-conns b t.admins)) h, tt);
   goes_aside = λ t a on h. (all-of-filter (λ (d : Admin). d.conn) (λ d. not (is_admin_on a.conn d)) c t.admins h, (inr tt, tt));
 }

@@ -47,9 +47,14 @@ among-all P x [] there a = absurd there
 among-all P x (y ∷ ys) (inl here) a = subst P here a.0
 among-all P x (y ∷ ys) (inr later) a = among-all P x ys later a.1
 
+-- each is among all, and each of the last ones is
 pub all-among : {A : Type 0} (xs : List A) → AllByRecursion (λ x. Among x xs) xs
 all-among [] = tt
 all-among (x ∷ xs) = (inl refl, all-so (λ y. Among y xs) (λ y. Among y (x ∷ xs)) xs (λ y there. inr there) (all-among xs))
+
+pub last-among : {A : Type 0} (xs ys : List A) → AllByRecursion (λ y. Among y (xs ++ ys)) ys
+last-among [] ys = all-among ys
+last-among (x ∷ xs) ys = all-so (λ y. Among y (xs ++ ys)) (λ y. Among y (x ∷ xs ++ ys)) ys (λ y there. inr there) (last-among xs ys)
 
 found-among-by : {A : Type 0} (b : Bool) (x y : A) (ys : List A) (found : Option A) → (found ≡ Some x → Among x ys) → cond b (Some y) found
     ≡ Some x → Among x (y ∷ ys)

@@ -31,7 +31,7 @@ use Rattle.tt_log.proofs.Lists.{IsOther, NotIn, all-append, any-not, all-of-filt
 use Rattle.tt_log.proofs.Crew.{On, put, put-conns, conns, admin_conns, live-conns, live-admins, found-on, on-found, find-put-here}
 use Rattle.tt_log.proofs.Crew.{find-put-other, find-others, none-left}
 use Rattle.tt_log.proofs.Changes.{step, turned, moved}
-use Rattle.tt_log.proofs.Walk.{Base, Moves, of-leaves, of-leaves-queue}
+use Rattle.tt_log.proofs.Walk.{Base, Moves, of-leaves-queue}
 use Rattle.tt_log.proofs.Clock.{SameClock, KeepsClock, same-base, same-moves, over-is-empty}
 use Rattle.tt_log.proofs.Ordered.{is-ordered, no-admin}
 use Rattle.tt_log.proofs.Phases.{OnceIn, place_in, removed-is, cut-none, none-behind, place-once}
@@ -114,7 +114,7 @@ rest-base c o e = record {
   turns = λ k t m on may by. record { admins = refl; own = refl; digests = refl; away = λ a. rest-put c (turned k t m) t a };
   tells_one = λ t m msg on talk. record { admins = refl; own = refl; digests = refl; away = λ a. a };
   tells_some = λ t to w there news. record { admins = refl; own = refl; digests = refl; away = λ a. a };
-  tells_admins = λ t to r may. record { admins = refl; own = refl; digests = refl; away = λ a. a };
+  tells_admins = λ t to r may is. record { admins = refl; own = refl; digests = refl; away = λ a. a };
 }
 
 rest-moves : (c : ℕ) (o : Origin) (e : Event) → Moves o e (KeepsRest c)
@@ -124,6 +124,7 @@ rest-moves c o e = record {
   waits_on = λ t conn n there. record { admins = refl; own = refl; digests = refl; away = λ a. a };
   stands = λ t m on. record { admins = refl; own = refl; digests = refl; away = λ a. a };
   cuts = λ t place. record { admins = refl; own = refl; digests = refl; away = λ a. a };
+  ends_one = λ t m on. record { admins = refl; own = refl; digests = refl; away = λ a. a };
   parts = λ t m on. record {
     admins = refl;
     own = refl;
@@ -261,7 +262,7 @@ begun-stays : (x : Option Member) (c conn : ℕ) (t u : Table) → u.frame ≡ t
 begun-stays None c conn t u frame is = λ n there. (n, there, inl refl)
 begun-stays (Some m) c conn t u frame is = where-stays (is_in MapWait m) c conn t u m frame is
 
-later-stays : (c place : ℕ) (xs : List ℕ) (t : Table) → (moved_up (suc place) xs t).table ≡ t
+pub later-stays : (c place : ℕ) (xs : List ℕ) (t : Table) → (moved_up (suc place) xs t).table ≡ t
 later-stays c place [] t = refl
 later-stays c place (x ∷ xs) t = later-stays c (suc place) xs t
 
@@ -354,7 +355,8 @@ module _ (o : Origin) (t : Table) (m : Member) (code : ℕ) (on : On t m) (apart
   left-game : IsSameGame t Left
   left-game =
       let u : Table = gone m t in
-      let clock : SameClock t Left = of-leaves o Stop KeepsClock (same-base o Stop) (same-moves o Stop) t m (Failing code) on in
+      let clock : SameClock u Left = subst (λ (v : Table). SameClock u (leaves_queue m.conn v).table)
+      (sym (farewell-told (is_welcomed m) m code u)) (of-leaves-queue o Stop KeepsClock (same-base o Stop) (same-moves o Stop) m.conn u) in
       let rest : Rest 0 u Left = rest-of 0 in
       record {
         frame = clock.frame;

@@ -31,7 +31,7 @@ use Rattle.tt_log.proofs.Clock.{from-all}
 
 -- ---- the reasons that were not there
 
-none-first : (b : Bool) (code : ℕ) (later : Option ℕ) → ((b ⇒ code) or_else later) ≡ None → (b ≡ false) × (later ≡ None)
+pub none-first : (b : Bool) (code : ℕ) (later : Option ℕ) → ((b ⇒ code) or_else later) ≡ None → (b ≡ false) × (later ≡ None)
 none-first true code later is = absurd cc
 none-first false code later is = (refl, is)
 
@@ -41,7 +41,7 @@ or-false false y is = (refl, is)
 
 -- ---- a fresh token is one byte
 
-fresh-low : (words : ℕ × ℕ) → fresh_token words ≤ 255
+pub fresh-low : (words : ℕ × ℕ) → fresh_token words ≤ 255
 fresh-low words =
     let low : (next_random words).1 < 2 ^ 32 = mod-lt (rotate_right w32 words.0 3 + (2 ^ 32 - 1)) {m = 2 ^ 32} (omega arith) in
     let q : (next_random words).1 * 255 / 2 ^ 32 < 255 = (div-lt_iff_lt-mul {k = 2 ^ 32} {x = (next_random words).1 * 255} {y = 255}
@@ -53,9 +53,9 @@ fresh-low words =
 abbrev Marks : Table → Type 0
 Marks t = (t.frame ≤ t.top) × AllByRecursion (IsMarked t.frame t.top) t.members
 
-asked-early : (o : Origin) (t : Table) (m : Member) (name : List ℕ) (asked : ℕ) → Asks o t m name asked → rank m.status ≤ 7
-asked-early o t m name asked (inl before) = omega (arith, before.3)
-asked-early o t m name asked (inr now) = omega (arith, now.0)
+asked-early : (o : Origin) (e : Event) (t : Table) (m : Member) (name : List ℕ) (asked : ℕ) → Asks o e t m name asked → rank m.status ≤ 7
+asked-early o e t m name asked (inl before) = omega (arith, before.3)
+asked-early o e t m name asked (inr now) = omega (arith, now.0)
 
 ack-mark : (b : Bool) (frame token f top : ℕ) (m : Member) → frame ≤ m.told → m.acked ≤ frame → 8 ≤ rank m.status → IsMarked f top m
     → IsMarked f top (record (cond b m (closed_token m)) { acked = frame })
@@ -82,10 +82,11 @@ length-more : {A : Type 0} (xs : List A) (x : A) → length (xs ++ x ∷ []) ≡
 length-more [] x = omega arith
 length-more (y ∷ ys) x = omega (arith, length-more ys x)
 
-turned-mark : (c : Change) (o : Origin) (t : Table) (m : Member) → May o t m c → t.frame ≤ t.top → IsMarked t.frame t.top m
+turned-mark : (c : Change) (o : Origin) (e : Event) (t : Table) (m : Member) → May o e t m c → t.frame ≤ t.top
+    → IsMarked t.frame t.top m
     → IsMarked t.frame t.top (turned c t m)
-turned-mark (wants_password true name asked) o t m may ahead h =
-    let i = h.idle (asked-early o t m name asked may) in
+turned-mark (wants_password true name asked) o e t m may ahead h =
+    let i = h.idle (asked-early o e t m name asked may) in
     record {
       since = omega arith;
       mapped = h.mapped;
@@ -96,8 +97,8 @@ turned-mark (wants_password true name asked) o t m may ahead h =
           h.token;
       token_frame = h.token_frame;
     }
-turned-mark (wants_password false name asked) o t m may ahead h =
-    let i = h.idle (asked-early o t m name asked may) in
+turned-mark (wants_password false name asked) o e t m may ahead h =
+    let i = h.idle (asked-early o e t m name asked may) in
     record {
       since = omega arith;
       mapped = h.mapped;
@@ -108,8 +109,8 @@ turned-mark (wants_password false name asked) o t m may ahead h =
           h.token;
       token_frame = h.token_frame;
     }
-turned-mark (is_let_in name asked) o t m may ahead h =
-    let i = h.idle (asked-early o t m name asked may) in
+turned-mark (is_let_in name asked) o e t m may ahead h =
+    let i = h.idle (asked-early o e t m name asked may) in
     record {
       since = omega arith;
       mapped = h.mapped;
@@ -120,7 +121,7 @@ turned-mark (is_let_in name asked) o t m may ahead h =
           h.token;
       token_frame = h.token_frame;
     }
-turned-mark gets_token o t m may ahead h =
+turned-mark gets_token o e t m may ahead h =
     let high : 8 ≤ rank m.status = may.0 in
     record {
       since = h.since;
@@ -131,7 +132,7 @@ turned-mark gets_token o t m may ahead h =
       token = fresh-low t.tokens;
       token_frame = omega arith;
     }
-turned-mark gets_frame o t m may ahead h =
+turned-mark gets_frame o e t m may ahead h =
     record {
       since = h.since;
       mapped = h.mapped;
@@ -142,12 +143,12 @@ turned-mark gets_frame o t m may ahead h =
       token = h.token;
       token_frame = h.token_frame;
     }
-turned-mark (answers frame token) o t m may ahead h =
+turned-mark (answers frame token) o e t m may ahead h =
     let first = none-first (nat_lt frame m.acked || nat_lt m.told frame) 7 _ may.standing in
     let both = or-false (nat_lt frame m.acked) (nat_lt m.told frame) first.0 in
     ack-mark (token == 0) frame token t.frame t.top m (ltb-false m.told frame both.1) (ltb-false frame m.acked both.0)
     (leb-true 8 (rank m.status) may.permits) h
-turned-mark plays o t m may ahead h =
+turned-mark plays o e t m may ahead h =
     record {
       since = omega arith;
       mapped = h.mapped;
@@ -158,7 +159,7 @@ turned-mark plays o t m may ahead h =
       token = h.token;
       token_frame = h.token_frame;
     }
-turned-mark (commands company code number to text command) o t m may ahead h =
+turned-mark (commands company code number to text command) o e t m may ahead h =
     let first = none-first (nat_le 16 (length m.waiting)) 15 _ may.1.standing in
     let low : length m.waiting < 16 = leb-false 16 (length m.waiting) first.0 in
     let high : 8 ≤ rank m.status = leb-true 8 (rank m.status) may.1.permits in
@@ -171,7 +172,7 @@ turned-mark (commands company code number to text command) o t m may ahead h =
       token = h.token;
       token_frame = h.token_frame;
     }
-turned-mark (has_name name) o t m may ahead h = record {
+turned-mark (has_name name) o e t m may ahead h = record {
   since = h.since;
   mapped = h.mapped;
   acked = h.acked;
@@ -181,7 +182,7 @@ turned-mark (has_name name) o t m may ahead h = record {
   token = h.token;
   token_frame = h.token_frame;
 }
-turned-mark (goes_to company digest) o t m may ahead h = record {
+turned-mark (goes_to company digest) o e t m may ahead h = record {
   since = h.since;
   mapped = h.mapped;
   acked = h.acked;
@@ -191,7 +192,7 @@ turned-mark (goes_to company digest) o t m may ahead h = record {
   token = h.token;
   token_frame = h.token_frame;
 }
-turned-mark (founds company) o t m may ahead h = record {
+turned-mark (founds company) o e t m may ahead h = record {
   since = h.since;
   mapped = h.mapped;
   acked = h.acked;
@@ -201,7 +202,7 @@ turned-mark (founds company) o t m may ahead h = record {
   token = h.token;
   token_frame = h.token_frame;
 }
-turned-mark (gets_pieces left) o t m may ahead h = record {
+turned-mark (gets_pieces left) o e t m may ahead h = record {
   since = h.since;
   mapped = h.mapped;
   acked = h.acked;
@@ -211,7 +212,7 @@ turned-mark (gets_pieces left) o t m may ahead h = record {
   token = h.token;
   token_frame = h.token_frame;
 }
-turned-mark has_all o t m may ahead h =
+turned-mark has_all o e t m may ahead h =
     let i = h.idle (omega (arith, may)) in
     record {
       since = h.since;
@@ -316,10 +317,10 @@ mark-base : (o : Origin) (e : Event) → Base o e KeepsMarks
 mark-base o e = record {
   still = λ t h. h;
   joins = λ t u v xs ys a b h. b (a h);
-  turns = λ c t m on may by h. put-marks t (turned c t m) (turned-mark c o t m may h.0 (found-mark t m on h)) h;
+  turns = λ c t m on may by h. put-marks t (turned c t m) (turned-mark c o e t m may h.0 (found-mark t m on h)) h;
   tells_one = λ t m msg on talk h. h;
   tells_some = λ t to w there news h. h;
-  tells_admins = λ t to r may h. h;
+  tells_admins = λ t to r may is h. h;
 }
 
 greeted-mark : (t : Table) (m : Member) → rank m.status ≡ 8 → IsMarked t.frame t.top m
@@ -341,6 +342,7 @@ mark-moves o e = record {
   waits_on = λ t conn n there h. h;
   stands = λ t m on h. h;
   cuts = λ t place h. h;
+  ends_one = λ t m on h. h;
   parts = λ t m on h. (h.0, all-filter (IsMarked t.frame t.top) (λ n. not (is_on m.conn n)) t.members h.1);
   greets = λ t m on at h. put-marks t (opened_token (fresh_token t.tokens) t m) (greeted-mark t m at (found-mark t m on h)) h;
 }
@@ -352,7 +354,7 @@ mark-walk o e = record {
   orders = λ t c is still h. h;
   asks_map = λ t m on at. of-asks o e KeepsMarks (mark-base o e) (mark-moves o e) t m on at;
   enters_game = λ t m on at. of-enters o e KeepsMarks (mark-base o e) (mark-moves o e) t m on at;
-  goes = λ t m farewell on. of-leaves o e KeepsMarks (mark-base o e) (mark-moves o e) t m farewell on;
+  goes = λ t m farewell on is. of-leaves o e KeepsMarks (mark-base o e) (mark-moves o e) t m farewell on is;
   settles = λ t a b on is h. h;
   goes_aside = λ t a on h. h;
 }

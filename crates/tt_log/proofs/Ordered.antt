@@ -176,7 +176,7 @@ order-base o e = record {
   turns = λ c t m on may by h. put-ordered t (turned c t m) m on (turned-conn c t m) (turned-client c t m) h;
   tells_one = λ t m msg on talk h. h;
   tells_some = λ t to w there news h. h;
-  tells_admins = λ t to r may h. h;
+  tells_admins = λ t to r may is h. h;
 }
 
 pub order-moves : (o : Origin) (e : Event) → Moves o e KeepsOrder
@@ -186,6 +186,7 @@ order-moves o e = record {
   waits_on = λ t conn n there h. h;
   stands = λ t m on h. h;
   cuts = λ t place h. h;
+  ends_one = λ t m on h. h;
   parts = λ t m on h. fewer-ordered (λ n. not (is_on m.conn n)) t h;
   greets = λ t m on at h. put-ordered t _ m on refl refl h;
 }
@@ -197,7 +198,7 @@ order-walk o e = record {
   orders = λ t c is still h. h;
   asks_map = λ t m on at. of-asks o e KeepsOrder (order-base o e) (order-moves o e) t m on at;
   enters_game = λ t m on at. of-enters o e KeepsOrder (order-base o e) (order-moves o e) t m on at;
-  goes = λ t m farewell on. of-leaves o e KeepsOrder (order-base o e) (order-moves o e) t m farewell on;
+  goes = λ t m farewell on is. of-leaves o e KeepsOrder (order-base o e) (order-moves o e) t m farewell on is;
   settles = λ t a b on is h. subst (λ (xs : List ℕ). IsOrdered t.openings t.clients (conns t.members) (clients t.members) xs)
       (sym (put-admin-conns b t.admins)) h;
   goes_aside = λ t a on h. fewer-admins (λ b. not (is_admin_on a.conn b)) t h;

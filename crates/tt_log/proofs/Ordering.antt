@@ -18,6 +18,8 @@ use Rattle.tt_log.specs.History.{table_of, journal_of}
 use Rattle.tt_log.specs.Stamps.{ordered, ordered_by, ordered_from, owned, stamped_of}
 use Rattle.tt_log.proofs.Walk.{Base, Walk, Doors, Moves, running, stamping, of-asks, of-enters, of-leaves, of-still, of-entries, of-frames}
 use Rattle.tt_log.proofs.Walk.{of-follows}
+use Rattle.tt_log.proofs.Lists.{last-among}
+use Rattle.tt_log.proofs.Places.{world-places}
 use Rattle.tt_log.proofs.Clock.{Ticked, ticked-is, event-same, taken-run}
 use Rattle.tt_log.proofs.Ordered.{Ordered, is-ordered, step-ordered}
 use Rattle.tt_log.proofs.Stamping.{stamped-append, drawing, drawing-none, drop-front, rising-none}
@@ -48,7 +50,7 @@ own-base o e = record {
   turns = λ k t m on may by. same e t _ refl;
   tells_one = λ t m msg on talk. same e t t refl;
   tells_some = λ t to w there news. same e t t refl;
-  tells_admins = λ t to r may. same e t t refl;
+  tells_admins = λ t to r may is. same e t t refl;
 }
 
 own-moves : (o : Origin) (e : Event) → Moves o e (KeepsOwn e)
@@ -58,6 +60,7 @@ own-moves o e = record {
   waits_on = λ t conn n there. same e t t refl;
   stands = λ t m on. same e t _ refl;
   cuts = λ t place. same e t _ refl;
+  ends_one = λ t m on. same e t t refl;
   parts = λ t m on. same e t _ refl;
   greets = λ t m on at. same e t _ refl;
 }
@@ -69,7 +72,7 @@ own-walk o e = record {
   orders = λ t c is still. record { more = c ∷ []; own = refl; still = λ tick. absurd cc };
   asks_map = λ t m on at. of-asks o e (KeepsOwn e) (own-base o e) (own-moves o e) t m on at;
   enters_game = λ t m on at. of-enters o e (KeepsOwn e) (own-base o e) (own-moves o e) t m on at;
-  goes = λ t m farewell on. of-leaves o e (KeepsOwn e) (own-base o e) (own-moves o e) t m farewell on;
+  goes = λ t m farewell on is. of-leaves o e (KeepsOwn e) (own-base o e) (own-moves o e) t m farewell on is;
   settles = λ t a b on is. same e t _ refl;
   goes_aside = λ t a on. same e t _ refl;
 }
@@ -106,9 +109,11 @@ ticked-own o t =
     let s : Table = (stamped t).table in
     let b : Bool = nat_lt s.top (s.frame + 1) in
     let u : Table = (frame_runs_by b o s).table in
-    none-more u (ticked o t).table (of-follows o Tick (KeepsOwn Tick) (own-walk o Tick) (world_of o t) (left_of o t) u)
+    none-more u (ticked o t).table (of-follows o Tick (KeepsOwn Tick) (own-walk o Tick) (world_of o t) (left_of o t) u
+    (world-places o t.journal t.frame))
     ∙ none-more (running b o s) u (runs-own o b s) ∙ running-own o b s
-    ∙ none-more (stamping t) s (of-entries o Tick (KeepsOwn Tick) (own-base o Tick) (stamps t) (stamping t))
+    ∙ none-more (stamping t) s (of-entries o Tick (KeepsOwn Tick) (own-base o Tick) (stamps t) (stamping t)
+    (last-among t.journal (stamps t)))
 
 -- ---- what is stamped of the server
 

@@ -33,9 +33,9 @@ use Rattle.tt_log.proofs.Walk.{running, Base, Walk, Ticks, Closing, of-event, of
 
 -- ---- what is told is quiet
 
-talk-quiet : (m : GameMsg) → IsTalk m → is_entry (game m) ≡ false
-talk-quiet (ServerCommand company code number to text frame sender) talk = absurd talk
-talk-quiet other talk = refl
+talk-quiet : (o : Origin) (e : Event) (t : Table) (m : GameMsg) → IsTalk o e t m → is_entry (game m) ≡ false
+talk-quiet o e t (ServerCommand company code number to text frame sender) talk = absurd talk
+talk-quiet o e t other talk = refl
 
 quiet-if : (c : ℕ) (to : List ℕ) (w : What) → is_command w ≡ false → Quiet c (step to w)
 quiet-if c to w is = rw is refl
@@ -114,31 +114,32 @@ acked-status frame token m = by (token == 0)
     by true = refl
     by false = refl
 
-asked-low : (o : Origin) (t : Table) (m : Member) (name : List ℕ) (asked : ℕ) → Asks o t m name asked → rank m.status ≤ 4
-asked-low o t m name asked (inl before) = omega (arith, before.3)
-asked-low o t m name asked (inr now) = omega (arith, now.0)
+asked-low : (o : Origin) (e : Event) (t : Table) (m : Member) (name : List ℕ) (asked : ℕ) → Asks o e t m name asked → rank m.status ≤ 4
+asked-low o e t m name asked (inl before) = omega (arith, before.3)
+asked-low o e t m name asked (inr now) = omega (arith, now.0)
 
-turned-fits : (k : Change) (p : Phase) (o : Origin) (t : Table) (m : Member) → May o t m k → fits p (rank m.status)
+turned-fits : (k : Change) (p : Phase) (o : Origin) (e : Event) (t : Table) (m : Member) → May o e t m k → fits p (rank m.status)
     → fits p (rank (turned k t m).status)
-turned-fits (wants_password true name asked) p o t m may fit = early-stays p (rank m.status) 2 (asked-low o t m name asked may)
+turned-fits (wants_password true name asked) p o e t m may fit = early-stays p (rank m.status) 2 (asked-low o e t m name asked may)
     (omega arith) fit
-turned-fits (wants_password false name asked) p o t m may fit = early-stays p (rank m.status) 3 (asked-low o t m name asked may)
+turned-fits (wants_password false name asked) p o e t m may fit = early-stays p (rank m.status) 3 (asked-low o e t m name asked may)
     (omega arith) fit
-turned-fits (is_let_in name asked) p o t m may fit = early-stays p (rank m.status) 4 (asked-low o t m name asked may) (omega arith) fit
-turned-fits gets_token p o t m may fit = fit
-turned-fits gets_frame p o t m may fit = fit
-turned-fits (answers frame token) p o t m may fit = subst (λ s. fits p (rank s)) (sym (acked-status frame token m)) fit
-turned-fits plays p o t m may fit = playing-stays p (rank m.status) 9 (omega (arith, may)) (omega arith) fit
-turned-fits (commands company code number to text command) p o t m may fit = fit
-turned-fits (has_name name) p o t m may fit = fit
-turned-fits (goes_to company digest) p o t m may fit = fit
-turned-fits (founds company) p o t m may fit = fit
-turned-fits (gets_pieces left) p o t m may fit = fit
-turned-fits has_all p o t m may fit = queued-stays p (rank m.status) 7 (omega (arith, may)) (omega (arith, may)) (omega arith)
+turned-fits (is_let_in name asked) p o e t m may fit = early-stays p (rank m.status) 4 (asked-low o e t m name asked may) (omega arith) fit
+turned-fits gets_token p o e t m may fit = fit
+turned-fits gets_frame p o e t m may fit = fit
+turned-fits (answers frame token) p o e t m may fit = subst (λ s. fits p (rank s)) (sym (acked-status frame token m)) fit
+turned-fits plays p o e t m may fit = playing-stays p (rank m.status) 9 (omega (arith, may)) (omega arith) fit
+turned-fits (commands company code number to text command) p o e t m may fit = fit
+turned-fits (has_name name) p o e t m may fit = fit
+turned-fits (goes_to company digest) p o e t m may fit = fit
+turned-fits (founds company) p o e t m may fit = fit
+turned-fits (gets_pieces left) p o e t m may fit = fit
+turned-fits has_all p o e t m may fit = queued-stays p (rank m.status) 7 (omega (arith, may)) (omega (arith, may)) (omega arith)
     (omega arith) fit
 
-turned-suits : (k : Change) (c : ℕ) (p : Phase) (o : Origin) (t : Table) (m : Member) → May o t m k → Suits c p m → Suits c p (turned k t m)
-turned-suits k c p o t m may s own = turned-fits k p o t m may (s (ap (λ (x : ℕ). x == c) (sym (turned-conn k t m)) ∙ own))
+turned-suits : (k : Change) (c : ℕ) (p : Phase) (o : Origin) (e : Event) (t : Table) (m : Member) → May o e t m k → Suits c p m
+    → Suits c p (turned k t m)
+turned-suits k c p o e t m may s own = turned-fits k p o e t m may (s (ap (λ (x : ℕ). x == c) (sym (turned-conn k t m)) ∙ own))
 
 -- ---- the walk
 
@@ -166,11 +167,11 @@ further-base c o e = record {
   still = λ t p h. goes-quiet c p t.members t.queue [] h tt;
   joins = λ t u v xs ys a b. further-then c t u v xs ys a b;
   turns = λ k t m on may by p h. goes-quiet c p _ _ _
-      (put-holds c p (turned k t m) t (turned-suits k c p o t m may (among-all (Suits c p) m t.members on h.suits)) h)
+      (put-holds c p (turned k t m) t (turned-suits k c p o e t m may (among-all (Suits c p) m t.members on h.suits)) h)
       (with-quiet k c o t m);
-  tells_one = λ t m msg on talk p h. goes-quiet c p _ _ _ h (quiet-if c (m.conn ∷ []) (Msg msg) (talk-quiet msg talk), tt);
+  tells_one = λ t m msg on talk p h. goes-quiet c p _ _ _ h (quiet-if c (m.conn ∷ []) (Msg msg) (talk-quiet o e t msg talk), tt);
   tells_some = λ t to w there news p h. news-goes p c t to w there h;
-  tells_admins = λ t to r may p h. goes-quiet c p _ _ _ h (refl, tt);
+  tells_admins = λ t to r may is p h. goes-quiet c p _ _ _ h (refl, tt);
 }
 
 further-walk : (c : ℕ) (o : Origin) (e : Event) → Walk o e (Further c)
@@ -180,7 +181,7 @@ further-walk c o e = record {
   orders = λ t k is still p h. goes-quiet c p _ _ [] (record { suits = h.suits; place = h.place }) tt;
   asks_map = λ t m on at p h. asks-by (m.conn == c) c p m t refl at (among-all (Suits c p) m t.members on h.suits) on h;
   enters_game = λ t m on at p h. enters-by (m.conn == c) c p m t refl h;
-  goes = λ t m farewell on p h. leaves-by (m.conn == c) c p m farewell t refl h;
+  goes = λ t m farewell on is p h. leaves-by (m.conn == c) c p m farewell t refl h;
   settles = λ t a b on is p h. goes-quiet c p _ _ [] (record { suits = h.suits; place = h.place }) tt;
   goes_aside = λ t a on p h. goes-quiet c p _ _ _ (record { suits = h.suits; place = h.place }) (refl, tt);
 }

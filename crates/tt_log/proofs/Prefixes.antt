@@ -78,7 +78,7 @@ only-base c k o e = record {
   };
   tells_one = λ t m msg on talk h. h;
   tells_some = λ t to w there news h. h;
-  tells_admins = λ t to r may h. h;
+  tells_admins = λ t to r may is h. h;
 }
 
 only-moves : (c k : ℕ) (o : Origin) (e : Event) → Moves o e (KeepsOnly c k)
@@ -88,6 +88,7 @@ only-moves c k o e = record {
   waits_on = λ t conn n there h. h;
   stands = λ t m on h. record { only = h.only; known = h.known };
   cuts = λ t place h. record { only = h.only; known = h.known };
+  ends_one = λ t m on h. h;
   parts = λ t m on h. record {
     only = λ x there at. h.only x (among-filter (λ n. not (is_on m.conn n)) x t.members there) at;
     known =
@@ -103,7 +104,7 @@ only-walk c k o e = record {
   orders = λ t d is still h. record { only = h.only; known = h.known };
   asks_map = λ t m on at. of-asks o e (KeepsOnly c k) (only-base c k o e) (only-moves c k o e) t m on at;
   enters_game = λ t m on at. of-enters o e (KeepsOnly c k) (only-base c k o e) (only-moves c k o e) t m on at;
-  goes = λ t m farewell on. of-leaves o e (KeepsOnly c k) (only-base c k o e) (only-moves c k o e) t m farewell on;
+  goes = λ t m farewell on is. of-leaves o e (KeepsOnly c k) (only-base c k o e) (only-moves c k o e) t m farewell on is;
   settles = λ t a b on is h. record { only = h.only; known = h.known };
   goes_aside = λ t a on h. record { only = h.only; known = h.known };
 }

@@ -3,12 +3,14 @@ use Rattle.std.proofs.Common.{◌≡◌, ◌⊎◌, inl, inr, ℕ, ◌+◌, ◌�
 use Rattle.std.proofs.Common.{Option, Some, None, arith, zero, suc, append-nil, append_assoc}
 use Rattle.std.specs.Prelude.{◌==◌, ◌||◌, ◌&&◌, fold, length, take, drop, nat_le, map, flat_map, filter, cond, not, is_some}
 use Rattle.std.specs.List.{AllByRecursion}
+use Rattle.std.specs.Prelude.{Result, Ok, Err}
+use Rattle.std.specs.Result.{result_ok}
 use Rattle.std.proofs.lemmas.Bool.{eq-eqb, eqb-true, ne_eqb}
 use Rattle.tt_edge.specs.declared.event.Event.{Event}
 use Rattle.tt_edge.specs.declared.event.Event.TheVariants.{Open, Packet, Broken, Shut, Tick, Stop}
 use Rattle.tt_edge.specs.Event.{event_cost}
 use Rattle.tt_game.specs.declared.message.GameMsg.{GameMsg}
-use Rattle.tt_game.specs.declared.message.GameMsg.TheVariants.{ClientCommand}
+use Rattle.tt_game.specs.declared.message.GameMsg.TheVariants.{ClientCommand, ServerFull}
 use Rattle.tt_world.specs.declared.command.Command.{Command}
 use Rattle.tt_world.specs.declared.command.Entry.{Entry}
 use Rattle.tt_rules.specs.Commands.{command_of}
@@ -32,11 +34,12 @@ use Rattle.tt_log.specs.History.{table_of, journal_of, AreRising}
 use Rattle.tt_log.specs.Stamps.{accepted, accepted_by, accepted_from, accepted_of, commands_in, for_company, if_allowed, if_so, stamped_of}
 use Rattle.tt_log.proofs.Lists.{Among, NotIn, all-append, all-so, among-all, found-among, found-passes}
 use Rattle.tt_log.proofs.Crew.{On, put, on-found, found-on, conns}
+use Rattle.tt_log.proofs.Codes.{IsCodeOf, judged-code}
 use Rattle.tt_log.proofs.Changes.{Says, By, Change, wants_password, is_let_in, gets_token, gets_frame, answers, plays, commands, has_name}
 use Rattle.tt_log.proofs.Changes.{goes_to, founds, gets_pieces, has_all, turned, turned-conn, turned-client, moved, moved-conn}
 use Rattle.tt_log.proofs.Changes.{moved-client, Move, queues, begins_map, loads}
 use Rattle.tt_log.proofs.Walk.{Base, Walk, Doors, Closing, Moves, Ticks, running, of-asks, of-enters, of-leaves, of-deed, of-ends}
-use Rattle.tt_log.proofs.Walk.{of-admin-hears}
+use Rattle.tt_log.proofs.Walk.{is-packet-aside, of-admin-hears}
 use Rattle.tt_log.proofs.Ordered.{Ordered, is-ordered, step-ordered, order-base, order-moves, order-walk, order-doors, order-ticks}
 use Rattle.tt_log.proofs.Ordered.{order-closing, rising-not}
 
@@ -214,7 +217,7 @@ stamp-base c said o e quiet = record {
   );
   tells_one = λ t m msg on talk r h. (r, h);
   tells_some = λ t to w there news r h. (r, h);
-  tells_admins = λ t to report may r h. (r, h);
+  tells_admins = λ t to report may is r h. (r, h);
 }
 
 stamp-moves : (c : ℕ) (said : List (ℕ × Command)) (o : Origin) (e : Event) → Moves o e (KeepsStamps c said)
@@ -233,6 +236,7 @@ stamp-moves c said o e = record {
   waits_on = λ t conn n there r h. (r, h);
   stands = λ t m on r h. (r, record { live = h.live; early = h.early; senders = h.senders });
   cuts = λ t place r h. (r, record { live = h.live; early = h.early; senders = h.senders });
+  ends_one = λ t m on r h. (r, h);
   parts = λ t m on r h. (
     (order-moves o e).parts t m on r,
     record {
@@ -260,7 +264,7 @@ stamp-walk c said o e quiet = record {
   orders = λ t k is still r h. (r, record { live = h.live; early = h.early; senders = h.senders });
   asks_map = λ t m on at. of-asks o e (KeepsStamps c said) (stamp-base c said o e quiet) (stamp-moves c said o e) t m on at;
   enters_game = λ t m on at. of-enters o e (KeepsStamps c said) (stamp-base c said o e quiet) (stamp-moves c said o e) t m on at;
-  goes = λ t m farewell on. of-leaves o e (KeepsStamps c said) (stamp-base c said o e quiet) (stamp-moves c said o e) t m farewell on;
+  goes = λ t m farewell on is. of-leaves o e (KeepsStamps c said) (stamp-base c said o e quiet) (stamp-moves c said o e) t m farewell on is;
   settles = λ t a b on is r h. ((order-walk o e).settles t a b on is r, record { live = h.live; early = h.early; senders = h.senders });
   goes_aside = λ t a on r h. ((order-walk o e).goes_aside t a on r, record { live = h.live; early = h.early; senders = h.senders });
 }
@@ -479,13 +483,13 @@ closing-kept c said o e t u d is h = by _ (record d.table { cost = d.table.cost 
     by false v k = k
 
 command-by : (v : Verdict) (c : ℕ) (said : List (ℕ × Command)) (o : Origin) (t : Table) (m : Member) (company code number to : ℕ)
-    (text : List ℕ) → Ordered t → On t m → m.conn ≡ c → Kept c said t
+    (text : List ℕ) → IsCodeOf v → Ordered t → On t m → m.conn ≡ c → Kept c said t
     → Kept c (said ++ if_allowed v (for_company company (command_of code number to text)))
     (by_verdict v o m (Some (ClientCommand company code number to text)) t).table
-command-by (Ends code) c said o t m company k number to text r on own h =
+command-by (Ends code) c said o t m company k number to text low r on own h =
     subst (λ (ws : List (ℕ × Command)). Kept c ws (ends m code t).table) (sym (append-nil said)) (of-ends o Stop (KeepsStamps c said)
-    (stamp-walk c said o Stop (stop-quiet c)) t m code on r h).1
-command-by Allowed c said o t m company code number to text r on own h = by (command_of code number to text)
+    (stamp-walk c said o Stop (stop-quiet c)) t m code on low r h).1
+command-by Allowed c said o t m company code number to text low r on own h = by (command_of code number to text)
   where
     by : (x : Option Command) → Kept c (said ++ for_company company x) (where_some x (command_waits m company) t).table
     by None = subst (λ (ws : List (ℕ × Command)). Kept c ws t) (sym (append-nil said)) h
@@ -500,15 +504,38 @@ named-by None c said o t kind body company code number to text msg is r h =
     subst (λ (ws : List (ℕ × Command)). Kept c ws (where_some (admin_of t c) (admin_hears o (read_admin kind body)) t).table)
     (sym (append-nil said)) (by (admin_of t c) refl)
   where
+    -- an event of this connection with the same bytes, which spells no command
+    other : Event
+    other = Packet c 0 body
+    full : (b : Bool) (said : GameMsg) → result_ok (cond {A = Result GameMsg ℕ} b (Ok ServerFull) (Err 0)) ≡ Some said → said ≡ ServerFull
+    full true said is = cc
+    full false said is = absurd cc
+    apart : (company code number to : ℕ) (text : List ℕ) → read_msg 0 body ≡ Some (ClientCommand company code number to text) → ⊥
+    apart company code number to text is =
+        let e : ClientCommand company code number to text ≡ ServerFull =
+        full (length body == 0) (ClientCommand company code number to text) is in cc
+    quiet : IsQuiet other c
+    quiet m company code number to text at (k, b, is, said) =
+        let one : 0 ≡ k = ap kind_in is in
+        let two : body ≡ b = ap body_in is in
+        apart company code number to text (ap₂ (λ (x : ℕ) (y : List ℕ). read_msg x y) one two ∙ said)
+      where
+        kind_in : Event → ℕ
+        kind_in (Packet conn k b) = k
+        kind_in e = 0
+        body_in : Event → List ℕ
+        body_in (Packet conn k b) = b
+        body_in e = []
     by : (x : Option Admin) → admin_of t c ≡ x → Kept c said (where_some x (admin_hears o (read_admin kind body)) t).table
     by None at = h
-    by (Some a) at = (of-admin-hears o (Broken c) (KeepsStamps c said) (stamp-walk c said o (Broken c) (broken-quiet c))
-        (read_admin kind body) t a
-        (found-among (is_admin_on c) a t.admins at) (sym (eqb-true a.conn c (found-passes (is_admin_on c) a t.admins at))) refl r h).1
+    by (Some a) at = (of-admin-hears o other (KeepsStamps c said) (stamp-walk c said o other quiet) (read_admin kind body) t a
+        (found-among (is_admin_on c) a t.admins at) (sym (eqb-true a.conn c (found-passes (is_admin_on c) a t.admins at))) refl
+        (is-packet-aside o other (KeepsStamps c said) (stamp-walk c said o other quiet) (read_admin kind body) kind body refl
+        (λ bytes. bytes)) r h).1
 named-by (Some m) c said o t kind body company code number to text msg is r h =
     let P : Option GameMsg → Type 0 = λ x. Kept c (said ++ accepted_of o t (Some m) x) (heard o x m t).table in
     subst P (sym msg) (command-by (judged o t m (Some (ClientCommand company code number to text))) c said o t m company code number to text
-    r (on-found t c m is) (found-on c t.members m is) h)
+    (judged-code o t m (Some (ClientCommand company code number to text))) r (on-found t c m is) (found-on c t.members m is) h)
 
 -- what a packet of the connection brings where it is not taken
 untaken : (o : Origin) (t : Table) (c kind : ℕ) (body : List ℕ) → takes t (Packet c kind body) ≡ false

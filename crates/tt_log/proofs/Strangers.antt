@@ -63,7 +63,7 @@ few-base o e = record {
   turns = λ k t m on may by h. h;
   tells_one = λ t m msg on talk h. h;
   tells_some = λ t to w there news h. h;
-  tells_admins = λ t to r may h. h;
+  tells_admins = λ t to r may is h. h;
 }
 
 few-moves : (o : Origin) (e : Event) → Moves o e Few
@@ -73,6 +73,7 @@ few-moves o e = record {
   waits_on = λ t conn n there h. h;
   stands = λ t m on h. h;
   cuts = λ t place h. h;
+  ends_one = λ t m on h. h;
   parts = λ t m on h. h;
   greets = λ t m on at h. h;
 }
@@ -218,8 +219,8 @@ shy-base joins c o e = record {
   joins = λ t u v xs ys a b apart h. let p = a apart h in let q = b apart p.0 in (q.0, all-append (Shy joins c) xs ys p.1 q.1);
   turns = λ k t m on may by apart h. (h, all-shy joins c (steps_with k o t m) (with-inside k c o t m));
   tells_one = λ t m msg on talk apart h. (h, (λ aside. absurd aside, tt));
-  tells_some = λ t to w there news apart h. (h, (inside-shy joins c to w (inr (news-inside w news)), tt));
-  tells_admins = λ t to r may apart h. (h, (λ aside. told-shy joins c e t to r may apart h, tt));
+  tells_some = λ t to w there news apart h. (h, (inside-shy joins c to w (inr (news-inside o e t w news)), tt));
+  tells_admins = λ t to r may is apart h. (h, (λ aside. told-shy joins c e t to r may apart h, tt));
 }
 
 shy-moves : (joins : Bool) (c : ℕ) (o : Origin) (e : Event) → Moves o e (KeepsShy joins c e)
@@ -229,7 +230,8 @@ shy-moves joins c o e = record {
   waits_on = λ t conn n there apart h. (h, (λ aside. absurd aside, tt));
   stands = λ t m on apart h. (h, tt);
   cuts = λ t place apart h. (h, tt);
-  parts = λ t m on apart h. (h, (λ aside. inr tt, tt));
+  ends_one = λ t m on apart h. (h, (λ aside. inr tt, tt));
+  parts = λ t m on apart h. (h, tt);
   greets = λ t m on at apart h. (h, (λ aside. absurd aside, tt));
 }
 

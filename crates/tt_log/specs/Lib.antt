@@ -36,6 +36,10 @@ pub mod Filling
 pub mod Reports
 pub mod Tellings
 pub mod Told
+pub mod Spelled
+pub mod Ranges
+pub mod Senders
+pub mod Downloads
 pub mod Stamps
 pub mod Endings
 pub mod Doors

@@ -15,10 +15,15 @@
 #![tactic(auto)]
 
 pub mod deed;
+mod facts;
 mod laws;
 pub mod report;
 pub mod script;
 
+pub use facts::{
+    all_is_spelled, entries_are_of_senders, few_clients, first_in_queue_downloads, names_differ,
+    tables_are_in_range,
+};
 pub use laws::{
     a_door_has_its_family, a_refused_admin_ends_alone, a_tick_is_a_frame, admins_are_unseen,
     ended_stays, foundings_are_the_worlds, frame_and_top, journal_rises, malformed_ends_its_own,

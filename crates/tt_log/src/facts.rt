@@ -1,0 +1,58 @@
+//! Facts of the definitions that whoever stands on a stream or a table needs, for every origin and every list of events.
+ghost use Rattle.std.specs.Prelude.{◌≡◌, ◌≤◌, ◌<◌, ◌+◌, ◌==◌, true, false, Some, ◌^◌, ℕ, List};
+ghost use Rattle.std.specs.List.{AllByRecursion};
+ghost use Rattle.tt_edge.specs.declared.event.Event.{Event};
+ghost use Rattle.tt_log.specs.Deed.{game};
+ghost use Rattle.tt_log.specs.Downloads.{IsQueue};
+ghost use Rattle.tt_log.specs.History.{AreEvents, journal_of, table_of};
+ghost use Rattle.tt_log.specs.Member.{Member, is_named};
+ghost use Rattle.tt_log.specs.Origin.{IsOrigin, Origin};
+ghost use Rattle.tt_log.specs.PacketRules.{told_command};
+ghost use Rattle.tt_log.specs.Ranges.{FitsEntry, FitsMember};
+ghost use Rattle.tt_log.specs.Senders.{IsKnown, IsOfSender};
+ghost use Rattle.tt_log.specs.Spelled.{AreSpelled, IsReadAgain, IsSmall, IsSpelled};
+ghost use Rattle.tt_log.specs.Table.{member_of};
+ghost use Rattle.tt_log.specs.Told.{heard};
+ghost use Rattle.tt_world.specs.declared.command.Command.{Command};
+ghost use Rattle.tt_world.specs.declared.command.Entry.{Entry};
+
+/// Each message that is told fits its row: what is sent spells it, who reads that reads the same message, and no packet has more
+/// than 1,460 bytes.
+pub fn all_is_spelled()
+    ensures spelled { (o : Origin) (es : List Event) (conn : ℕ) → IsOrigin o → AreEvents es → AreSpelled (heard o es conn) }
+    ensures read { (o : Origin) (es : List Event) (conn : ℕ) → IsOrigin o → AreEvents es → AllByRecursion IsReadAgain (heard o es conn) }
+    ensures small { (o : Origin) (es : List Event) (conn : ℕ) → IsOrigin o → AreEvents es → AllByRecursion IsSmall (heard o es conn) }
+{}
+
+/// Client numbers are few, since each opening costs 64 and no game goes on at its cost.
+pub fn few_clients()
+    ensures { (o : Origin) (es : List Event) → IsOrigin o → (table_of o es).clients ≤ 2 ^ 24 + 1 }
+{}
+
+/// Each entry of the journal has a known code: the server orders pauses and new companies, and clients all else. What is told
+/// of it has its spelling, so each that is told it makes the same command of it.
+pub fn entries_are_of_senders()
+    ensures senders { (o : Origin) (es : List Event) → AllByRecursion IsOfSender (journal_of o es) }
+    ensures known { (c : Command) → IsKnown c }
+    ensures spelled { (o : Origin) (es : List Event) → IsOrigin o → AreEvents es
+        → AllByRecursion (λ (e : Entry). IsSpelled (game (told_command e))) (journal_of o es) }
+{}
+
+/// The first of the queue is told its map, or has it and has not entered yet; all others wait.
+pub fn first_in_queue_downloads()
+    ensures { (o : Origin) (es : List Event) → IsQueue (table_of o es) (table_of o es).queue }
+{}
+
+/// What of a table goes into messages is in range: client numbers and commands, the entries of the journal, and the name of each
+/// member, which is a text of 1 to 24 bytes.
+pub fn tables_are_in_range()
+    ensures members { (o : Origin) (es : List Event) → IsOrigin o → AreEvents es → AllByRecursion FitsMember (table_of o es).members }
+    ensures journal { (o : Origin) (es : List Event) → IsOrigin o → AreEvents es → AllByRecursion FitsEntry (journal_of o es) }
+    ensures top { (o : Origin) (es : List Event) → IsOrigin o → (table_of o es).top + 1 < 2 ^ 32 }
+{}
+
+/// No two members past INACTIVE have one name.
+pub fn names_differ()
+    ensures { (o : Origin) (es : List Event) (x y : Member) (c d : ℕ) → IsOrigin o → member_of (table_of o es) c ≡ Some x
+        → member_of (table_of o es) d ≡ Some y → (c == d) ≡ false → is_named x ≡ true → is_named y ≡ true → x.name ≡ y.name → ⊥ }
+{}
