@@ -28,6 +28,7 @@ use Rattle.tt_world.specs.declared.command.Entry.{Entry}
 use Rattle.tt_world.specs.World.{WorldState}
 use Rattle.std.specs.List.{AllByRecursion}
 use Rattle.tt_log.specs.Doors.{IsOfGame}
+use Rattle.tt_log.specs.Spelled as said_spelled
 use Rattle.tt_log.specs.Deed.{Said, game, admin, spelled}
 use Rattle.tt_log.specs.Events.{read_msg}
 use Rattle.tt_log.specs.Shown.{Place, Asking, dialog, place_behind, items_from, item_told, place_then, things_of, things_in}
@@ -45,6 +46,12 @@ pub sent-is : (said : List Said) → AllByRecursion IsOfGame said → flat_map s
 sent-is [] a = refl
 sent-is (game m ∷ said) a = ap (λ (bs : List ℕ). packet (kind_of m) (body_bytes m) ++ bs) (sent-is said a.1)
 sent-is (admin m ∷ said) a = absurd a.0
+
+-- and what is said has its spelling
+pub games-spelled : (said : List Said) → AllByRecursion said_spelled.IsSpelled said → AreSpelled (game_messages said)
+games-spelled [] a = tt
+games-spelled (game m ∷ said) a = (a.0, games-spelled said a.1)
+games-spelled (admin m ∷ said) a = games-spelled said a.1
 
 within : (m : GameMsg) → IsSpelled m → IsWithin 32767 (packet_for m)
 within m s = record { size = spelled_size GameMsg game_family game_lawful m (kind_of m) (body_bytes m) s }

@@ -24,6 +24,10 @@ use Rattle.tt_log.specs.Member.{Member, is_in, is_playing}
 use Rattle.tt_log.specs.Table.{Table, now_in, digest_of, with_digest, playing, with_member}
 use Rattle.tt_log.specs.Deed.{Deed, ◌▹◌, where_, becomes, tells, tells_playing}
 use Rattle.tt_log.specs.Names.{given_name}
+use Rattle.tt_rules.specs.Verdict.{permits, refusal, verdict_of, first_reason}
+use Rattle.tt_log.specs.Member.{standing_of}
+use Rattle.tt_log.specs.Table.{living_in}
+use Rattle.tt_log.specs.Judged.{refused, unless}
 use Rattle.tt_log.specs.Tellings.{Filling}
 use Rattle.tt_log.specs.Judged.{is_empty, judged, founder}
 use Rattle.tt_log.specs.Ending.{Quitting, Failing}
@@ -33,7 +37,7 @@ use Rattle.tt_log.specs.PacketRules.{does, command_waits}
 use Rattle.tt_log.specs.Watching.{sees_welcome, sees_active, sees_chat, sees_change}
 use Rattle.tt_log.specs.Events.{by_verdict, heard}
 use Rattle.tt_log.specs.Shown.{Place, Asking, Greeted, told_at, moves_on, other_if}
-use Rattle.tt_log.proofs.Changes.{answers, turned-conn, turned-client, Allows, allows}
+use Rattle.tt_log.proofs.Changes.{answers, turned-conn, turned-client}
 use Rattle.tt_log.proofs.Lists.{IsOther, Within, all-filter, map-filter-not}
 use Rattle.tt_log.proofs.Crew.{On, put-among}
 use Rattle.tt_in_step.specs.Watched.{Seat, AtDoor, stage_at, seat_of}
@@ -46,6 +50,15 @@ use Rattle.tt_in_step.proofs.Does.{altered, Tied, Does, Turns, way-is, does-then
 use Rattle.tt_in_step.proofs.Does.{does-some, does-silent, does-news, does-playing, tied-turn, tied-same, seated, seen_same}
 use Rattle.tt_in_step.proofs.Queueing.{does-asks}
 use Rattle.tt_in_step.proofs.Ending.{does-leaves, does-ends, does-enters}
+
+permitted-by : (b : Bool) (x y : Option ℕ) → unless (verdict_of (first_reason b x)) y ≡ Allowed → b ≡ true
+permitted-by true x y is = refl
+permitted-by false None y is = absurd cc
+permitted-by false (Some code) y is = absurd cc
+
+permitted : (o : Origin) (t : Table) (m : Member) (msg : GameMsg) → judged o t m (Some msg) ≡ Allowed → permits msg m.status ≡ true
+permitted o t m msg is = permitted-by (permits msg m.status) (refusal (standing_of m) (living_in o t) msg)
+    (refused o (living_in o t) t m msg) is
 
 module _ (o : Origin) (reads : MapsAreRead o) (named : is_empty o.setup.id ≡ false) (f : Filling) (c : ℕ) where
   abbrev Done : Table → Place → Deed → Type 0
@@ -211,20 +224,20 @@ module _ (o : Origin) (reads : MapsAreRead o) (named : is_empty o.setup.id ≡ f
 
   -- ---- a packet that is allowed
 
-  pub does-does : (t : Table) (place : Place) (m : Member) (msg : GameMsg) → On t m → Allows o t m msg → Tied o f c t place
+  pub does-does : (t : Table) (place : Place) (m : Member) (msg : GameMsg) → On t m → permits msg m.status ≡ true → Tied o f c t place
       → Done t place (does o m msg t)
   does-does t place m (ClientJoin revision grf name company) on a h =
-      let zero : rank m.status ≡ 0 = eqb-true (rank m.status) 0 a.permits in
+      let zero : rank m.status ≡ 0 = eqb-true (rank m.status) 0 a in
       does-password o.setup.password t place m (given_name t m.conn name) company on (omega (arith, zero)) h
-  does-does t place m ClientGameInfo on a h = does-info t place m _ on (eqb-true (rank m.status) 0 a.permits) refl refl h
+  does-does t place m ClientGameInfo on a h = does-info t place m _ on (eqb-true (rank m.status) 0 a) refl refl h
   does-does t place m (ClientGamePassword digest) on a h =
-      let two : rank m.status ≡ 2 = eqb-true (rank m.status) 2 a.permits in
+      let two : rank m.status ≡ 2 = eqb-true (rank m.status) 2 a in
       does-company (digest_of t m.asked) t place m m.name m.asked on (omega (arith, two)) h
   does-does t place m (ClientCompanyPassword digest) on a h =
-      let three : rank m.status ≡ 3 = eqb-true (rank m.status) 3 a.permits in
+      let three : rank m.status ≡ 3 = eqb-true (rank m.status) 3 a in
       does-welcomes t place m m.name m.asked on (omega (arith, three)) h
-  does-does t place m ClientGetmap on a h = does-asks o reads f c t place m on (eqb-true (rank m.status) 4 a.permits) h
-  does-does t place m ClientMapOk on a h = does-enters o reads f c t place m on (eqb-true (rank m.status) 7 a.permits) h
+  does-does t place m ClientGetmap on a h = does-asks o reads f c t place m on (eqb-true (rank m.status) 4 a) h
+  does-does t place m ClientMapOk on a h = does-enters o reads f c t place m on (eqb-true (rank m.status) 7 a) h
   does-does t place m (ClientAck frame token) on a h = does-acknowledges t place m frame token on h
   does-does t place m (ClientCommand company code number to text) on a h =
       does-some o f c (Tied o f c) (command_of code number to text) (command_waits m company) t place h (λ command is.
@@ -243,7 +256,7 @@ module _ (o : Origin) (reads : MapsAreRead o) (named : is_empty o.setup.id ≡ f
   verdict-by : (v : Verdict) (said : Option GameMsg) (t : Table) (place : Place) (m : Member) → judged o t m said ≡ v → On t m
       → Tied o f c t place → Done t place (by_verdict v o m said t)
   verdict-by Allowed None t place m is on h = does-still o f c (Tied o f c) t place h
-  verdict-by Allowed (Some msg) t place m is on h = does-does t place m msg on (allows o t m msg is) h
+  verdict-by Allowed (Some msg) t place m is on h = does-does t place m msg on (permitted o t m msg is) h
   verdict-by (Ends code) said t place m is on h = does-ends o reads f c t place m code on h
 
   pub does-heard : (said : Option GameMsg) (t : Table) (place : Place) (m : Member) → On t m → Tied o f c t place

@@ -42,9 +42,10 @@ use Rattle.tt_log.specs.Told.{heard, sent}
 use Rattle.tt_log.specs.Shown.{things_in}
 use Rattle.tt_log.specs.Shown as book
 use Rattle.tt_log.proofs.ShownLaws.{is-seen}
-use Rattle.tt_in_step.specs.Fed.{IsPlayer, IsToldInRange, calls_of}
+use Rattle.tt_in_step.specs.Fed.{IsPlayer, AreSpelled, calls_of}
+use Rattle.tt_log.proofs.Spelling.{all-spelled}
 use Rattle.tt_log.proofs.Families.{not-of-admins}
-use Rattle.tt_in_step.proofs.Bytes.{sent-is, stream_for, front-things, fed-pieces}
+use Rattle.tt_in_step.proofs.Bytes.{sent-is, games-spelled, stream_for, front-things, fed-pieces}
 use Rattle.tt_in_step.proofs.Phases.{agrees-not-wrong, wrong-seen}
 use Rattle.tt_in_step.proofs.Seats.{found-seat, plays_at, plays-member, high-seat}
 use Rattle.tt_in_step.proofs.Worlds.{MapsAreMaps, maps_are_read}
@@ -259,7 +260,10 @@ module _ (maps : MapsAreMaps) (o : Origin) (h : IsOrigin o) (es : List Event) (a
 
   -- ---- over bytes
 
-  module _ (player : IsPlayer es c) (spelled : IsToldInRange o es c) where
+  module _ (player : IsPlayer es c) where
+    spelled : AreSpelled (game_messages (heard o es c))
+    spelled = games-spelled (heard o es c) (all-spelled o es c h are)
+
     sent_is : sent o es c ≡ stream_for (game_messages (heard o es c))
     sent_is = sent-is (heard o es c) (not-of-admins o es c player)
 

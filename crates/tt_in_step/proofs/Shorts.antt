@@ -123,7 +123,7 @@ module _ (o : Origin) (e : Event) (bytes : IsEvent e) where
       let body : IsBytes says.1 = subst IsEvent says.2 bytes in
       command-short company code number to text says.0 says.1 (spells says.0 says.1 (ClientCommand company code number to text) body says.3)
 
-  turned-brief : (c : Change) (t : Table) (m : Member) → May o t m c → By e m c → AreBrief m.waiting → AreBrief (turned c t m).waiting
+  turned-brief : (c : Change) (t : Table) (m : Member) → May o e t m c → By e m c → AreBrief m.waiting → AreBrief (turned c t m).waiting
   turned-brief (wants_password true name asked) t m may by h = h
   turned-brief (wants_password false name asked) t m may by h = h
   turned-brief (is_let_in name asked) t m may by h = h
@@ -153,7 +153,7 @@ module _ (o : Origin) (e : Event) (bytes : IsEvent e) where
         on h.waiting)) h;
     tells_one = λ t m msg on talk h. h;
     tells_some = λ t to w there news h. h;
-    tells_admins = λ t to msg there h. h;
+    tells_admins = λ t to msg there report h. h;
   }
 
   short-moves : Moves o e KeepsShort
@@ -161,6 +161,7 @@ module _ (o : Origin) (e : Event) (bytes : IsEvent e) where
     moving = λ v t m on may h. put-short t (moved v t m) (moved-brief v t m (among-all (λ (m : Member). AreBrief m.waiting) m t.members on
         h.waiting)) h;
     recalls = λ t m on at h. h;
+    ends_one = λ t m on h. h;
     waits_on = λ t conn n there h. h;
     stands = λ t m on h. h;
     cuts = λ t place h. h;
@@ -183,7 +184,7 @@ module _ (o : Origin) (e : Event) (bytes : IsEvent e) where
     };
     asks_map = λ t m on at. of-asks o e KeepsShort short-base short-moves t m on at;
     enters_game = λ t m on at. of-enters o e KeepsShort short-base short-moves t m on at;
-    goes = λ t m farewell on. of-leaves o e KeepsShort short-base short-moves t m farewell on;
+    goes = λ t m farewell on is. of-leaves o e KeepsShort short-base short-moves t m farewell on is;
     settles = λ t a b on is h. h;
     goes_aside = λ t a on h. h;
   }

@@ -9,12 +9,9 @@ use Rattle.tt_game.specs.Messages.{Spells}
 use Rattle.tt_game.specs.Apart.{kind_of, body_bytes}
 use Rattle.tt_world.specs.declared.command.Entry.{Entry}
 use Rattle.tt_world.specs.World.{WorldState}
-use Rattle.tt_log.specs.Origin.{Origin}
-use Rattle.tt_log.specs.Told.{heard}
 use Rattle.tt_log.specs.Shown.{things_in}
 use Rattle.tt_log.specs.Doors.{door_of}
 use Rattle.tt_edge.specs.declared.event.Door.TheVariants.{Side}
-use Rattle.tt_in_step.specs.Watched.{game_messages}
 
 -- the calls of a client that was fed these bytes before
 abbrev pub calls_behind : List ℕ → List PieceCall → List (Call WorldState Entry)
@@ -37,7 +34,3 @@ AreSpelled ms = AllByRecursion IsSpelled ms
 -- a connection that was not opened at the side door
 abbrev pub IsPlayer : List Event → ℕ → Type 0
 IsPlayer events conn = door_of events conn ≡ Some Side → ⊥
-
--- all that it is told has its spelling
-abbrev pub IsToldInRange : Origin → List Event → ℕ → Type 0
-IsToldInRange o events conn = AreSpelled (game_messages (heard o events conn))

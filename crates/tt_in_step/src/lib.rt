@@ -35,7 +35,7 @@ ghost use Rattle.tt_log.specs.Shown.{items_in, things_in};
 ghost use Rattle.tt_log.specs.Shown as book;
 ghost use Rattle.tt_in_step.specs.Watched.{entries_in, things_told, watched};
 ghost use Rattle.tt_in_step.specs.Ends.{HasEnd};
-ghost use Rattle.tt_in_step.specs.Fed.{IsPlayer, IsToldInRange, calls_of};
+ghost use Rattle.tt_in_step.specs.Fed.{IsPlayer, calls_of};
 ghost use Rattle.tt_in_step.specs.Late.{late, late_events};
 ghost use Rattle.tt_in_step.specs.Worked.{ahead, at_once, client_of, in_step_at, stands_at, two_clients};
 
@@ -110,17 +110,17 @@ pub fn fronts_agree()
 /// sent to it, in whatever pieces and with frames run between any two, is in step with the journal.
 pub fn all_in_step_however_cut()
     ensures in_step { (o : Origin) (events : List Event) (conn : ℕ) (calls : List PieceCall) (later : List ℕ)
-        → IsOrigin o → AreEvents events → IsPlayer events conn → IsToldInRange o events conn → IsBytes (fed_bytes calls)
+        → IsOrigin o → AreEvents events → IsPlayer events conn → IsBytes (fed_bytes calls)
         → sent o events conn ≡ fed_bytes calls ++ later
         → IsInStep (game_of o) (journal_of o events) (run (game_of o) unfed (calls_of calls)) }
     // The same of the client as a program runs it.
     ensures runs_in_step { (o : Origin) (events : List Event) (conn : ℕ) (calls : List PieceCall) (later : List ℕ)
-        → IsOrigin o → AreEvents events → IsPlayer events conn → IsToldInRange o events conn → IsBytes (fed_bytes calls)
+        → IsOrigin o → AreEvents events → IsPlayer events conn → IsBytes (fed_bytes calls)
         → sent o events conn ≡ fed_bytes calls ++ later
         → IsRunnerInStep (game_of o) (journal_of o events) (runner_run (game_of o) RunnerJoining (calls_of calls)) }
     // Its calls feed just what the bytes tell, however they are cut.
     ensures fed { (o : Origin) (events : List Event) (conn : ℕ) (calls : List PieceCall) (later : List ℕ)
-        → IsOrigin o → AreEvents events → IsPlayer events conn → IsToldInRange o events conn → IsBytes (fed_bytes calls)
+        → IsOrigin o → AreEvents events → IsPlayer events conn → IsBytes (fed_bytes calls)
         → sent o events conn ≡ fed_bytes calls ++ later
         → fed (calls_of calls) ≡ things_in (fed_bytes calls) }
 {
@@ -131,17 +131,17 @@ pub fn all_in_step_however_cut()
 pub fn fronts_show()
     // The things that it tells are the first of those that all messages tell.
     ensures tells { (o : Origin) (events : List Event) (conn : ℕ) (bytes later : List ℕ)
-        → IsOrigin o → AreEvents events → IsPlayer events conn → IsToldInRange o events conn → IsBytes bytes
+        → IsOrigin o → AreEvents events → IsPlayer events conn → IsBytes bytes
             → sent o events conn ≡ bytes ++ later
         → (more : List (Told WorldState Entry)) × (things_told o events conn ≡ things_in bytes ++ more) }
     // It agrees with the journal: its map, its words, and all entries up to its permitted frame.
     ensures shows { (o : Origin) (events : List Event) (conn : ℕ) (bytes later : List ℕ)
-        → IsOrigin o → AreEvents events → IsPlayer events conn → IsToldInRange o events conn → IsBytes bytes
+        → IsOrigin o → AreEvents events → IsPlayer events conn → IsBytes bytes
             → sent o events conn ≡ bytes ++ later
         → Agrees (game_of o) (journal_of o events) (table_of o events).top (book.shown o bytes).seen }
     // It is never wrong: no bad size stands in it, no packet that spells nothing, and none that is not permitted where it stands.
     ensures right { (o : Origin) (events : List Event) (conn : ℕ) (bytes later : List ℕ) (at : ℕ)
-        → IsOrigin o → AreEvents events → IsPlayer events conn → IsToldInRange o events conn → IsBytes bytes
+        → IsOrigin o → AreEvents events → IsPlayer events conn → IsBytes bytes
             → sent o events conn ≡ bytes ++ later
         → (book.shown o bytes).phase ≡ book.WrongAt at → ⊥ }
     // What any stream shows of an end stands in it: a code that is told, or that the game is over.
