@@ -1,6 +1,5 @@
 -- What an admin's packet does, as those that play see it: chats, ends and commands of the server's own.
-use Rattle.std.proofs.Common.{◌≡◌, ℕ, ◌==◌, Bool, true, false, List, [], ◌∷◌, ◌++◌, Option, Some, None, refl, ap, sym, ◌∙◌, subst}
-use Rattle.tt_edge.specs.declared.event.Event.TheVariants.{Stop}
+use Rattle.std.proofs.Common.{◌≡◌, ℕ, ◌==◌, true, false, List, [], ◌∷◌, ◌++◌, Option, Some, None, refl, sym, subst}
 use Rattle.tt_admin.specs.declared.message.AdminMsg.{AdminMsg}
 use Rattle.tt_admin.specs.declared.message.AdminMsg.TheVariants.{AdminJoin, AdminQuit, AdminUpdateFrequency, AdminPoll, AdminChat}
 use Rattle.tt_admin.specs.declared.message.AdminMsg.TheVariants.{AdminRcon, AdminPing, ServerError, ServerRconEnd, ServerPong}
@@ -17,14 +16,13 @@ use Rattle.tt_log.specs.Watching.{sees_console}
 use Rattle.tt_log.specs.Polls.{tells_admin, poll_answers}
 use Rattle.tt_log.specs.Console.{ConsoleCommand, pauses, kicks, announces, lines_of}
 use Rattle.tt_log.specs.Console.{orders, pause, kicks_out, console_does, obeys, command_in}
-use Rattle.tt_log.specs.Desk.{admin_leaves, admin_ends, admin_judged, admin_joins, admin_asks, admin_greeting, admin_does, by_admin_verdict}
+use Rattle.tt_log.specs.Desk.{admin_leaves, admin_ends, admin_judged, admin_asks, admin_greeting, admin_does, by_admin_verdict}
 use Rattle.tt_log.specs.Desk.{admin_hears}
 use Rattle.tt_log.specs.Tellings.{Filling}
 use Rattle.tt_log.specs.Shown.{Place}
 use Rattle.tt_log.proofs.Lists.{found-among}
-use Rattle.tt_log.proofs.Crew.{OnAdmin, put-admin-conns, conns, admin_conns}
-use Rattle.tt_log.proofs.Ordered.{Ordered, IsOrdered, clients}
-use Rattle.tt_in_step.specs.Watched.{watched}
+use Rattle.tt_log.proofs.Crew.{OnAdmin, put-admin-conns, conns}
+use Rattle.tt_log.proofs.Ordered.{IsOrdered, clients}
 use Rattle.tt_in_step.proofs.Worlds.{MapsAreRead}
 use Rattle.tt_in_step.proofs.Does.{Tied, Does, does-then, does-quiet, does-still, does-some, does-silent, does-reports}
 use Rattle.tt_in_step.proofs.Ending.{does-ends}

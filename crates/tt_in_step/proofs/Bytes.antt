@@ -89,22 +89,39 @@ none-front bytes p more w some e =
     let partial : 2 ≤ length bytes → IsPartial 32767 bytes = λ two. front_is_partial 32767 bytes (lit< tt) two (p, more, w, some, e) in
     record {
       splits = record { whole = refl; each = tt };
-      partial = record { least = λ two. (partial two).least two; most = λ two. (partial two).most two; short = λ two.
-          (partial two).short two };
+      partial = record {
+        least = λ two. (partial two).least two;
+        most = λ two. (partial two).most two;
+        short = λ two.
+            (partial two).short two;
+      };
     }
 
 nothing-cut : Cut 32767 [] [] []
-nothing-cut = record { splits = record { whole = refl; each = tt }; partial = record { least = λ two. absurd (omega
-    (arith, two)); most = λ two. absurd (omega (arith, two)); short = λ two. absurd (omega (arith, two)) } }
+nothing-cut = record {
+  splits = record { whole = refl; each = tt };
+  partial = record {
+    least = λ two. absurd (omega
+        (arith, two));
+    most = λ two. absurd (omega (arith, two));
+    short = λ two. absurd (omega (arith, two));
+  };
+}
 
 front-by : (m : GameMsg) (ms : List GameMsg) (bytes later : List ℕ) → AreSpelled (m ∷ ms) → stream_for (m ∷ ms) ≡ bytes ++ later
     → ((rest : List ℕ) → stream_for ms ≡ rest ++ later → IsFront ms rest) → (length bytes < size_of (packet_for m)) ⊎ (size_of
-        (packet_for m) ≤ length bytes) → IsFront (m ∷ ms) bytes
+    (packet_for m) ≤ length bytes) → IsFront (m ∷ ms) bytes
 front-by m ms bytes later s e next (inl short) =
     let p : Packet = packet_for m in
     let g = parted bytes later (packet_bytes p) (stream_for ms) (sym e) (omega (arith, short, packet-length p)) in
-    record { front = []; back = m ∷ ms; all = refl; rest = bytes; cut = none-front bytes p g.0 (within m s.0) (omega
-        (arith, short, packet-length p, ap (λ (xs : List ℕ). length xs) g.1, length-append bytes g.0)) g.1 }
+    record {
+      front = [];
+      back = m ∷ ms;
+      all = refl;
+      rest = bytes;
+      cut = none-front bytes p g.0 (within m s.0) (omega
+          (arith, short, packet-length p, ap (λ (xs : List ℕ). length xs) g.1, length-append bytes g.0)) g.1;
+    }
 front-by m ms bytes later s e next (inr long) =
     let p : Packet = packet_for m in
     let g = parted (packet_bytes p) (stream_for ms) bytes later e (omega (arith, long, packet-length p)) in
@@ -131,7 +148,7 @@ things-front place at [] rest s = refl
 things-front place at (m ∷ ms) rest s =
     ap₂ (λ (x : Option GameMsg) (ts : List (Told WorldState Entry)). item_told place x ∷ ts) (is_read m s.0)
     (ap (λ (x : Option GameMsg). things_of (place_then place x) (items_from (at + size_of (packet_for m)) (map packet_for ms)
-        (rest_of rest))) (is_read m s.0) ∙ things-front (place_behind place m) (at + size_of (packet_for m)) ms rest s.1)
+    (rest_of rest))) (is_read m s.0) ∙ things-front (place_behind place m) (at + size_of (packet_for m)) ms rest s.1)
 
 spelled-front : (xs ys : List GameMsg) → AreSpelled (xs ++ ys) → AreSpelled xs
 spelled-front [] ys s = tt
@@ -141,7 +158,7 @@ reading-is : (bytes : List ℕ) (qs : List Packet) (rest : List ℕ) → IsBytes
     ((reading 32767 bytes).0 ≡ qs) × ((reading 32767 bytes).1 ≡ rest_of rest)
 reading-is bytes qs rest fits cut =
     let same = same_reading 32767 bytes (reading 32767 bytes).0 qs (reading 32767 bytes).1 (rest_of rest) (lit< tt)
-        (reading_reads 32767 bytes (omega arith) fits) cut in same
+    (reading_reads 32767 bytes (omega arith) fits) cut in same
 
 -- what a front of the bytes tells
 pub front-tells : (ms : List GameMsg) (bytes : List ℕ) → IsBytes bytes → AreSpelled ms → (g : IsFront ms bytes)
@@ -159,7 +176,7 @@ front-things ms bytes later fits s e =
       things dialog (place_after dialog Asking g.front) g.back,
       ap (λ (xs : List GameMsg). things dialog Asking xs) g.all ∙ things-append dialog Asking g.front g.back
           ∙ ap (λ (ts : List (Told WorldState Entry)). ts ++ things dialog (place_after dialog Asking g.front) g.back) (sym
-              (front-tells ms bytes fits s g)),
+          (front-tells ms bytes fits s g)),
     )
 
 -- ---- pieces
@@ -191,20 +208,23 @@ pub goes-on : (ms : List GameMsg) (before bytes later : List ℕ) → IsBytes (b
 goes-on ms before bytes later fits fits2 s e =
     let a = front-of ms before (bytes ++ later) s (e ∙ append_assoc before bytes later) in
     let b = front-of ms (before ++ bytes) later s e in
-    let splits : Splits 32767 (before ++ bytes) (map packet_for a.front) (a.rest ++ bytes) = record { whole = ap (λ
-        (xs : List ℕ). xs ++ bytes) a.cut.splits.whole ∙ append_assoc (flat_map packet_bytes
-            (map packet_for a.front)) a.rest bytes; each = a.cut.splits.each } in
+    let splits : Splits 32767 (before ++ bytes) (map packet_for a.front) (a.rest ++ bytes) = record {
+      whole = ap (λ
+          (xs : List ℕ). xs ++ bytes) a.cut.splits.whole ∙ append_assoc (flat_map packet_bytes
+          (map packet_for a.front)) a.rest bytes;
+      each = a.cut.splits.each;
+    } in
     let more = first_packets 32767 (before ++ bytes) (map packet_for a.front) (map packet_for b.front) (a.rest ++ bytes) b.rest
-        (lit< tt) (none_in 32767 (before ++ bytes) (map packet_for b.front) (rest_of b.rest) b.cut (lit< tt)) splits b.cut.splits in
+    (lit< tt) (none_in 32767 (before ++ bytes) (map packet_for b.front) (rest_of b.rest) b.cut (lit< tt)) splits b.cut.splits in
     let one = front-tells ms before fits2 s a in
     let two = front-tells ms (before ++ bytes) fits s b in
     let longer = longer-front a.front b.front more.0 more.1 a.back b.back (sym a.all ∙ b.all) in
     let ts = things dialog (place_after dialog Asking a.front) longer.0 in
     let same : things_in (before ++ bytes) ≡ things_in before ++ ts = two ∙ ap (λ
-        (xs : List GameMsg). things dialog Asking xs) longer.1 ∙ things-append dialog Asking a.front longer.0 ∙ ap (λ (us : List
-            (Told WorldState Entry)). us ++ ts) (sym one) in
+    (xs : List GameMsg). things dialog Asking xs) longer.1 ∙ things-append dialog Asking a.front longer.0 ∙ ap (λ (us : List
+    (Told WorldState Entry)). us ++ ts) (sym one) in
     ap (λ (us : List (Told WorldState Entry)). things_in before ++ drop (length (things_in before)) us) same ∙ ap (λ (us : List
-        (Told WorldState Entry)). things_in before ++ us) (drop-front (things_in before) ts) ∙ sym same
+    (Told WorldState Entry)). things_in before ++ us) (drop-front (things_in before) ts) ∙ sym same
 
 IsBytes-front : (xs ys : List ℕ) → IsBytes (xs ++ ys) → IsBytes xs
 IsBytes-front xs ys fits i = elim (cases_lt i (length xs)) [
@@ -227,9 +247,9 @@ fed-behind ms before later (FeedPiece bytes ∷ calls) fits s e =
     let new = drop (length (things_in before)) (things_in (before ++ bytes)) in
     let more = fed (calls_behind (before ++ bytes) calls) in
     let one : things_in before ++ new ≡ things_in (before ++ bytes) = goes-on ms before bytes (rest ++ later) fits3
-        (IsBytes-front before bytes fits3) s e3 in
+    (IsBytes-front before bytes fits3) s e3 in
     ap (λ (ts : List (Told WorldState Entry)). things_in before ++ ts) (fed-append (map (λ t. Feed t) new) (calls_behind (before
-        ++ bytes) calls) ∙ ap (λ (ts : List (Told WorldState Entry)). ts ++ more) (fed-map new))
+    ++ bytes) calls) ∙ ap (λ (ts : List (Told WorldState Entry)). ts ++ more) (fed-map new))
     ∙ sym (append_assoc (things_in before) new more) ∙ ap (λ (ts : List (Told WorldState Entry)). ts ++ more) one
     ∙ fed-behind ms (before ++ bytes) later calls fits2 s e2 ∙ ap (λ (bs : List ℕ). things_in bs) assoc
 fed-behind ms before later (AdvanceBy n ∷ calls) fits s e = fed-behind ms before later calls fits s e
@@ -241,5 +261,5 @@ pub fed-pieces : (ms : List GameMsg) (later : List ℕ) (calls : List PieceCall)
     → stream_for ms ≡ fed_bytes calls ++ later → fed (calls_of calls) ≡ things_in (fed_bytes calls)
 fed-pieces ms later calls fits s e =
     let none : things_in [] ≡ [] = front-tells [] [] no-bytes tt
-        (record { front = []; back = []; all = refl; rest = []; cut = nothing-cut }) in
+    (record { front = []; back = []; all = refl; rest = []; cut = nothing-cut }) in
     ap (λ (ts : List (Told WorldState Entry)). ts ++ fed (calls_of calls)) (sym none) ∙ fed-behind ms [] later calls fits s e

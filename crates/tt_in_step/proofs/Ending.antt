@@ -120,7 +120,7 @@ module _ (o : Origin) (reads : MapsAreRead o) (f : Filling) (c : ℕ) where
       (λ end k. does-silent o f c (Parting o f c x) t end _ _ refl k)
   farewell x t place m (Failing code) h =
       does-then o f c (Parting o f c x) (Parting o f c x) t place (tells_playing (news_of (Failing code) m) t) (sees_farewell
-          (Failing code) m)
+      (Failing code) m)
       (does-playing o f c (Parting o f c x) t place (news_of (Failing code) m) h.base h (refl, refl))
       (λ end k. does-silent o f c (Parting o f c x) t end _ _ refl k)
 

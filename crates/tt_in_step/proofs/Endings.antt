@@ -1,7 +1,7 @@
 -- What a stream shows of an end stands in it.
-use Rattle.std.proofs.Common.{◌≡◌, ◌⊎◌, inl, inr, ℕ, Bool, true, false, List, [], ◌∷◌, ◌++◌, Option, Some, None, refl, ap, sym, ◌∙◌, subst}
+use Rattle.std.proofs.Common.{◌≡◌, inl, inr, ℕ, Bool, true, false, List, [], ◌∷◌, ◌++◌, Option, Some, None, refl, sym, ◌∙◌, subst}
 use Rattle.std.proofs.Common.{append_assoc, append-nil}
-use Rattle.std.specs.Prelude.{fold, if◌then◌else◌, nat_lt, nat_le, ◌==◌, length, Result}
+use Rattle.std.specs.Prelude.{fold, if◌then◌else◌, nat_lt, nat_le, ◌==◌, length}
 use Rattle.std.specs.Result.{result_ok}
 use Rattle.tt_lockstep.specs.Told as told
 use Rattle.tt_lockstep.specs.Told.{Told}

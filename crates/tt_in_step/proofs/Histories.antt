@@ -413,7 +413,7 @@ module _ (o : Origin) (reads : MapsAreRead o) (named : is_empty o.setup.id ≡ f
       let d = deed-by (is_tick e) (takes t e) e t p.end refl refl (is-ordered o es) near.ahead short low p.kept in
       let heard : game_messages (said.heard o (es ++ e ∷ []) c) ≡ game_messages (said.heard o es c) ++ hears c o f (deed o e t).told =
       ap game_messages (heard-append o (first o) es (e ∷ []) c ∙ ap (λ (xs : List Said). said.heard o es c ++ xs) (append-nil
-          (told_by o t e c)))
+      (told_by o t e c)))
       ∙ messages-append (said.heard o es c) (told_by o t e c) ∙ ap (λ (ms : List GameMsg). game_messages (said.heard o es c) ++ ms)
       (heard-is c o f (deed o e t).told) in
       record {

@@ -120,14 +120,14 @@ module _ (o : Origin) (reads : MapsAreRead o) (named : is_empty o.setup.id ≡ f
   does-company (Some digest) t place m name asked on low h =
       does-door t place Asking m (now_in AuthCompany t (record m { name = name; asked = asked }))
       (ServerNeedCompanyPassword o.setup.seed o.setup.id) on low refl refl refl (ap (λ (b : Bool). other_if (not b)) named) refl
-          (refl, tt) h
+      (refl, tt) h
 
   does-password : (password : List ℕ) (t : Table) (place : Place) (m : Member) (name : List ℕ) (asked : ℕ) → On t m → rank m.status ≤ 3
       → Tied o f c t place → Done t place (password_step_by password o (record m { name = name; asked = asked }) t)
   does-password [] t place m name asked on low h = does-company (digest_of t asked) t place m name asked on low h
   does-password (b ∷ bs) t place m name asked on low h =
       does-door t place Asking m (now_in AuthGame t (record m { name = name; asked = asked }))
-          (ServerNeedGamePassword o.setup.seed o.setup.id)
+      (ServerNeedGamePassword o.setup.seed o.setup.id)
       on low refl refl refl (ap (λ (b : Bool). other_if (not b)) named) refl (refl, tt) h
 
   -- one at the door is told about the game
@@ -171,7 +171,7 @@ module _ (o : Origin) (reads : MapsAreRead o) (named : is_empty o.setup.id ≡ f
       let pb : Done t place b = does-then o f c (Tied o f c) (Tied o f c) t place a (sees_active n) pa
       (λ end k. does-silent o f c (Tied o f c) u end _ _ refl k) in
       does-then o f c (Tied o f c) (Tied o f c) t place b (where_ (m.asked == founder) (asks_company n)) pb
-          (λ end k. does-where o f c (Tied o f c) (m.asked == founder) (asks_company n)
+      (λ end k. does-where o f c (Tied o f c) (m.asked == founder) (asks_company n)
       u end k (λ yes. does-quiet o f c (Tied o f c) u _ end refl (tied-but _ u.digests u.cost u end k)))
 
   acked-seat : (frame token : ℕ) (m : Member) → seat_of (acknowledged frame token m) ≡ seat_of m
@@ -216,7 +216,7 @@ module _ (o : Origin) (reads : MapsAreRead o) (named : is_empty o.setup.id ≡ f
       → Done t place (chats client scope to text t)
   does-chats t place client scope to text h =
       let a : Deed = tells (map (λ m. m.conn) (filter (λ m. is_playing m && is_in_scope scope to m) t.members))
-          (ServerChat client scope text) t in
+      (ServerChat client scope text) t in
       does-then o f c (Tied o f c) (Tied o f c) t place a (sees_chat client scope text)
       (does-news o f c (Tied o f c) t place _ (ServerChat client scope text) h.base h (λ c none. map-filter-not (λ (m : Member). m.conn)
       is_playing (is_in_scope scope to) c t.members none) (refl, refl))

@@ -42,7 +42,7 @@ module _ (o : Origin) (f top : ℕ) (journal : List Entry) (b : Bool) where
   -- pieces, one behind the other
   data-ways : (x : Seat) (s size n : ℕ) (left come : List ℕ) → length come + length left ≤ size
       → Way o (Fetching s size come) (map ServerMapData (pieces_of n left)) (seen x) (seen x) (Fetching s size (come ++ take
-          (1400 * n) left))
+      (1400 * n) left))
   data-ways x s size n [] come l =
       subst (λ (bs : List ℕ). Way o (Fetching s size come) [] (seen x) (seen x) (Fetching s size bs))
       (sym (ap (λ (bs : List ℕ). come ++ bs) (take_all (1400 * n) [] (omega arith)) ∙ append-nil come))
@@ -64,7 +64,7 @@ module _ (o : Origin) (f top : ℕ) (journal : List Entry) (b : Bool) where
       let e : (come ++ piece) ++ take (1400 * n) rest ≡ come ++ take (1400 * suc n) left = append_assoc come piece (take (1400 * n) rest)
       ∙ ap (λ (bs : List ℕ). come ++ bs) (take_on 1400 (1400 * n) left ∙ ap (λ (k : ℕ). take k left) count) in
       subst (λ (bs : List ℕ). Way o here (ServerMapData piece ∷ map ServerMapData (pieces_of n rest)) (seen x) (seen x)
-          (Fetching s size bs)) e
+      (Fetching s size bs)) e
       (Goes-on (game_of o) dialog here there (Fetching s size ((come ++ piece) ++ take (1400 * n) rest)) (seen x) (seen x) (seen x)
       (ServerMapData piece ∷ []) (map ServerMapData (pieces_of n rest)) one more)
 

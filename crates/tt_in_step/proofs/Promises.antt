@@ -233,7 +233,7 @@ module _ (maps : MapsAreMaps) (o : Origin) (h : IsOrigin o) (es : List Event) (a
       → entries_in (things_told o es c) ≡ above o m.map_frame (journal_of o es)
   told-all m is plays =
       let f : facts.Fits (game_of o) (journal_of o es) (table_of o es).frame (table_of o es).top (Playing m.map_frame) (shown
-          (game_of o) Joining
+      (game_of o) Joining
       (things_told o es c)) = subst (λ x. facts.Fits (game_of o) (journal_of o es) (table_of o es).frame (table_of o es).top (stage_at x)
       (shown (game_of o) Joining (things_told o es c))) (high-seat m plays) (fits-stage m is) in
       all-entries o (things_told o es c) (Running f.0) f.1 refl ∙ f.2.entries_are
@@ -244,7 +244,7 @@ module _ (maps : MapsAreMaps) (o : Origin) (h : IsOrigin o) (es : List Event) (a
       → at_frame o g (entries_in front) ≡ at_frame o g (journal_of o es)
   frame-has front later v f max g e is l m =
       let whole : things_told o es c ≡ (front ++ told.Frame f max ∷ []) ++ later = e ∙ sym (append_assoc front
-          (told.Frame f max ∷ []) later) in
+      (told.Frame f max ∷ []) later) in
       let a = agrees (front ++ told.Frame f max ∷ []) later whole in
       let now : shown (game_of o) Joining (front ++ told.Frame f max ∷ []) ≡ seen (game_of o) (Running v) (told.Frame f max) =
       shown-append o front (told.Frame f max ∷ []) Joining ∙ ap (λ k. seen (game_of o) k (told.Frame f max)) is in

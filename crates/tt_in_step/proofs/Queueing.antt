@@ -114,7 +114,7 @@ module _ (o : Origin) (reads : MapsAreRead o) (f : Filling) (c : ℕ) where
       does-where o f c (Begun z t) (is_in MapWait m) (begins_for m) t place still (λ yes.
       does-so o f c (Base o f c) (Begun z t) t place (begins_for m t)
       (does-turn o f c t.tokens t.queue t place m n (MapBegin ∷ []) (on-found t z m is) refl refl h
-          (λ own fit. begin-turns t place m h at fit))
+      (λ own fit. begin-turns t place m h at fit))
       (λ end k. record {
         base = k;
         here = ap in_line now;
@@ -223,8 +223,11 @@ module _ (o : Origin) (reads : MapsAreRead o) (f : Filling) (c : ℕ) where
 
   leave-in : (q : List ℕ) (x : ℕ) (t : Table) (place : Place) → t.queue ≡ q → Parting o f c x t place
       → Does o f c (Tied o f c) t place (left q (cond (nat_lt (place_in x q) (length q)) (Some (place_in x q)) None) t)
-  leave-in [] x t place q h = does-still o f c (Tied o f c) t place (record { base = h.base; line = subst (λ q. Line t.members q)
-      (sym q) tt })
+  leave-in [] x t place q h = does-still o f c (Tied o f c) t place (record {
+    base = h.base;
+    line = subst (λ q. Line t.members q)
+        (sym q) tt;
+  })
   leave-in (y ∷ ys) x t place q h = leave-at (y == x) (nat_lt (place_in x (y ∷ ys)) (length (y ∷ ys))) x y ys t place refl h q refl
 
   left-is : (x : Option ℕ) (t : Table) → where_some x left_place t ≡ left t.queue x t

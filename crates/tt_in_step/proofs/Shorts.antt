@@ -48,7 +48,7 @@ ok-is other m is = absurd cc
 spells : (kind : ℕ) (body : List ℕ) (m : GameMsg) → IsBytes body → read_msg kind body ≡ Some m → Spells m kind body
 spells kind body m bytes is =
     row_takes (rule_of messages kind).fields (rule_of messages kind).make (whole body) m bytes (ok-is (read_by messages kind
-        (whole body)) m is)
+    (whole body)) m is)
 
 abbrev text_in : GameMsg → List ℕ
 text_in (ClientCommand company code number to text) = text

@@ -156,7 +156,7 @@ module _ (o : Origin) (reads : MapsAreRead o) (named : is_empty o.setup.id ≡ f
   left-stamps t place es a h s k first is =
       let fit = subst (λ x. Fitting o t.frame t.journal (nat_le c t.openings) x place) is h.fits in
       h.left s k first is ∙ ap (λ (w : WorldState). drop (1400 * k) (map_of w)) (sym
-          (world-stays o s t.frame t.top t.journal es fit.1 h.ahead a))
+      (world-stays o s t.frame t.top t.journal es fit.1 h.ahead a))
 
   drawn-same : (t : Table) (d : ℕ) → seat d (map drawn t.members) ≡ seat d t.members
   drawn-same t d = map-same d drawn t.members (λ m. refl) (λ m. refl)
@@ -290,7 +290,7 @@ module _ (o : Origin) (reads : MapsAreRead o) (named : is_empty o.setup.id ≡ f
       let said : if_plays (plays x) (ServerSync t.frame (world_of o t).words.0 ∷ [])
       ≡ if_told (among c (playing t)) (ServerSync f.frame f.world.words.0 ∷ []) [] = sym (ap (λ (b : Bool). if_told b (ServerSync f.frame
       f.world.words.0 ∷ []) []) told ∙ one (plays x) (ServerSync f.frame f.world.words.0) ∙ ap₂ (λ (g : ℕ)
-          (w : WorldState). if_plays (plays x)
+      (w : WorldState). if_plays (plays x)
       (ServerSync g w.words.0 ∷ [])) base.steady.frame_is base.steady.world_is) in
       record {
         end = place;
@@ -393,7 +393,7 @@ module _ (o : Origin) (reads : MapsAreRead o) (named : is_empty o.setup.id ≡ f
       let d : Deed = where_some (member_of t m.conn) (limited o) t in
       does-then o f c (Tied o f c) (Tied o f c) t place d (each_limited o ms)
       (does-some o f c (Tied o f c) (member_of t m.conn) (limited o) t place h (λ n is. does-some o f c (Tied o f c)
-          (late o.setup t.frame n)
+      (late o.setup t.frame n)
       (ends n) t place h (λ code late. does-ends o reads f c t place n code (on-found t m.conn n is) h)))
       (λ end k. each-by ms d.table end k)
 
@@ -417,7 +417,7 @@ module _ (o : Origin) (reads : MapsAreRead o) (named : is_empty o.setup.id ≡ f
       let d : Deed = where_some (admin_of t a.conn) (admin_limited o) t in
       does-then o f c (Tied o f c) (Tied o f c) t place d (each_admin_limited o admins)
       (does-some o f c (Tied o f c) (admin_of t a.conn) (admin_limited o) t place h (λ b is. does-where o f c (Tied o f c)
-          (is_slow o t.frame b)
+      (is_slow o t.frame b)
       (admin_ends b 17) t place h (λ slow. does-then o f c (Tied o f c) (Tied o f c) t place
       (tells_admin b.conn (Message (ServerError 17) ∷ []) t) (admin_leaves b)
       (does-silent o f c (Tied o f c) t place (b.conn ∷ []) (ToAdmin (Message (ServerError 17))) refl h)
@@ -457,7 +457,7 @@ module _ (o : Origin) (reads : MapsAreRead o) (named : is_empty o.setup.id ≡ f
       does-then o f c Ticks (Tied o f c) t place (d0 ▹ sees_frame) (frame_follows before f.left o)
       (does-then o f c Ticks Ticks t place d0 sees_frame p0
       (λ end k. does-silent o f c Ticks u end (watching company_updates u) (ToAdmin CompanyNews)
-          (report-silent o f CompanyNews) k)) (λ end k.
+      (report-silent o f CompanyNews) k)) (λ end k.
       let p1 : Does o f c Ticks u end d1 = does-founders (living before) u end k in
       let p2 : Does o f c Ticks u end d2 = does-then o f c Ticks Ticks u end d1 (synced o) p1 (λ end k. does-synced d1.table end k) in
       let p3 : Done u end d3 = does-then o f c Ticks (Tied o f c) u end d2 (mapped f.left) p2 (λ end k. does-mapped d2.table end k) in
@@ -466,4 +466,4 @@ module _ (o : Origin) (reads : MapsAreRead o) (named : is_empty o.setup.id ≡ f
       let p5 : Done u end d5 = does-then o f c (Tied o f c) (Tied o f c) u end d4 (admins_limited o) p4
       (λ end k. each-admin-by d4.table.admins d4.table end k) in
       does-then o f c (Tied o f c) (Tied o f c) u end d5 (admins_told before.day o) p5 (λ end k.
-          does-admins-told before.day d5.table end k))
+      does-admins-told before.day d5.table end k))

@@ -2,7 +2,7 @@
 use Rattle.std.specs.Prelude.{◌≡◌, ◌⊎◌, ℕ, List, [], ◌∷◌, Some}
 use Rattle.tt_game.specs.declared.message.GameMsg.TheVariants.{ServerFull, ServerBanned, ServerError, ServerShutdown}
 use Rattle.tt_rules.specs.Codes.{kicked}
-use Rattle.tt_log.specs.Shown.{Item, Phase, Joining, Loaded, EndedWith, ShutDown, WrongAt, server_full}
+use Rattle.tt_log.specs.Shown.{Item, Phase, EndedWith, ShutDown, server_full}
 
 -- one of these items is so
 abbrev pub SomeItem : (Item → Type 0) → List Item → Type 0

@@ -132,17 +132,17 @@ pub fn fronts_show()
     // The things that it tells are the first of those that all messages tell.
     ensures tells { (o : Origin) (events : List Event) (conn : ℕ) (bytes later : List ℕ)
         → IsOrigin o → AreEvents events → IsPlayer events conn → IsBytes bytes
-            → sent o events conn ≡ bytes ++ later
+        → sent o events conn ≡ bytes ++ later
         → (more : List (Told WorldState Entry)) × (things_told o events conn ≡ things_in bytes ++ more) }
     // It agrees with the journal: its map, its words, and all entries up to its permitted frame.
     ensures shows { (o : Origin) (events : List Event) (conn : ℕ) (bytes later : List ℕ)
         → IsOrigin o → AreEvents events → IsPlayer events conn → IsBytes bytes
-            → sent o events conn ≡ bytes ++ later
+        → sent o events conn ≡ bytes ++ later
         → Agrees (game_of o) (journal_of o events) (table_of o events).top (book.shown o bytes).seen }
     // It is never wrong: no bad size stands in it, no packet that spells nothing, and none that is not permitted where it stands.
     ensures right { (o : Origin) (events : List Event) (conn : ℕ) (bytes later : List ℕ) (at : ℕ)
         → IsOrigin o → AreEvents events → IsPlayer events conn → IsBytes bytes
-            → sent o events conn ≡ bytes ++ later
+        → sent o events conn ≡ bytes ++ later
         → (book.shown o bytes).phase ≡ book.WrongAt at → ⊥ }
     // What any stream shows of an end stands in it: a code that is told, or that the game is over.
     ensures ends { (o : Origin) (bytes : List ℕ) → HasEnd (book.shown o bytes).phase (items_in bytes) }
