@@ -1,0 +1,9 @@
+-- The server as one connection sees it
+pub mod Watched
+-- Streams of bytes
+pub mod Fed
+pub mod Ends
+-- A game that begins too late
+pub mod Late
+-- Worked games
+pub mod Worked

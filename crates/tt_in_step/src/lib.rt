@@ -1,0 +1,178 @@
+//! Whatever packets, ticks and ends reach the game server, in whatever order, the client on each of its connections is in
+//! step: the real table of `tt_log` is tied to the lockstep theorem of `tt_lockstep`.
+//!
+//! Each function is a theorem and has nothing to run: its clauses speak of every origin of a game, every list of events and
+//! every connection. A proof that needs one calls the function.
+#![tactic(auto)]
+
+ghost use Rattle.std.specs.Prelude.{◌≡◌, ◌≤◌, ◌<◌, ◌^◌, ◌+◌, ◌++◌, ◌∷◌, ◌⊎◌, ℕ, true, false, Some, List, [], Ok};
+ghost use Rattle.tt_edge.specs.declared.event.Event.{Event};
+ghost use Rattle.tt_frame.specs.Packet.{IsBytes};
+ghost use Rattle.tt_frame.specs.Text.{IsName};
+ghost use Rattle.tt_world.specs.declared.setup.Setup.{Setup};
+ghost use Rattle.tt_world.specs.Setup.{Fits};
+ghost use Rattle.tt_world.specs.declared.command.Entry.{Entry};
+ghost use Rattle.tt_world.specs.World.{WorldState};
+ghost use Rattle.tt_map.specs.Layout.{map_of};
+ghost use Rattle.tt_map.specs.Maps.{IsTold};
+ghost use Rattle.tt_map.specs.Reading.{map_in};
+ghost use Rattle.tt_lockstep.specs.Told.{Frame, Sync, Told};
+ghost use Rattle.tt_lockstep.specs.Server.{initial};
+ghost use Rattle.tt_lockstep.specs.Shown.{Joining, Running, View, WrongJoining, shown};
+ghost use Rattle.tt_lockstep.specs.Client.{Call, Following, fed, is_recent, run, unfed};
+ghost use Rattle.tt_lockstep.specs.InStep.{IsInStep};
+ghost use Rattle.tt_lockstep.specs.Runner.{IsRunnerInStep, RunnerJoining, runner_run};
+ghost use Rattle.tt_lockstep.specs.Facts.{Agrees, ViewAgrees};
+ghost use Rattle.tt_lockstep.specs.Leads.{Leads};
+ghost use Rattle.tt_lockstep.specs.Wire.{PieceCall, fed_bytes};
+ghost use Rattle.tt_log.specs.Origin.{IsOrigin, Origin, above, at_frame, game_of, origin_of, world_at};
+ghost use Rattle.tt_log.specs.Saved.{IsSaved};
+ghost use Rattle.tt_log.specs.Member.{Member, is_playing};
+ghost use Rattle.tt_log.specs.Table.{member_of};
+ghost use Rattle.tt_log.specs.History.{AreEvents, journal_of, table_of};
+ghost use Rattle.tt_log.specs.Told.{sent};
+ghost use Rattle.tt_log.specs.Shown.{items_in, things_in};
+ghost use Rattle.tt_log.specs.Shown as book;
+ghost use Rattle.tt_in_step.specs.Watched.{entries_in, things_told, watched};
+ghost use Rattle.tt_in_step.specs.Ends.{HasEnd};
+ghost use Rattle.tt_in_step.specs.Fed.{IsPlayer, calls_of};
+ghost use Rattle.tt_in_step.specs.Late.{late, late_events};
+ghost use Rattle.tt_in_step.specs.Worked.{ahead, at_once, client_of, in_step_at, stands_at, two_clients};
+
+use tt_map::one_map;
+
+/// There are steps of the abstract server, from the start on, behind which it has the frame, the permitted frame and the
+/// journal of the table and the stage of the connection; and their stream is what the connection's messages tell.
+pub fn table_is_tied()
+    ensures leads { (o : Origin) (events : List Event) (conn : ℕ) → IsOrigin o → AreEvents events
+        → Leads (game_of o) initial (things_told o events conn) (watched conn (table_of o events)) }
+{
+    one_map();
+}
+
+/// So a client that was fed any front of what its connection is told is in step with the journal: never out of step, never
+/// wrong, and its world at its frame is that of the journal, once it has its map.
+pub fn all_in_step()
+    ensures in_step { (o : Origin) (events : List Event) (conn : ℕ) (calls : List (Call WorldState Entry))
+        (later : List (Told WorldState Entry)) → IsOrigin o → AreEvents events
+        → things_told o events conn ≡ fed calls ++ later
+        → IsInStep (game_of o) (journal_of o events) (run (game_of o) unfed calls) }
+    // The same of the client as a program runs it.
+    ensures runs_in_step { (o : Origin) (events : List Event) (conn : ℕ) (calls : List (Call WorldState Entry))
+        (later : List (Told WorldState Entry)) → IsOrigin o → AreEvents events
+        → things_told o events conn ≡ fed calls ++ later
+        → IsRunnerInStep (game_of o) (journal_of o events) (runner_run (game_of o) RunnerJoining calls) }
+{
+    one_map();
+}
+
+/// What a connection is told of entries.
+pub fn entries_told()
+    // A member that does not play yet was told none.
+    ensures none { (o : Origin) (events : List Event) (conn : ℕ) (m : Member) → IsOrigin o → AreEvents events
+        → member_of (table_of o events) conn ≡ Some m → is_playing m ≡ false → entries_in (things_told o events conn) ≡ [] }
+    // One that plays was told exactly those above its map frame, in order.
+    ensures all { (o : Origin) (events : List Event) (conn : ℕ) (m : Member) → IsOrigin o → AreEvents events
+        → member_of (table_of o events) conn ≡ Some m → is_playing m ≡ true
+        → entries_in (things_told o events conn) ≡ above o m.map_frame (journal_of o events) }
+    // Before each FRAME stand all entries that the journal will ever have above the map frame and up to its maximum.
+    ensures frames { (o : Origin) (events : List Event) (conn : ℕ) (front later : List (Told WorldState Entry))
+        (v : View WorldState Entry) (f max g : ℕ) → IsOrigin o → AreEvents events
+        → things_told o events conn ≡ front ++ Frame f max ∷ later → shown (game_of o) Joining front ≡ Running v
+        → v.map_frame < g → g ≤ max → at_frame o g (entries_in front) ≡ at_frame o g (journal_of o events) }
+{
+    one_map();
+}
+
+/// What each front of what a connection is told shows its client.
+pub fn fronts_agree()
+    // It is permitted; and its map is that of the journal's world at its map frame, each of its words that of the journal's
+    // world at the word's frame, told while no client might run more than the lead beyond it.
+    ensures agree { (o : Origin) (events : List Event) (conn : ℕ) (front later : List (Told WorldState Entry))
+        → IsOrigin o → AreEvents events → things_told o events conn ≡ front ++ later
+        → Agrees (game_of o) (journal_of o events) (table_of o events).top (shown (game_of o) Joining front) }
+    ensures view { (o : Origin) (events : List Event) (conn : ℕ) (front later : List (Told WorldState Entry))
+        (v : View WorldState Entry) → IsOrigin o → AreEvents events → things_told o events conn ≡ front ++ later
+        → shown (game_of o) Joining front ≡ Running v → ViewAgrees (game_of o) (journal_of o events) (table_of o events).top v }
+    // No word comes too late to be compared.
+    ensures compared { (o : Origin) (events : List Event) (conn : ℕ) (calls : List (Call WorldState Entry))
+        (later : List (Told WorldState Entry)) (v : View WorldState Entry) (f g w : ℕ) → IsOrigin o → AreEvents events
+        → things_told o events conn ≡ fed calls ++ Sync g w ∷ later → run (game_of o) unfed calls ≡ Following (Running v) f
+        → (f < g) ⊎ ((g ≤ v.map_frame) ⊎ (is_recent (game_of o) v f g ≡ true)) }
+    // The map of each frame of the game is read back as its world.
+    ensures map { (o : Origin) (events : List Event) (s : ℕ) → IsOrigin o → AreEvents events → s ≤ (table_of o events).frame
+        → map_in (map_of (world_at o (journal_of o events) s)) ≡ Ok (world_at o (journal_of o events) s) }
+{
+    one_map();
+}
+
+/// The headline, over bytes. Whatever events come, a client on any connection of a player that was fed a front of the bytes
+/// sent to it, in whatever pieces and with frames run between any two, is in step with the journal.
+pub fn all_in_step_however_cut()
+    ensures in_step { (o : Origin) (events : List Event) (conn : ℕ) (calls : List PieceCall) (later : List ℕ)
+        → IsOrigin o → AreEvents events → IsPlayer events conn → IsBytes (fed_bytes calls)
+        → sent o events conn ≡ fed_bytes calls ++ later
+        → IsInStep (game_of o) (journal_of o events) (run (game_of o) unfed (calls_of calls)) }
+    // The same of the client as a program runs it.
+    ensures runs_in_step { (o : Origin) (events : List Event) (conn : ℕ) (calls : List PieceCall) (later : List ℕ)
+        → IsOrigin o → AreEvents events → IsPlayer events conn → IsBytes (fed_bytes calls)
+        → sent o events conn ≡ fed_bytes calls ++ later
+        → IsRunnerInStep (game_of o) (journal_of o events) (runner_run (game_of o) RunnerJoining (calls_of calls)) }
+    // Its calls feed just what the bytes tell, however they are cut.
+    ensures fed { (o : Origin) (events : List Event) (conn : ℕ) (calls : List PieceCall) (later : List ℕ)
+        → IsOrigin o → AreEvents events → IsPlayer events conn → IsBytes (fed_bytes calls)
+        → sent o events conn ≡ fed_bytes calls ++ later
+        → fed (calls_of calls) ≡ things_in (fed_bytes calls) }
+{
+    one_map();
+}
+
+/// What a front of the bytes sent to a player shows its client.
+pub fn fronts_show()
+    // The things that it tells are the first of those that all messages tell.
+    ensures tells { (o : Origin) (events : List Event) (conn : ℕ) (bytes later : List ℕ)
+        → IsOrigin o → AreEvents events → IsPlayer events conn → IsBytes bytes
+        → sent o events conn ≡ bytes ++ later
+        → (more : List (Told WorldState Entry)) × (things_told o events conn ≡ things_in bytes ++ more) }
+    // It agrees with the journal: its map, its words, and all entries up to its permitted frame.
+    ensures shows { (o : Origin) (events : List Event) (conn : ℕ) (bytes later : List ℕ)
+        → IsOrigin o → AreEvents events → IsPlayer events conn → IsBytes bytes
+        → sent o events conn ≡ bytes ++ later
+        → Agrees (game_of o) (journal_of o events) (table_of o events).top (book.shown o bytes).seen }
+    // It is never wrong: no bad size stands in it, no packet that spells nothing, and none that is not permitted where it stands.
+    ensures right { (o : Origin) (events : List Event) (conn : ℕ) (bytes later : List ℕ) (at : ℕ)
+        → IsOrigin o → AreEvents events → IsPlayer events conn → IsBytes bytes
+        → sent o events conn ≡ bytes ++ later
+        → (book.shown o bytes).phase ≡ book.WrongAt at → ⊥ }
+    // What any stream shows of an end stands in it: a code that is told, or that the game is over.
+    ensures ends { (o : Origin) (bytes : List ℕ) → HasEnd (book.shown o bytes).phase (items_in bytes) }
+{
+    one_map();
+}
+
+/// A game that begins anew, or from a saved map, is one of which all this holds.
+pub fn every_game_may_begin()
+    ensures anew { (setup : Setup) → Fits setup → setup.seed < 2 ^ 32 → IsName setup.name → IsName setup.revision → IsName setup.id
+        → IsOrigin (origin_of setup) }
+    ensures saved { (setup : Setup) (bytes : List ℕ) (saved : IsSaved bytes) → Fits setup → setup.seed < 2 ^ 32 → IsName setup.name
+        → IsName setup.revision → IsName setup.id → IsOrigin (record { setup = setup; start = saved.world }) }
+{}
+
+/// Why a game starts no later than it may: on the last day that a map can tell, a map of the next day is refused, and an
+/// honest client is wrong.
+pub fn a_late_start_goes_wrong()
+    ensures told { IsTold late.start }
+    ensures wrong { (book.shown late (sent late late_events 1)).seen ≡ WrongJoining }
+{}
+
+/// Two games of two clients each, computed to the end of both: the second client joins in mid-stream, and each stands at the
+/// permitted frame with the word of the journal's world and one entry.
+pub fn two_games_are_in_step()
+    ensures first { stands_at at_once (client_of at_once two_clients 1) ≡ in_step_at at_once two_clients 1 }
+    ensures second { stands_at at_once (client_of at_once two_clients 2) ≡ in_step_at at_once two_clients 1 }
+    ensures first_ahead { stands_at ahead (client_of ahead two_clients 1) ≡ in_step_at ahead two_clients 1 }
+    ensures second_ahead { stands_at ahead (client_of ahead two_clients 2) ≡ in_step_at ahead two_clients 1 }
+{}
+
+#[cfg(test)]
+mod tests;
