@@ -10,3 +10,10 @@ pub mod LimitsComputed
 pub mod CommandsComputed
 pub mod TalksComputed
 pub mod StepsComputed
+pub mod AdminJoinsComputed
+pub mod AdminPollsComputed
+pub mod AdminNewsComputed
+pub mod AdminTalksComputed
+pub mod AdminDaysComputed
+pub mod ConsoleComputed
+pub mod AsideComputed

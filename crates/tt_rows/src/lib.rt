@@ -5,7 +5,14 @@
 //! definitions.
 #![tactic(auto)]
 
+mod admin_days;
+mod admin_joins;
+mod admin_news;
+mod admin_polls;
+mod admin_talks;
+mod aside;
 mod commands;
+mod console;
 mod entering;
 mod joins;
 mod lasting;
@@ -19,7 +26,14 @@ mod streams;
 mod talks;
 mod tokens;
 
+pub use admin_days::admin_days_come_to;
+pub use admin_joins::admin_joins_come_to;
+pub use admin_news::admin_news_come_to;
+pub use admin_polls::admin_polls_come_to;
+pub use admin_talks::admin_talks_come_to;
+pub use aside::side_by_side_come_to;
 pub use commands::commands_come_to;
+pub use console::console_lines_come_to;
 pub use entering::ways_in_come_to;
 pub use joins::joins_come_to;
 pub use lasting::limits_come_to;

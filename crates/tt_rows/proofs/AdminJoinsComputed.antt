@@ -1,0 +1,49 @@
+-- Both sides compute.
+use Rattle.std.specs.Prelude.{refl}
+use Rattle.tt_frame.specs.Reading.{number_at, within_at, truth_at, fixed_at, before_zero, text_at, digest_at, optional_digest_at, raw_at}
+use Rattle.tt_frame.specs.ItemForms.{items_at, marked_at}
+use Rattle.tt_frame.specs.Text.{is_text, is_digest}
+use Rattle.std.specs.Str.{is_utf8, chars}
+use Rattle.std.specs.Fmt.{digits}
+use lib.Utf8.{encode}
+use Rattle.md5.specs.Md5.{block_words, rounds, compress, hash_after, digest_bytes, md5}
+use Rattle.hex.specs.Hex.{encode_with}
+use Rattle.tt_world.specs.Commands.{new_id, new_name}
+use Rattle.tt_rows.specs.Games.{ComesTo}
+use Rattle.tt_rows.specs.AdminJoinsGames.{another_password, before_joining, greeted_and_answered, joins_twice, just_in_time, leaves}
+use Rattle.tt_rows.specs.AdminJoinsGames.{names_wanted, no_password_set, packets_of_servers, sixteen_aside, slow_to_join}
+use Rattle.tt_rows.specs.AdminJoinsGames.{spells_nothing, streams_break}
+
+pub computed : ComesTo greeted_and_answered
+    × ComesTo joins_twice
+    × ComesTo names_wanted
+    × ComesTo no_password_set
+    × ComesTo another_password
+    × ComesTo before_joining
+    × ComesTo leaves
+    × ComesTo packets_of_servers
+    × ComesTo spells_nothing
+    × ComesTo streams_break
+    × ComesTo sixteen_aside
+    × ComesTo slow_to_join
+    × ComesTo just_in_time
+unfolding number_at within_at truth_at fixed_at before_zero text_at digest_at optional_digest_at raw_at items_at marked_at is_text
+    is_digest is_utf8 chars encode digits block_words rounds compress hash_after digest_bytes md5 encode_with new_id new_name
+computed = (
+  ((refl, refl, tt), refl, refl, refl),
+  ((refl, refl, (refl, refl, tt)), refl, refl, refl),
+  ((refl, refl, (refl, refl, (refl, refl, tt))), refl, refl, refl),
+  ((refl, refl, (refl, refl, tt)), refl, refl, refl),
+  ((refl, refl, (refl, refl, (refl, refl, (refl, refl, tt)))), refl, refl, refl),
+  ((refl, refl, (refl, refl, (refl, refl, (refl, refl, (refl, refl, (refl, refl, (refl, refl,
+      (refl, refl, tt)))))))), refl, refl, refl),
+  ((refl, refl, (refl, refl, (refl, refl, tt))), refl, refl, refl),
+  ((refl, refl, (refl, refl, tt)), refl, refl, refl),
+  ((refl, refl, (refl, refl, (refl, refl, (refl, refl, (refl, refl, tt))))), refl, refl, refl),
+  ((refl, refl, (refl, refl, tt)), refl, refl, refl),
+  ((refl, refl, (refl, refl, (refl, refl, (refl, refl, (refl, refl, (refl, refl, (refl, refl, (refl, refl, (refl, refl,
+      (refl, refl, (refl, refl, (refl, refl, (refl, refl, (refl, refl, (refl, refl, (refl, refl, (refl, refl, (refl, refl,
+      (refl, refl, (refl, refl, tt)))))))))))))))))))), refl, refl, refl),
+  ((refl, refl, (refl, refl, (refl, refl, tt))), refl, refl, refl),
+  ((refl, refl, tt), refl, refl, refl),
+)

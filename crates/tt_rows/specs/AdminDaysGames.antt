@@ -1,0 +1,258 @@
+-- What admins are told on days that begin, by the periods that they asked for.
+use Rattle.std.specs.Prelude.{[], codes, false, replicate, true, ℕ, ◌++◌, ◌-◌, ◌∷◌}
+use Rattle.tt_edge.specs.declared.event.Event.TheVariants.{Tick}
+use Rattle.tt_world.specs.Setup.{plain}
+use Rattle.tt_world.specs.declared.command.Code.TheVariants.{Pause}
+use Rattle.tt_log.specs.Origin.{Origin}
+use Rattle.tt_rows.specs.Words.{entry, hex, world}
+use Rattle.tt_rows.specs.AdminWords.{before_day, comes_aside, gives_line, opens_aside, pings, wants_updates}
+use Rattle.tt_rows.specs.Games.{Game}
+
+-- a game that begins four ticks before a day, and in which there is little time to join
+abbrev pub slow_before_day : ℕ → Origin
+slow_before_day day = record {
+  setup = record plain { admin_password = codes "pw"; init = 3 };
+  start = world (0, 0) (day - 1) 70 false [] [];
+}
+
+-- A daily type is told on each day that begins, and on no other tick.
+abbrev pub each_day : Game
+each_day = record {
+  origin = before_day 5 0;
+  events = comes_aside 1 ++ (wants_updates 1 0 2 ∷ Tick ∷ pings 1 1 ∷ []) ++ replicate 73 Tick ++ pings 1 2 ∷ Tick ∷ [];
+  conns =
+      (
+        hex (codes "370067030100003f00010100410001020041000103003d000104003d0001050040000106004000010700010001080040")
+          ++ hex (codes "000109004000001c006847616d650031332e340001000000000000040000000001000107006b0500000007007e010000")
+          ++ hex (codes "0007007e0200000007006b06000000"),
+        true,
+      )
+      ∷ [];
+  journal = [];
+  frames = (75, 75);
+}
+
+-- On day 7 weekly types are told, and on day 6 they are not.
+abbrev pub each_week : Game
+each_week = record {
+  origin = before_day 6 0;
+  events = comes_aside 1 ++ (wants_updates 1 0 4 ∷ Tick ∷ pings 1 1 ∷ []) ++ replicate 73 Tick ++ pings 1 2 ∷ Tick ∷ [];
+  conns =
+      (
+        hex (codes "370067030100003f00010100410001020041000103003d000104003d0001050040000106004000010700010001080040")
+          ++ hex (codes "000109004000001c006847616d650031332e340001000000000000050000000001000107007e0100000007007e020000")
+          ++ hex (codes "0007006b07000000"),
+        true,
+      )
+      ∷ [];
+  journal = [];
+  frames = (75, 75);
+}
+
+-- On day 30 daily and monthly types are told, others are not.
+abbrev pub each_month : Game
+each_month = record {
+  origin = before_day 30 0;
+  events = comes_aside 1 ++ comes_aside 2 ++ comes_aside 3 ++ comes_aside 4 ++ comes_aside 5 ++ wants_updates 1 0 2 ∷
+      wants_updates 2 0 4 ∷ wants_updates 3 0 8 ∷ wants_updates 4 0 16 ∷ wants_updates 5 0 32 ∷ Tick ∷ [];
+  conns =
+      (
+        hex (codes "370067030100003f00010100410001020041000103003d000104003d0001050040000106004000010700010001080040")
+          ++ hex (codes "000109004000001c006847616d650031332e3400010000000000001d0000000001000107006b1e000000"),
+        true,
+      )
+      ∷ (
+        hex (codes "370067030100003f00010100410001020041000103003d000104003d0001050040000106004000010700010001080040")
+          ++ hex (codes "000109004000001c006847616d650031332e3400010000000000001d00000000010001"),
+        true,
+      )
+      ∷ (
+        hex (codes "370067030100003f00010100410001020041000103003d000104003d0001050040000106004000010700010001080040")
+          ++ hex (codes "000109004000001c006847616d650031332e3400010000000000001d0000000001000107006b1e000000"),
+        true,
+      )
+      ∷ (
+        hex (codes "370067030100003f00010100410001020041000103003d000104003d0001050040000106004000010700010001080040")
+          ++ hex (codes "000109004000001c006847616d650031332e3400010000000000001d00000000010001"),
+        true,
+      )
+      ∷ (
+        hex (codes "370067030100003f00010100410001020041000103003d000104003d0001050040000106004000010700010001080040")
+          ++ hex (codes "000109004000001c006847616d650031332e3400010000000000001d00000000010001"),
+        true,
+      )
+      ∷ [];
+  journal = [];
+  frames = (1, 1);
+}
+
+-- On day 90 quarterly types are told besides.
+abbrev pub each_quarter : Game
+each_quarter = record {
+  origin = before_day 90 0;
+  events = comes_aside 1 ++ comes_aside 2 ++ comes_aside 3 ++ comes_aside 4 ++ comes_aside 5 ++ wants_updates 1 0 2 ∷
+      wants_updates 2 0 4 ∷ wants_updates 3 0 8 ∷ wants_updates 4 0 16 ∷ wants_updates 5 0 32 ∷ Tick ∷ [];
+  conns =
+      (
+        hex (codes "370067030100003f00010100410001020041000103003d000104003d0001050040000106004000010700010001080040")
+          ++ hex (codes "000109004000001c006847616d650031332e340001000000000000590000000001000107006b5a000000"),
+        true,
+      )
+      ∷ (
+        hex (codes "370067030100003f00010100410001020041000103003d000104003d0001050040000106004000010700010001080040")
+          ++ hex (codes "000109004000001c006847616d650031332e3400010000000000005900000000010001"),
+        true,
+      )
+      ∷ (
+        hex (codes "370067030100003f00010100410001020041000103003d000104003d0001050040000106004000010700010001080040")
+          ++ hex (codes "000109004000001c006847616d650031332e340001000000000000590000000001000107006b5a000000"),
+        true,
+      )
+      ∷ (
+        hex (codes "370067030100003f00010100410001020041000103003d000104003d0001050040000106004000010700010001080040")
+          ++ hex (codes "000109004000001c006847616d650031332e340001000000000000590000000001000107006b5a000000"),
+        true,
+      )
+      ∷ (
+        hex (codes "370067030100003f00010100410001020041000103003d000104003d0001050040000106004000010700010001080040")
+          ++ hex (codes "000109004000001c006847616d650031332e3400010000000000005900000000010001"),
+        true,
+      )
+      ∷ [];
+  journal = [];
+  frames = (1, 1);
+}
+
+-- On day 360 annual types are told besides.
+abbrev pub each_year : Game
+each_year = record {
+  origin = before_day 360 0;
+  events = comes_aside 1 ++ comes_aside 2 ++ comes_aside 3 ++ comes_aside 4 ++ comes_aside 5 ++ wants_updates 1 0 2 ∷
+      wants_updates 2 0 4 ∷ wants_updates 3 0 8 ∷ wants_updates 4 0 16 ∷ wants_updates 5 0 32 ∷ Tick ∷ [];
+  conns =
+      (
+        hex (codes "370067030100003f00010100410001020041000103003d000104003d0001050040000106004000010700010001080040")
+          ++ hex (codes "000109004000001c006847616d650031332e340001000000000000670100000001000107006b68010000"),
+        true,
+      )
+      ∷ (
+        hex (codes "370067030100003f00010100410001020041000103003d000104003d0001050040000106004000010700010001080040")
+          ++ hex (codes "000109004000001c006847616d650031332e3400010000000000006701000000010001"),
+        true,
+      )
+      ∷ (
+        hex (codes "370067030100003f00010100410001020041000103003d000104003d0001050040000106004000010700010001080040")
+          ++ hex (codes "000109004000001c006847616d650031332e340001000000000000670100000001000107006b68010000"),
+        true,
+      )
+      ∷ (
+        hex (codes "370067030100003f00010100410001020041000103003d000104003d0001050040000106004000010700010001080040")
+          ++ hex (codes "000109004000001c006847616d650031332e340001000000000000670100000001000107006b68010000"),
+        true,
+      )
+      ∷ (
+        hex (codes "370067030100003f00010100410001020041000103003d000104003d0001050040000106004000010700010001080040")
+          ++ hex (codes "000109004000001c006847616d650031332e340001000000000000670100000001000107006b68010000"),
+        true,
+      )
+      ∷ [];
+  journal = [];
+  frames = (1, 1);
+}
+
+-- Where several bits are due a type is told once, though it may be asked for too.
+abbrev pub told_once : Game
+told_once = record {
+  origin = before_day 360 0;
+  events = comes_aside 1 ++ wants_updates 1 0 63 ∷ Tick ∷ [];
+  conns =
+      (
+        hex (codes "370067030100003f00010100410001020041000103003d000104003d0001050040000106004000010700010001080040")
+          ++ hex (codes "000109004000001c006847616d650031332e340001000000000000670100000001000107006b68010000"),
+        true,
+      )
+      ∷ [];
+  journal = [];
+  frames = (1, 1);
+}
+
+-- The day, the money and the signs of each company are told in this order, to the admins in order of arrival; money is that of the new day.
+abbrev pub types_in_order : Game
+types_in_order = record {
+  origin = before_day 30 2;
+  events = comes_aside 1 ++ (opens_aside ∷ []) ++ comes_aside 3 ++ wants_updates 3 4 2 ∷ wants_updates 3 3 8 ∷
+      wants_updates 3 0 8 ∷ wants_updates 1 3 12 ∷ wants_updates 1 0 16 ∷ Tick ∷ [];
+  conns =
+      (
+        hex (codes "370067030100003f00010100410001020041000103003d000104003d0001050040000106004000010700010001080040")
+          ++ hex (codes "000109004000001c006847616d650031332e3400010000000000001d0000000001000110007500e788010000000000a0")
+          ++ hex (codes "860100100075017786010000000000a0860100"),
+        true,
+      )
+      ∷ ([], true)
+      ∷ (
+        hex (codes "370067030100003f00010100410001020041000103003d000104003d0001050040000106004000010700010001080040")
+          ++ hex (codes "000109004000001c006847616d650031332e3400010000000000001d0000000001000104006604"),
+        false,
+      )
+      ∷ [];
+  journal = [];
+  frames = (1, 1);
+}
+
+-- A bit that says when a type may be asked for is no period, and bits are replaced.
+abbrev pub only_asked : Game
+only_asked = record {
+  origin = before_day 7 0;
+  events = comes_aside 1 ++ comes_aside 2 ++ wants_updates 1 0 1 ∷ wants_updates 2 0 4 ∷ wants_updates 2 0 8 ∷ Tick ∷
+      pings 1 1 ∷ pings 2 1 ∷ [];
+  conns =
+      (
+        hex (codes "370067030100003f00010100410001020041000103003d000104003d0001050040000106004000010700010001080040")
+          ++ hex (codes "000109004000001c006847616d650031332e340001000000000000060000000001000107007e01000000"),
+        true,
+      )
+      ∷ (
+        hex (codes "370067030100003f00010100410001020041000103003d000104003d0001050040000106004000010700010001080040")
+          ++ hex (codes "000109004000001c006847616d650031332e340001000000000000060000000001000107007e01000000"),
+        true,
+      )
+      ∷ [];
+  journal = [];
+  frames = (1, 1);
+}
+
+-- A world that is paused has no days that begin.
+abbrev pub paused_days : Game
+paused_days = record {
+  origin = before_day 7 0;
+  events = comes_aside 1 ++ wants_updates 1 0 63 ∷ gives_line 1 (codes "pause") ∷ Tick ∷ Tick ∷
+      gives_line 1 (codes "unpause") ∷ Tick ∷ Tick ∷ [];
+  conns =
+      (
+        hex (codes "370067030100003f00010100410001020041000103003d000104003d0001050040000106004000010700010001080040")
+          ++ hex (codes "000109004000001c006847616d650031332e340001000000000000060000000001000108007800006f6b0009007d7061")
+          ++ hex (codes "7573650008007800006f6b000b007d756e70617573650007006b07000000"),
+        true,
+      )
+      ∷ [];
+  journal = entry 1 1 255 Pause 1 0 [] ∷ entry 3 1 255 Pause 0 0 [] ∷ [];
+  frames = (4, 4);
+}
+
+-- An admin that has not joined in time ends before the day is told.
+abbrev pub gone_before_its_day : Game
+gone_before_its_day = record {
+  origin = slow_before_day 7;
+  events = (opens_aside ∷ []) ++ comes_aside 2 ++ (wants_updates 2 0 4 ∷ []) ++ replicate 4 Tick;
+  conns =
+      (hex (codes "04006611"), false)
+      ∷ (
+        hex (codes "370067030100003f00010100410001020041000103003d000104003d0001050040000106004000010700010001080040")
+          ++ hex (codes "000109004000001c006847616d650031332e340001000000000000060000000001000107006b07000000"),
+        true,
+      )
+      ∷ [];
+  journal = [];
+  frames = (4, 4);
+}
