@@ -9,6 +9,7 @@ use lib.Utf8.{encode}
 use Rattle.md5.specs.Md5.{block_words, rounds, compress, hash_after, digest_bytes, md5}
 use Rattle.hex.specs.Hex.{encode_with}
 use Rattle.tt_world.specs.Commands.{new_id, new_name}
+use Rattle.tt_log.specs.Rows.{word_at, rest_at, number_in, number_at as line_number_at}
 use Rattle.tt_rows.specs.Games.{ComesTo, world_of_game}
 use Rattle.tt_rows.specs.ConsoleGames.{goes_on_again, kick_is_spelled, kicks, kicks_nobody, kicks_the_unwelcomed, lists_clients}
 use Rattle.tt_rows.specs.ConsoleGames.{lists_companies, lists_no_companies, pauses, quit_at_both_doors, quits_the_game, says_to_all}
@@ -33,6 +34,7 @@ pub computed : ComesTo pauses
     × ComesTo stop_at_both_doors
 unfolding number_at within_at truth_at fixed_at before_zero text_at digest_at optional_digest_at raw_at items_at marked_at is_text
     is_digest is_utf8 chars encode digits block_words rounds compress hash_after digest_bytes md5 encode_with new_id new_name
+    word_at rest_at number_in line_number_at
 computed = (
   ((refl, refl, tt), refl, refl, refl),
   refl,

@@ -17,3 +17,5 @@ pub mod AdminTalksComputed
 pub mod AdminDaysComputed
 pub mod ConsoleComputed
 pub mod AsideComputed
+pub mod OrdersComputed
+pub mod AdminWeekComputed

@@ -2,9 +2,9 @@
 use Rattle.std.specs.Prelude.{[], codes, false, replicate, true, ℕ, ◌++◌, ◌-◌, ◌∷◌}
 use Rattle.tt_edge.specs.declared.event.Event.TheVariants.{Tick}
 use Rattle.tt_world.specs.Setup.{plain}
-use Rattle.tt_world.specs.declared.command.Code.TheVariants.{Pause}
+use Rattle.tt_world.specs.declared.command.Code.TheVariants.{NewCompany, Pause}
 use Rattle.tt_log.specs.Origin.{Origin}
-use Rattle.tt_rows.specs.Words.{entry, hex, world}
+use Rattle.tt_rows.specs.Words.{acknowledges, ann, asks_for_map, bob, entry, founds, has_loaded, hex, opens, spectates, world}
 use Rattle.tt_rows.specs.AdminWords.{before_day, comes_aside, gives_line, opens_aside, pings, wants_updates}
 use Rattle.tt_rows.specs.Games.{Game}
 
@@ -180,20 +180,21 @@ told_once = record {
 abbrev pub types_in_order : Game
 types_in_order = record {
   origin = before_day 30 2;
-  events = comes_aside 1 ++ (opens_aside ∷ []) ++ comes_aside 3 ++ wants_updates 3 4 2 ∷ wants_updates 3 3 8 ∷
-      wants_updates 3 0 8 ∷ wants_updates 1 3 12 ∷ wants_updates 1 0 16 ∷ Tick ∷ [];
+  events = comes_aside 1 ++ (opens_aside ∷ []) ++ comes_aside 3 ++ wants_updates 3 4 12 ∷ wants_updates 3 3 8 ∷
+      wants_updates 3 0 8 ∷ wants_updates 1 4 8 ∷ wants_updates 1 3 12 ∷ wants_updates 1 0 16 ∷ Tick ∷ [];
   conns =
       (
         hex (codes "370067030100003f00010100410001020041000103003d000104003d0001050040000106004000010700010001080040")
           ++ hex (codes "000109004000001c006847616d650031332e3400010000000000001d0000000001000110007500e788010000000000a0")
-          ++ hex (codes "860100100075017786010000000000a0860100"),
+          ++ hex (codes "860100100075017786010000000000a0860100060076000000060076010000"),
         true,
       )
       ∷ ([], true)
       ∷ (
         hex (codes "370067030100003f00010100410001020041000103003d000104003d0001050040000106004000010700010001080040")
-          ++ hex (codes "000109004000001c006847616d650031332e3400010000000000001d0000000001000104006604"),
-        false,
+          ++ hex (codes "000109004000001c006847616d650031332e3400010000000000001d0000000001000107006b1e00000010007500e788")
+          ++ hex (codes "010000000000a0860100100075017786010000000000a0860100060076000000060076010000"),
+        true,
       )
       ∷ [];
   journal = [];
@@ -237,6 +238,36 @@ paused_days = record {
       )
       ∷ [];
   journal = entry 1 1 255 Pause 1 0 [] ∷ entry 3 1 255 Pause 0 0 [] ∷ [];
+  frames = (4, 4);
+}
+
+-- In one tick: what is stamped, what the frame founds, that its founder moves, who is late, and then the day.
+abbrev pub a_tick_in_order : Game
+a_tick_in_order = record {
+  origin = slow_before_day 7;
+  events = comes_aside 1 ++ wants_updates 1 0 2 ∷ wants_updates 1 1 64 ∷ wants_updates 1 2 64 ∷ wants_updates 1 8 64 ∷
+      wants_updates 1 3 4 ∷ wants_updates 1 4 4 ∷ opens ∷ opens ∷ founds 2 ann ∷ spectates 3 bob ∷ asks_for_map 2 ∷ Tick ∷
+      has_loaded 2 ∷ Tick ∷ Tick ∷ acknowledges 2 0 ∷ Tick ∷ [];
+  conns =
+      (
+        hex (codes "370067030100003f00010100410001020041000103003d000104003d0001050040000106004000010700010001080040")
+          ++ hex (codes "000109004000001c006847616d650031332e34000100000000000006000000000100010c006d02000000416e6e00ff0c")
+          ++ hex (codes "006d03000000426f6200ff07006c020000000e007f01000000ff0800040000000400710019007200436f6d70616e7920")
+          ++ hex (codes "3100507265736964656e7400000c006e02000000416e6e0000080070030000001107006b0700000010007500fd880100")
+          ++ hex (codes "00000000a0860100060076000000"),
+        true,
+      )
+      ∷ (
+        hex (codes "0e000c020000000000000074740007000f00000000070010410000004400114f54544e0002000047414d450000000600")
+          ++ hex (codes "000006460052414e44000000080000000000000000434d505900000001005349474e000000020000454e444300000000")
+          ++ hex (codes "0300120c001d02000000ff416e6e000c001d03000000ff426f62000c00150100000001000000ff0c0015020000000200")
+          ++ hex (codes "0000000c0015030000000300000000140019ff080002000000000004000000010000000c001504000000040000000008")
+          ++ hex (codes "002002000000000800220300000011"),
+        true,
+      )
+      ∷ (hex (codes "0e000c030000000000000074740004000311"), false)
+      ∷ [];
+  journal = entry 4 1 255 NewCompany 2 0 [] ∷ [];
   frames = (4, 4);
 }
 

@@ -3,10 +3,21 @@ use Rattle.std.specs.Prelude.{[], codes, false, replicate, true, ◌++◌, ◌�
 use Rattle.tt_edge.specs.declared.event.Event.TheVariants.{Broken, Shut, Tick}
 use Rattle.tt_world.specs.Setup.{plain}
 use Rattle.tt_log.specs.Origin.{Origin}
-use Rattle.tt_rows.specs.Words.{hex, made_from, opens, plain_game, says}
+use Rattle.tt_rows.specs.Words.{ann, hex, made_from, opens, plain_game, says, spectates, world}
 use Rattle.tt_rows.specs.AdminWords.{admin_chats, admin_game, admin_joins, admin_joins_as, admin_quits, brings_chat, comes_aside}
 use Rattle.tt_rows.specs.AdminWords.{gives_line, greeted, opens_aside, pings, polls_all, tells_script, wants_updates}
 use Rattle.tt_rows.specs.Games.{Game}
+
+-- another name, revision, seed and id, and the next tick begins day 257
+abbrev pub elsewhere : Origin
+elsewhere = record {
+  setup = record plain { seed = 16909060; name = codes "Elsewhere"; revision = codes "14.0"; id = codes "zz"; admin_password = codes "pw" };
+  start = world (0, 0) 256 73 false [] [];
+}
+
+-- the main door has one place
+abbrev pub one_place_game : Origin
+one_place_game = made_from (record plain { admin_password = codes "pw"; max_clients = 1 })
 
 -- who is there has little time to join
 abbrev pub slow_game : Origin
@@ -215,4 +226,40 @@ just_in_time = record {
       ∷ [];
   journal = [];
   frames = (4, 4);
+}
+
+-- WELCOME has the name, the revision and the seed of the setup, and the day of the world.
+abbrev pub greeted_elsewhere : Game
+greeted_elsewhere = record {
+  origin = elsewhere;
+  events = (opens_aside ∷ admin_joins 1 ∷ Tick ∷ []) ++ comes_aside 2;
+  conns =
+      (
+        hex (codes "370067030100003f00010100410001020041000103003d000104003d0001050040000106004000010700010001080040")
+          ++ hex (codes "00010900400000210068456c736577686572650031342e3000010004030201000001000000010001"),
+        true,
+      )
+      ∷ (
+        hex (codes "370067030100003f00010100410001020041000103003d000104003d0001050040000106004000010700010001080040")
+          ++ hex (codes "00010900400000210068456c736577686572650031342e3000010004030201000101000000010001"),
+        true,
+      )
+      ∷ [];
+  journal = [];
+  frames = (1, 1);
+}
+
+-- Admins take no place and no client number of the main door.
+abbrev pub doors_apart : Game
+doors_apart = record {
+  origin = one_place_game;
+  events = comes_aside 1 ++ opens_aside ∷ opens ∷ opens ∷ spectates 3 ann ∷ [];
+  conns =
+      (greeted, true)
+      ∷ ([], true)
+      ∷ (hex (codes "0e000c0200000000000000747400"), true)
+      ∷ (hex (codes "030000"), false)
+      ∷ [];
+  journal = [];
+  frames = (0, 0);
 }

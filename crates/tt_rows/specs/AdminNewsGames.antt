@@ -2,10 +2,10 @@
 use Rattle.std.specs.Prelude.{[], codes, false, true, ◌++◌, ◌∷◌}
 use Rattle.tt_edge.specs.declared.event.Event.TheVariants.{Broken, Shut, Tick}
 use Rattle.tt_world.specs.declared.command.Code.TheVariants.{NewCompany, RenameCompany, RenamePresident}
-use Rattle.tt_rows.specs.Words.{acknowledges, ann, asks_for_map, bob, chats_to, cid, entry, founds, has_loaded, hex, joins}
-use Rattle.tt_rows.specs.Words.{locks_company, moves_to, opens, quits, renames_company, renames_president, spectates, tells_error}
-use Rattle.tt_rows.specs.Words.{wants_name}
-use Rattle.tt_rows.specs.AdminWords.{admin_game, admin_game_with, ann_came, comes_aside, enters, greeted, noughts, pings}
+use Rattle.tt_rows.specs.Words.{acknowledges, ann, asks_for_map, bob, chats_to, cid, entry, founds, gives_company_password}
+use Rattle.tt_rows.specs.Words.{has_loaded, hex, joins, locks_company, moves_to, opens, quits, renames_company, renames_president}
+use Rattle.tt_rows.specs.Words.{spectates, tells_error, wants_name}
+use Rattle.tt_rows.specs.AdminWords.{admin_game, admin_game_with, ann_came, comes_aside, enters, greeted, noughts, pings, polls}
 use Rattle.tt_rows.specs.AdminWords.{wants_updates}
 use Rattle.tt_rows.specs.Games.{Game}
 
@@ -30,7 +30,7 @@ abbrev pub news_of_an_entry : Game
 news_of_an_entry = record {
   origin = admin_game;
   events = (opens ∷ []) ++ comes_aside 2 ++ wants_updates 2 1 64 ∷ spectates 1 ann ∷ asks_for_map 1 ∷ Tick ∷ has_loaded 1 ∷
-      pings 2 1 ∷ acknowledges 1 1 ∷ pings 2 2 ∷ [];
+      pings 2 1 ∷ acknowledges 1 1 ∷ pings 2 2 ∷ acknowledges 1 1 ∷ [];
   conns =
       (ann_came, true)
       ∷ (greeted ++ hex (codes "0c006d02000000416e6e00ff07007e0100000007006c0200000007007e02000000"), true)
@@ -166,12 +166,12 @@ news_of_names = record {
   frames = (3, 3);
 }
 
--- News of a company say whether it has a password.
+-- News of a company say whether it has a password; the password by itself is no news.
 abbrev pub news_of_a_locked_company : Game
 news_of_a_locked_company = record {
   origin = admin_game_with 1;
-  events = (opens ∷ joins 1 ann 0 ∷ []) ++ enters 1 1 ++ (locks_company 1 noughts ∷ []) ++ comes_aside 2 ++
-      wants_updates 2 2 64 ∷ renames_president 1 0 (codes "P") ∷ Tick ∷ [];
+  events = (opens ∷ joins 1 ann 0 ∷ []) ++ enters 1 1 ++ comes_aside 2 ++ wants_updates 2 2 64 ∷ locks_company 1 noughts ∷
+      renames_president 1 0 (codes "P") ∷ Tick ∷ [];
   conns =
       (
         hex (codes "0e000c020000000000000074740007000f00000000070010660000006900114f54544e0002000047414d450000000600")
@@ -185,4 +185,42 @@ news_of_a_locked_company = record {
       ∷ [];
   journal = entry 2 2 0 RenamePresident 0 0 (codes "P") ∷ [];
   frames = (2, 2);
+}
+
+-- Who is asked for a company's password is not welcomed yet, and is told of behind it.
+abbrev pub news_behind_a_password : Game
+news_behind_a_password = record {
+  origin = admin_game_with 1;
+  events = (opens ∷ opens ∷ joins 1 ann 0 ∷ []) ++ enters 1 1 ++ (locks_company 1 noughts ∷ []) ++ comes_aside 3 ++
+      wants_updates 3 1 64 ∷ joins 2 bob 0 ∷ polls 3 1 3 ∷ gives_company_password 2 noughts ∷ [];
+  conns =
+      (
+        hex (codes "0e000c020000000000000074740007000f00000000070010660000006900114f54544e0002000047414d450000000600")
+          ++ hex (codes "000000000052414e44000000080000000000000000434d505900000026010000000000000186a0000186a0000493e009")
+          ++ hex (codes "436f6d70616e79203109507265736964656e745349474e000000020000454e4443000000000300120c001d0200000000")
+          ++ hex (codes "416e6e000c00150100000001000000ff0c001d0300000000426f6200"),
+        true,
+      )
+      ∷ (hex (codes "0a000a000000007474000e000c0300000000000000747400"), true)
+      ∷ (greeted ++ hex (codes "0c006d03000000426f620000"), true)
+      ∷ [];
+  journal = [];
+  frames = (1, 1);
+}
+
+-- Of two foundings in one frame the second finds no number free: it is stamped, and no company is told of.
+abbrev pub news_of_one_founding : Game
+news_of_one_founding = record {
+  origin = admin_game_with 14;
+  events = comes_aside 1 ++ (wants_updates 1 2 64 ∷ wants_updates 1 8 64 ∷ opens ∷ opens ∷ founds 2 ann ∷
+      founds 3 bob ∷ []) ++ enters 2 1 ++ asks_for_map 3 ∷ Tick ∷ has_loaded 3 ∷ acknowledges 3 2 ∷ Tick ∷ [];
+  conns =
+      (
+        greeted ++ hex (codes "0e007f01000000ff0800020000000400710e1a00720e436f6d70616e7920313500507265736964656e7400000e007f01")
+          ++ hex (codes "000000ff080003000000"),
+        true,
+      )
+      ∷ [];
+  journal = entry 2 1 255 NewCompany 2 0 [] ∷ entry 3 1 255 NewCompany 3 0 [] ∷ [];
+  frames = (3, 3);
 }

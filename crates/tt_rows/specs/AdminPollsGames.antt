@@ -93,7 +93,7 @@ abbrev pub asks_for_clients : Game
 asks_for_clients = record {
   origin = admin_game_with 1;
   events = (opens ∷ opens ∷ opens ∷ joins 2 bob 0 ∷ spectates 1 ann ∷ []) ++ comes_aside 4 ++ polls 4 1 3 ∷ polls_all 4 1 ∷
-      polls 4 1 4 ∷ polls 4 1 9 ∷ pings 4 1 ∷ polls 4 1 2 ∷ [];
+      polls 4 1 4 ∷ polls 4 1 9 ∷ polls 4 1 1 ∷ pings 4 1 ∷ polls 4 1 2 ∷ [];
   conns =
       (hex (codes "0e000c0200000000000000747400"), true)
       ∷ (hex (codes "0e000c0300000000000000747400"), true)

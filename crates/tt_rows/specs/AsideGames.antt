@@ -69,9 +69,9 @@ console_ends_it = record {
   frames = (1, 1);
 }
 
--- What admins are told of an end, a chat and a name stands behind nothing that they asked for before: each door has its own order.
-abbrev pub behind_the_players : Game
-behind_the_players = record {
+-- A welcome, a chat, a name and an end, told at both doors: each connection is told them in the order of the events.
+abbrev pub told_at_both_doors : Game
+told_at_both_doors = record {
   origin = admin_game;
   events = (opens ∷ opens ∷ spectates 1 ann ∷ []) ++ enters 1 1 ++ comes_aside 3 ++ wants_updates 3 1 64 ∷
       wants_updates 3 5 64 ∷ spectates 2 bob ∷ chats_to 1 0 0 (codes "a") ∷ wants_name 1 cid ∷ quits 2 ∷ [];

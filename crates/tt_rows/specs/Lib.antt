@@ -21,3 +21,5 @@ pub mod AdminTalksGames
 pub mod AdminDaysGames
 pub mod ConsoleGames
 pub mod AsideGames
+pub mod OrdersGames
+pub mod AdminWeekGames

@@ -1,9 +1,10 @@
 //! The side door: how an admin joins, and what is refused before and behind it.
 //! This function does nothing: its contract is the games.
 ghost use Rattle.tt_rows.specs.Games.{ComesTo};
-ghost use Rattle.tt_rows.specs.AdminJoinsGames.{another_password, before_joining, greeted_and_answered, joins_twice, just_in_time};
-ghost use Rattle.tt_rows.specs.AdminJoinsGames.{leaves, names_wanted, no_password_set, packets_of_servers, sixteen_aside};
-ghost use Rattle.tt_rows.specs.AdminJoinsGames.{slow_to_join, spells_nothing, streams_break};
+ghost use Rattle.tt_rows.specs.AdminJoinsGames.{another_password, before_joining, doors_apart, greeted_and_answered};
+ghost use Rattle.tt_rows.specs.AdminJoinsGames.{greeted_elsewhere, joins_twice, just_in_time, leaves, names_wanted};
+ghost use Rattle.tt_rows.specs.AdminJoinsGames.{no_password_set, packets_of_servers, sixteen_aside, slow_to_join, spells_nothing};
+ghost use Rattle.tt_rows.specs.AdminJoinsGames.{streams_break};
 
 /// An admin joins with the password of admins, once, and in time.
 pub fn admin_joins_come_to()
@@ -20,4 +21,6 @@ pub fn admin_joins_come_to()
     ensures sixteen_aside { ComesTo sixteen_aside }
     ensures slow_to_join { ComesTo slow_to_join }
     ensures just_in_time { ComesTo just_in_time }
+    ensures greeted_elsewhere { ComesTo greeted_elsewhere }
+    ensures doors_apart { ComesTo doors_apart }
 {}

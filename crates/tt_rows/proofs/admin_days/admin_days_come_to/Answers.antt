@@ -28,5 +28,8 @@ returns-clause-only_asked c = computed.7
 pub returns-clause-paused_days : goal.returns-clause-paused_days
 returns-clause-paused_days c = computed.8
 
+pub returns-clause-a_tick_in_order : goal.returns-clause-a_tick_in_order
+returns-clause-a_tick_in_order c = computed.9
+
 pub returns-clause-gone_before_its_day : goal.returns-clause-gone_before_its_day
-returns-clause-gone_before_its_day c = computed.9
+returns-clause-gone_before_its_day c = computed.10

@@ -39,3 +39,9 @@ returns-clause-slow_to_join c = computed.11
 
 pub returns-clause-just_in_time : goal.returns-clause-just_in_time
 returns-clause-just_in_time c = computed.12
+
+pub returns-clause-greeted_elsewhere : goal.returns-clause-greeted_elsewhere
+returns-clause-greeted_elsewhere c = computed.13
+
+pub returns-clause-doors_apart : goal.returns-clause-doors_apart
+returns-clause-doors_apart c = computed.14

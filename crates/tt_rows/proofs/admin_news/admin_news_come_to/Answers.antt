@@ -30,3 +30,9 @@ returns-clause-news_of_names c = computed.8
 
 pub returns-clause-news_of_a_locked_company : goal.returns-clause-news_of_a_locked_company
 returns-clause-news_of_a_locked_company c = computed.9
+
+pub returns-clause-news_behind_a_password : goal.returns-clause-news_behind_a_password
+returns-clause-news_behind_a_password c = computed.10
+
+pub returns-clause-news_of_one_founding : goal.returns-clause-news_of_one_founding
+returns-clause-news_of_one_founding c = computed.11
