@@ -28,9 +28,7 @@ abbrev pub greeted_and_answered : Game
 greeted_and_answered = record {
   origin = admin_game;
   events = opens_aside ∷ admin_joins 1 ∷ pings 1 305419896 ∷ [];
-  conns =
-      (greeted ++ hex (codes "07007e78563412"), true)
-      ∷ [];
+  conns = (greeted ++ hex (codes "07007e78563412"), true) ∷ [];
   journal = [];
   frames = (0, 0);
 }
@@ -40,10 +38,7 @@ abbrev pub joins_twice : Game
 joins_twice = record {
   origin = admin_game;
   events = comes_aside 1 ++ comes_aside 2 ++ admin_joins 1 ∷ admin_joins_as 2 [] [] [] ∷ [];
-  conns =
-      (greeted ++ hex (codes "04006607"), false)
-      ∷ (greeted ++ hex (codes "04006607"), false)
-      ∷ [];
+  conns = (greeted ++ hex (codes "04006607"), false) ∷ (greeted ++ hex (codes "04006607"), false) ∷ [];
   journal = [];
   frames = (0, 0);
 }
@@ -54,11 +49,7 @@ names_wanted = record {
   origin = admin_game;
   events = opens_aside ∷ opens_aside ∷ opens_aside ∷ admin_joins_as 1 (codes "pw") [] (codes "1") ∷
       admin_joins_as 2 (codes "pw") (codes "cli") [] ∷ admin_joins_as 3 (codes "px") [] (codes "1") ∷ [];
-  conns =
-      (hex (codes "04006604"), false)
-      ∷ (hex (codes "04006604"), false)
-      ∷ (hex (codes "04006604"), false)
-      ∷ [];
+  conns = (hex (codes "04006604"), false) ∷ (hex (codes "04006604"), false) ∷ (hex (codes "04006604"), false) ∷ [];
   journal = [];
   frames = (0, 0);
 }
@@ -68,10 +59,7 @@ abbrev pub no_password_set : Game
 no_password_set = record {
   origin = plain_game;
   events = opens_aside ∷ opens_aside ∷ admin_joins 1 ∷ admin_joins_as 2 [] (codes "cli") (codes "1") ∷ [];
-  conns =
-      (hex (codes "0400660a"), false)
-      ∷ (hex (codes "0400660a"), false)
-      ∷ [];
+  conns = (hex (codes "0400660a"), false) ∷ (hex (codes "0400660a"), false) ∷ [];
   journal = [];
   frames = (0, 0);
 }
@@ -118,11 +106,7 @@ abbrev pub leaves : Game
 leaves = record {
   origin = admin_game;
   events = comes_aside 1 ++ comes_aside 2 ++ admin_quits 1 ∷ Shut 2 ∷ pings 1 1 ∷ opens_aside ∷ Shut 3 ∷ [];
-  conns =
-      (greeted, false)
-      ∷ (greeted, false)
-      ∷ ([], false)
-      ∷ [];
+  conns = (greeted, false) ∷ (greeted, false) ∷ ([], false) ∷ [];
   journal = [];
   frames = (0, 0);
 }
@@ -132,10 +116,7 @@ abbrev pub packets_of_servers : Game
 packets_of_servers = record {
   origin = admin_game;
   events = (opens_aside ∷ []) ++ comes_aside 2 ++ says 1 (codes "03006a") ∷ says 2 (codes "030064") ∷ [];
-  conns =
-      (hex (codes "04006607"), false)
-      ∷ (greeted ++ hex (codes "04006607"), false)
-      ∷ [];
+  conns = (hex (codes "04006607"), false) ∷ (greeted ++ hex (codes "04006607"), false) ∷ [];
   journal = [];
   frames = (0, 0);
 }
@@ -163,10 +144,7 @@ abbrev pub streams_break : Game
 streams_break = record {
   origin = admin_game;
   events = (opens_aside ∷ []) ++ comes_aside 2 ++ Broken 1 ∷ Broken 2 ∷ [];
-  conns =
-      (hex (codes "04006604"), false)
-      ∷ (greeted ++ hex (codes "04006604"), false)
-      ∷ [];
+  conns = (hex (codes "04006604"), false) ∷ (greeted ++ hex (codes "04006604"), false) ∷ [];
   journal = [];
   frames = (0, 0);
 }
@@ -207,11 +185,7 @@ abbrev pub slow_to_join : Game
 slow_to_join = record {
   origin = slow_game;
   events = (opens_aside ∷ []) ++ comes_aside 2 ++ (Tick ∷ opens_aside ∷ []) ++ replicate 3 Tick;
-  conns =
-      (hex (codes "04006611"), false)
-      ∷ (greeted, true)
-      ∷ ([], true)
-      ∷ [];
+  conns = (hex (codes "04006611"), false) ∷ (greeted, true) ∷ ([], true) ∷ [];
   journal = [];
   frames = (4, 4);
 }
@@ -221,9 +195,7 @@ abbrev pub just_in_time : Game
 just_in_time = record {
   origin = slow_game;
   events = (opens_aside ∷ []) ++ replicate 3 Tick ++ admin_joins 1 ∷ Tick ∷ [];
-  conns =
-      (greeted, true)
-      ∷ [];
+  conns = (greeted, true) ∷ [];
   journal = [];
   frames = (4, 4);
 }

@@ -214,13 +214,11 @@ news_of_one_founding = record {
   origin = admin_game_with 14;
   events = comes_aside 1 ++ (wants_updates 1 2 64 ∷ wants_updates 1 8 64 ∷ opens ∷ opens ∷ founds 2 ann ∷
       founds 3 bob ∷ []) ++ enters 2 1 ++ asks_for_map 3 ∷ Tick ∷ has_loaded 3 ∷ acknowledges 3 2 ∷ Tick ∷ [];
-  conns =
-      (
-        greeted ++ hex (codes "0e007f01000000ff0800020000000400710e1a00720e436f6d70616e7920313500507265736964656e7400000e007f01")
-          ++ hex (codes "000000ff080003000000"),
-        true,
-      )
-      ∷ [];
+  conns = (
+    greeted ++ hex (codes "0e007f01000000ff0800020000000400710e1a00720e436f6d70616e7920313500507265736964656e7400000e007f01")
+      ++ hex (codes "000000ff080003000000"),
+    true,
+  ) ∷ [];
   journal = entry 2 1 255 NewCompany 2 0 [] ∷ entry 3 1 255 NewCompany 3 0 [] ∷ [];
   frames = (3, 3);
 }

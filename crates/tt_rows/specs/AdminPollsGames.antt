@@ -43,9 +43,7 @@ all_bits_allowed = record {
       wants_updates 1 9 64 ∷ wants_updates 1 0 0 ∷ wants_updates 1 1 0 ∷ wants_updates 1 2 0 ∷ wants_updates 1 3 0 ∷
       wants_updates 1 4 0 ∷ wants_updates 1 5 0 ∷ wants_updates 1 6 0 ∷ wants_updates 1 7 0 ∷ wants_updates 1 8 0 ∷
       wants_updates 1 9 0 ∷ pings 1 7 ∷ [];
-  conns =
-      (greeted ++ hex (codes "07007e07000000"), true)
-      ∷ [];
+  conns = (greeted ++ hex (codes "07007e07000000"), true) ∷ [];
   journal = [];
   frames = (0, 0);
 }
@@ -139,13 +137,11 @@ abbrev pub asks_for_money : Game
 asks_for_money = record {
   origin = debts_game;
   events = comes_aside 1 ++ polls_all 1 3 ∷ polls 1 3 2 ∷ polls 1 3 1 ∷ pings 1 1 ∷ [];
-  conns =
-      (
-        greeted ++ hex (codes "10007500d08affffffffffffe0930400100075020080faca73f91f0000000000100075020080faca73f91f0000000000")
-          ++ hex (codes "07007e01000000"),
-        true,
-      )
-      ∷ [];
+  conns = (
+    greeted ++ hex (codes "10007500d08affffffffffffe0930400100075020080faca73f91f0000000000100075020080faca73f91f0000000000")
+      ++ hex (codes "07007e01000000"),
+    true,
+  ) ∷ [];
   journal = [];
   frames = (0, 0);
 }
@@ -155,9 +151,7 @@ abbrev pub asks_for_signs : Game
 asks_for_signs = record {
   origin = debts_game;
   events = comes_aside 1 ++ polls_all 1 4 ∷ polls 1 4 0 ∷ polls 1 4 1 ∷ pings 1 1 ∷ [];
-  conns =
-      (greeted ++ hex (codes "06007600010006007602020006007600010007007e01000000"), true)
-      ∷ [];
+  conns = (greeted ++ hex (codes "06007600010006007602020006007600010007007e01000000"), true) ∷ [];
   journal = [];
   frames = (0, 0);
 }
@@ -167,17 +161,15 @@ abbrev pub asks_for_names : Game
 asks_for_names = record {
   origin = admin_game;
   events = comes_aside 1 ++ polls_all 1 7 ∷ polls 1 7 3 ∷ [];
-  conns =
-      (
-        greeted ++ hex (codes "82007a010000496e6372656173654c6f616e0001010044656372656173654c6f616e000102004769766500010300506c")
-          ++ hex (codes "6163655369676e0001040052656e616d655369676e0001050052656e616d65436f6d70616e790001060052656e616d65")
-          ++ hex (codes "507265736964656e74000107005061757365000108004e6577436f6d70616e79000082007a010000496e637265617365")
-          ++ hex (codes "4c6f616e0001010044656372656173654c6f616e000102004769766500010300506c6163655369676e0001040052656e")
-          ++ hex (codes "616d655369676e0001050052656e616d65436f6d70616e790001060052656e616d65507265736964656e740001070050")
-          ++ hex (codes "61757365000108004e6577436f6d70616e790000"),
-        true,
-      )
-      ∷ [];
+  conns = (
+    greeted ++ hex (codes "82007a010000496e6372656173654c6f616e0001010044656372656173654c6f616e000102004769766500010300506c")
+      ++ hex (codes "6163655369676e0001040052656e616d655369676e0001050052656e616d65436f6d70616e790001060052656e616d65")
+      ++ hex (codes "507265736964656e74000107005061757365000108004e6577436f6d70616e79000082007a010000496e637265617365")
+      ++ hex (codes "4c6f616e0001010044656372656173654c6f616e000102004769766500010300506c6163655369676e0001040052656e")
+      ++ hex (codes "616d655369676e0001050052656e616d65436f6d70616e790001060052656e616d65507265736964656e740001070050")
+      ++ hex (codes "61757365000108004e6577436f6d70616e790000"),
+    true,
+  ) ∷ [];
   journal = [];
   frames = (0, 0);
 }

@@ -152,10 +152,7 @@ scripts_and_other_chats = record {
   origin = admin_game;
   events = (opens ∷ spectates 1 ann ∷ []) ++ enters 1 1 ++ comes_aside 2 ++ wants_updates 2 5 64 ∷
       tells_script 2 (codes "a") ∷ brings_chat 2 ∷ pings 2 1 ∷ [];
-  conns =
-      (ann_came, true)
-      ∷ (greeted ++ hex (codes "07007e01000000"), true)
-      ∷ [];
+  conns = (ann_came, true) ∷ (greeted ++ hex (codes "07007e01000000"), true) ∷ [];
   journal = [];
   frames = (1, 1);
 }

@@ -18,13 +18,11 @@ abbrev pub without_admins : Game
 without_admins = record {
   origin = admin_game;
   events = (opens ∷ founds 1 ann ∷ []) ++ enters 1 1 ++ Tick ∷ chats_to 1 0 0 (codes "a") ∷ Tick ∷ [];
-  conns =
-      (
-        ann_came ++ hex (codes "140019ff080002000000000002000000010000000c001502000000020000000008002002000000000a001b0200000000")
-          ++ hex (codes "61000c0015030000000300000000"),
-        true,
-      )
-      ∷ [];
+  conns = (
+    ann_came ++ hex (codes "140019ff080002000000000002000000010000000c001502000000020000000008002002000000000a001b0200000000")
+      ++ hex (codes "61000c0015030000000300000000"),
+    true,
+  ) ∷ [];
   journal = entry 2 1 255 NewCompany 2 0 [] ∷ [];
   frames = (3, 3);
 }
@@ -89,10 +87,7 @@ abbrev pub by_its_cost : Game
 by_its_cost = record {
   origin = cheap_game;
   events = opens ∷ opens_aside ∷ admin_joins 2 ∷ pings 2 1 ∷ pings 2 2 ∷ [];
-  conns =
-      (hex (codes "030025"), false)
-      ∷ (greeted ++ hex (codes "07007e0100000007007e0200000003006a"), false)
-      ∷ [];
+  conns = (hex (codes "030025"), false) ∷ (greeted ++ hex (codes "07007e0100000007007e0200000003006a"), false) ∷ [];
   journal = [];
   frames = (0, 0);
 }

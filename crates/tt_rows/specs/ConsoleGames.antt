@@ -13,9 +13,7 @@ abbrev pub pauses : Game
 pauses = record {
   origin = admin_game;
   events = comes_aside 1 ++ Tick ∷ gives_line 1 (codes "pause") ∷ Tick ∷ Tick ∷ [];
-  conns =
-      (greeted ++ hex (codes "08007800006f6b0009007d706175736500"), true)
-      ∷ [];
+  conns = (greeted ++ hex (codes "08007800006f6b0009007d706175736500"), true) ∷ [];
   journal = entry 2 1 255 Pause 1 0 [] ∷ [];
   frames = (3, 3);
 }
@@ -26,13 +24,11 @@ goes_on_again = record {
   origin = admin_game;
   events = comes_aside 1 ++ gives_line 1 (codes "pause") ∷ gives_line 1 (codes "unpause") ∷ gives_line 1 (codes "unpause") ∷
       Tick ∷ Tick ∷ [];
-  conns =
-      (
-        greeted ++ hex (codes "08007800006f6b0009007d70617573650008007800006f6b000b007d756e70617573650008007800006f6b000b007d75")
-          ++ hex (codes "6e706175736500"),
-        true,
-      )
-      ∷ [];
+  conns = (
+    greeted ++ hex (codes "08007800006f6b0009007d70617573650008007800006f6b000b007d756e70617573650008007800006f6b000b007d75")
+      ++ hex (codes "6e706175736500"),
+    true,
+  ) ∷ [];
   journal = entry 1 1 255 Pause 1 0 [] ∷ entry 1 1 255 Pause 0 0 [] ∷ entry 1 1 255 Pause 0 0 [] ∷ [];
   frames = (2, 2);
 }
@@ -146,17 +142,15 @@ unknown_lines = record {
   events = comes_aside 1 ++ gives_line 1 (codes "Pause") ∷ gives_line 1 (codes "pause ") ∷ gives_line 1 (codes " pause") ∷
       gives_line 1 (codes "say") ∷ gives_line 1 (codes "say ") ∷ gives_line 1 (codes "clients x") ∷ gives_line 1 [] ∷
       gives_line 1 (codes "saya") ∷ gives_line 1 (codes "quit now") ∷ [];
-  conns =
-      (
-        greeted ++ hex (codes "1500780000756e6b6e6f776e20636f6d6d616e640009007d5061757365001500780000756e6b6e6f776e20636f6d6d61")
-          ++ hex (codes "6e64000a007d706175736520001500780000756e6b6e6f776e20636f6d6d616e64000a007d2070617573650015007800")
-          ++ hex (codes "00756e6b6e6f776e20636f6d6d616e640007007d736179001500780000756e6b6e6f776e20636f6d6d616e640008007d")
-          ++ hex (codes "73617920001500780000756e6b6e6f776e20636f6d6d616e64000d007d636c69656e74732078001500780000756e6b6e")
-          ++ hex (codes "6f776e20636f6d6d616e640004007d001500780000756e6b6e6f776e20636f6d6d616e640008007d7361796100150078")
-          ++ hex (codes "0000756e6b6e6f776e20636f6d6d616e64000c007d71756974206e6f7700"),
-        true,
-      )
-      ∷ [];
+  conns = (
+    greeted ++ hex (codes "1500780000756e6b6e6f776e20636f6d6d616e640009007d5061757365001500780000756e6b6e6f776e20636f6d6d61")
+      ++ hex (codes "6e64000a007d706175736520001500780000756e6b6e6f776e20636f6d6d616e64000a007d2070617573650015007800")
+      ++ hex (codes "00756e6b6e6f776e20636f6d6d616e640007007d736179001500780000756e6b6e6f776e20636f6d6d616e640008007d")
+      ++ hex (codes "73617920001500780000756e6b6e6f776e20636f6d6d616e64000d007d636c69656e74732078001500780000756e6b6e")
+      ++ hex (codes "6f776e20636f6d6d616e640004007d001500780000756e6b6e6f776e20636f6d6d616e640008007d7361796100150078")
+      ++ hex (codes "0000756e6b6e6f776e20636f6d6d616e64000c007d71756974206e6f7700"),
+    true,
+  ) ∷ [];
   journal = [];
   frames = (0, 0);
 }
@@ -203,9 +197,7 @@ abbrev pub lists_no_companies : Game
 lists_no_companies = record {
   origin = admin_game;
   events = comes_aside 1 ++ gives_line 1 (codes "companies") ∷ [];
-  conns =
-      (greeted ++ hex (codes "0d007d636f6d70616e69657300"), true)
-      ∷ [];
+  conns = (greeted ++ hex (codes "0d007d636f6d70616e69657300"), true) ∷ [];
   journal = [];
   frames = (0, 0);
 }
@@ -215,9 +207,7 @@ abbrev pub quits_the_game : Game
 quits_the_game = record {
   origin = admin_game;
   events = opens_aside ∷ admin_joins 1 ∷ gives_line 1 (codes "quit") ∷ Tick ∷ [];
-  conns =
-      (greeted ++ hex (codes "08007800006f6b0008007d717569740003006a"), false)
-      ∷ [];
+  conns = (greeted ++ hex (codes "08007800006f6b0008007d717569740003006a"), false) ∷ [];
   journal = [];
   frames = (0, 0);
 }
@@ -243,11 +233,7 @@ abbrev pub stop_at_both_doors : Game
 stop_at_both_doors = record {
   origin = admin_game;
   events = (opens ∷ opens_aside ∷ []) ++ comes_aside 3 ++ Stop ∷ pings 3 1 ∷ [];
-  conns =
-      (hex (codes "030025"), false)
-      ∷ (hex (codes "03006a"), false)
-      ∷ (greeted ++ hex (codes "03006a"), false)
-      ∷ [];
+  conns = (hex (codes "030025"), false) ∷ (hex (codes "03006a"), false) ∷ (greeted ++ hex (codes "03006a"), false) ∷ [];
   journal = [];
   frames = (0, 0);
 }
