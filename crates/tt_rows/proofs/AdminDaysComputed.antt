@@ -10,6 +10,7 @@ use Rattle.md5.specs.Md5.{block_words, rounds, compress, hash_after, digest_byte
 use Rattle.hex.specs.Hex.{encode_with}
 use Rattle.tt_world.specs.Commands.{new_id, new_name}
 use Rattle.tt_log.specs.Rows.{word_at, rest_at, number_in, number_at as line_number_at}
+use Rattle.tt_rows.proofs.AllTold.{all_told}
 use Rattle.tt_rows.specs.Games.{ComesTo}
 use Rattle.tt_rows.specs.AdminDaysGames.{a_tick_in_order, each_day, each_month, each_quarter, each_week, each_year}
 use Rattle.tt_rows.specs.AdminDaysGames.{gone_before_its_day, only_asked, paused_days, told_once, types_in_order}
@@ -31,9 +32,9 @@ unfolding number_at within_at truth_at fixed_at before_zero text_at digest_at op
 computed = (
   ((refl, refl, tt), refl, refl, refl),
   ((refl, refl, tt), refl, refl, refl),
-  ((refl, refl, (refl, refl, (refl, refl, (refl, refl, (refl, refl, tt))))), refl, refl, refl),
-  ((refl, refl, (refl, refl, (refl, refl, (refl, refl, (refl, refl, tt))))), refl, refl, refl),
-  ((refl, refl, (refl, refl, (refl, refl, (refl, refl, (refl, refl, tt))))), refl, refl, refl),
+  (all_told each_month 1 each_month.conns refl, refl, refl, refl),
+  (all_told each_quarter 1 each_quarter.conns refl, refl, refl, refl),
+  (all_told each_year 1 each_year.conns refl, refl, refl, refl),
   ((refl, refl, tt), refl, refl, refl),
   ((refl, refl, (refl, refl, (refl, refl, tt))), refl, refl, refl),
   ((refl, refl, (refl, refl, tt)), refl, refl, refl),

@@ -10,6 +10,7 @@ use Rattle.md5.specs.Md5.{block_words, rounds, compress, hash_after, digest_byte
 use Rattle.hex.specs.Hex.{encode_with}
 use Rattle.tt_world.specs.Commands.{new_id, new_name}
 use Rattle.tt_log.specs.Rows.{word_at, rest_at, number_in, number_at as line_number_at}
+use Rattle.tt_rows.proofs.AllTold.{all_told}
 use Rattle.tt_rows.specs.Games.{ComesTo}
 use Rattle.tt_rows.specs.AdminJoinsGames.{another_password, before_joining, doors_apart, greeted_and_answered, greeted_elsewhere}
 use Rattle.tt_rows.specs.AdminJoinsGames.{joins_twice, just_in_time, leaves, names_wanted, no_password_set, packets_of_servers}
@@ -38,18 +39,15 @@ computed = (
   ((refl, refl, (refl, refl, tt)), refl, refl, refl),
   ((refl, refl, (refl, refl, (refl, refl, tt))), refl, refl, refl),
   ((refl, refl, (refl, refl, tt)), refl, refl, refl),
-  ((refl, refl, (refl, refl, (refl, refl, (refl, refl, tt)))), refl, refl, refl),
-  ((refl, refl, (refl, refl, (refl, refl, (refl, refl, (refl, refl, (refl, refl, (refl, refl,
-      (refl, refl, tt)))))))), refl, refl, refl),
+  (all_told another_password 1 another_password.conns refl, refl, refl, refl),
+  (all_told before_joining 1 before_joining.conns refl, refl, refl, refl),
   ((refl, refl, (refl, refl, (refl, refl, tt))), refl, refl, refl),
   ((refl, refl, (refl, refl, tt)), refl, refl, refl),
-  ((refl, refl, (refl, refl, (refl, refl, (refl, refl, (refl, refl, tt))))), refl, refl, refl),
+  (all_told spells_nothing 1 spells_nothing.conns refl, refl, refl, refl),
   ((refl, refl, (refl, refl, tt)), refl, refl, refl),
-  ((refl, refl, (refl, refl, (refl, refl, (refl, refl, (refl, refl, (refl, refl, (refl, refl, (refl, refl, (refl, refl,
-      (refl, refl, (refl, refl, (refl, refl, (refl, refl, (refl, refl, (refl, refl, (refl, refl, (refl, refl, (refl, refl,
-      (refl, refl, (refl, refl, tt)))))))))))))))))))), refl, refl, refl),
+  (all_told sixteen_aside 1 sixteen_aside.conns refl, refl, refl, refl),
   ((refl, refl, (refl, refl, (refl, refl, tt))), refl, refl, refl),
   ((refl, refl, tt), refl, refl, refl),
   ((refl, refl, (refl, refl, tt)), refl, refl, refl),
-  ((refl, refl, (refl, refl, (refl, refl, (refl, refl, tt)))), refl, refl, refl),
+  (all_told doors_apart 1 doors_apart.conns refl, refl, refl, refl),
 )

@@ -10,6 +10,7 @@ use Rattle.md5.specs.Md5.{block_words, rounds, compress, hash_after, digest_byte
 use Rattle.hex.specs.Hex.{encode_with}
 use Rattle.tt_world.specs.Commands.{new_id, new_name}
 use Rattle.tt_log.specs.Rows.{word_at, rest_at, number_in, number_at as line_number_at}
+use Rattle.tt_rows.proofs.AllTold.{all_told}
 use Rattle.tt_rows.specs.Games.{ComesTo}
 use Rattle.tt_rows.specs.AdminTalksGames.{admins_chat, news_of_chats, news_of_commands, news_of_lines, news_of_own_chats, no_news}
 use Rattle.tt_rows.specs.AdminTalksGames.{scripts_and_other_chats}
@@ -27,7 +28,7 @@ unfolding number_at within_at truth_at fixed_at before_zero text_at digest_at op
 computed = (
   ((refl, refl, (refl, refl, (refl, refl, tt))), refl, refl, refl),
   ((refl, refl, (refl, refl, tt)), refl, refl, refl),
-  ((refl, refl, (refl, refl, (refl, refl, (refl, refl, tt)))), refl, refl, refl),
+  (all_told admins_chat 1 admins_chat.conns refl, refl, refl, refl),
   ((refl, refl, (refl, refl, (refl, refl, tt))), refl, refl, refl),
   ((refl, refl, (refl, refl, tt)), refl, refl, refl),
   ((refl, refl, (refl, refl, (refl, refl, tt))), refl, refl, refl),

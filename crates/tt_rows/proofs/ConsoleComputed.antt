@@ -10,10 +10,12 @@ use Rattle.md5.specs.Md5.{block_words, rounds, compress, hash_after, digest_byte
 use Rattle.hex.specs.Hex.{encode_with}
 use Rattle.tt_world.specs.Commands.{new_id, new_name}
 use Rattle.tt_log.specs.Rows.{word_at, rest_at, number_in, number_at as line_number_at}
+use Rattle.tt_rows.proofs.AllTold.{all_told}
 use Rattle.tt_rows.specs.Games.{ComesTo, world_of_game}
-use Rattle.tt_rows.specs.ConsoleGames.{goes_on_again, kick_is_spelled, kicks, kicks_nobody, kicks_the_unwelcomed, lists_clients}
-use Rattle.tt_rows.specs.ConsoleGames.{lists_companies, lists_no_companies, pauses, quit_at_both_doors, quits_the_game, says_to_all}
-use Rattle.tt_rows.specs.ConsoleGames.{stop_at_both_doors, unknown_lines}
+use Rattle.tt_rows.specs.ConsoleGames.{goes_on_again, kick_is_spelled, kicks, kicks_nobody, kicks_the_downloader}
+use Rattle.tt_rows.specs.ConsoleGames.{kicks_the_unwelcomed, lists_clients, lists_companies, lists_no_companies, pauses}
+use Rattle.tt_rows.specs.ConsoleGames.{quit_at_both_doors, quits_before_joining, quits_the_game, says_to_all, stop_at_both_doors}
+use Rattle.tt_rows.specs.ConsoleGames.{unknown_lines}
 use Rattle.tt_rows.specs.Words.{world}
 
 pub computed : ComesTo pauses
@@ -22,6 +24,7 @@ pub computed : ComesTo pauses
     × (world_of_game goes_on_again ≡ world (1, 3217329428) 0 2 false [] [])
     × ComesTo kicks
     × ComesTo kicks_the_unwelcomed
+    × ComesTo kicks_the_downloader
     × ComesTo kicks_nobody
     × ComesTo kick_is_spelled
     × ComesTo says_to_all
@@ -30,6 +33,7 @@ pub computed : ComesTo pauses
     × ComesTo lists_companies
     × ComesTo lists_no_companies
     × ComesTo quits_the_game
+    × ComesTo quits_before_joining
     × ComesTo quit_at_both_doors
     × ComesTo stop_at_both_doors
 unfolding number_at within_at truth_at fixed_at before_zero text_at digest_at optional_digest_at raw_at items_at marked_at is_text
@@ -43,13 +47,15 @@ computed = (
   ((refl, refl, (refl, refl, (refl, refl, tt))), refl, refl, refl),
   ((refl, refl, (refl, refl, (refl, refl, tt))), refl, refl, refl),
   ((refl, refl, (refl, refl, (refl, refl, tt))), refl, refl, refl),
+  ((refl, refl, (refl, refl, (refl, refl, tt))), refl, refl, refl),
   ((refl, refl, (refl, refl, tt)), refl, refl, refl),
   ((refl, refl, (refl, refl, tt)), refl, refl, refl),
   ((refl, refl, tt), refl, refl, refl),
-  ((refl, refl, (refl, refl, (refl, refl, (refl, refl, tt)))), refl, refl, refl),
+  (all_told lists_clients 1 lists_clients.conns refl, refl, refl, refl),
   ((refl, refl, (refl, refl, tt)), refl, refl, refl),
   ((refl, refl, tt), refl, refl, refl),
   ((refl, refl, tt), refl, refl, refl),
-  ((refl, refl, (refl, refl, (refl, refl, (refl, refl, tt)))), refl, refl, refl),
+  ((refl, refl, (refl, refl, tt)), refl, refl, refl),
+  (all_told quit_at_both_doors 1 quit_at_both_doors.conns refl, refl, refl, refl),
   ((refl, refl, (refl, refl, (refl, refl, tt))), refl, refl, refl),
 )

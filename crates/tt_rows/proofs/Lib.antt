@@ -1,3 +1,4 @@
+pub mod AllTold
 pub mod TokensComputed
 pub mod SavedComputed
 pub mod EnteringComputed

@@ -20,7 +20,7 @@ use Rattle.tt_rows.specs.Words.{plain_game}
 
 pub computed :
     (accepted (admin_game_with 1) orders_of_two 1
-      ≡ (0, command IncreaseLoan 10000 []) ∷ (0, command PlaceSign 7 (codes "a")) ∷ (0, command IncreaseLoan 1 []) ∷ [])
+    ≡ (0, command IncreaseLoan 10000 []) ∷ (0, command PlaceSign 7 (codes "a")) ∷ (0, command IncreaseLoan 1 []) ∷ [])
     × (accepted (admin_game_with 1) orders_of_two 2 ≡ (0, command IncreaseLoan 20000 []) ∷ [])
     × (accepted (admin_game_with 1) orders_of_two 3 ≡ [])
     × (ordered (admin_game_with 1) orders_of_two ≡ [])

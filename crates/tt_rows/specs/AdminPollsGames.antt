@@ -13,19 +13,20 @@ abbrev pub debts_game : Origin
 debts_game = record {
   setup = record plain { admin_password = codes "pw" };
   start = world (0, 0) 0 0 false
-    ((0, company (neg_ℤ (pos 30000)) 300000 (codes "Company 1") (codes "President"))
+      ((0, company (neg_ℤ (pos 30000)) 300000 (codes "Company 1") (codes "President"))
       ∷ (2, company (pos 9000000000000000) 0 (codes "Company 3") (codes "President")) ∷ [])
-    (sign 0 2 5 (codes "a") ∷ sign 1 2 6 (codes "b") ∷ sign 4 0 7 (codes "c") ∷ []);
+      (sign 0 2 5 (codes "a") ∷ sign 1 2 6 (codes "b") ∷ sign 4 0 7 (codes "c") ∷ []);
 }
 
 -- A type above 9 is refused, and a bit that its type may not have, with others that it may.
 abbrev pub updates_not_allowed : Game
 updates_not_allowed = record {
   origin = admin_game;
-  events = comes_aside 1 ++ comes_aside 2 ++ comes_aside 3 ++ comes_aside 4 ++ wants_updates 1 10 0 ∷ wants_updates 2 0 64 ∷
-      wants_updates 3 3 63 ∷ wants_updates 4 7 65 ∷ [];
+  events = comes_aside 1 ++ comes_aside 2 ++ comes_aside 3 ++ comes_aside 4 ++ comes_aside 5 ++ wants_updates 1 10 0 ∷
+      wants_updates 2 0 64 ∷ wants_updates 3 3 63 ∷ wants_updates 4 7 65 ∷ wants_updates 5 256 2 ∷ [];
   conns =
       (greeted ++ hex (codes "04006604"), false)
+      ∷ (greeted ++ hex (codes "04006604"), false)
       ∷ (greeted ++ hex (codes "04006604"), false)
       ∷ (greeted ++ hex (codes "04006604"), false)
       ∷ (greeted ++ hex (codes "04006604"), false)
@@ -69,16 +70,15 @@ abbrev pub asks_for_the_day : Game
 asks_for_the_day = record {
   origin = before_day 30 0;
   events = comes_aside 1 ++ (polls_all 1 0 ∷ Tick ∷ polls 1 0 5 ∷ []) ++ comes_aside 2;
-  conns =
-      (
-        hex (codes "370067030100003f00010100410001020041000103003d000104003d0001050040000106004000010700010001080040")
-          ++ hex (codes "000109004000001c006847616d650031332e3400010000000000001d0000000001000107006b1d00000007006b1e0000")
-          ++ hex (codes "00"),
-        true,
-      )
+  conns = (
+    hex (codes "370067030100003f00010100410001020041000103003d000104003d0001050040000106004000010700010001080040")
+        ++ hex (codes "000109004000001c006847616d650031332e3400010000000000001d0000000001000107006b1d00000007006b1e0000")
+        ++ hex (codes "00"),
+    true,
+  )
       ∷ (
         hex (codes "370067030100003f00010100410001020041000103003d000104003d0001050040000106004000010700010001080040")
-          ++ hex (codes "000109004000001c006847616d650031332e3400010000000000001e00000000010001"),
+            ++ hex (codes "000109004000001c006847616d650031332e3400010000000000001e00000000010001"),
         true,
       )
       ∷ [];
@@ -98,7 +98,7 @@ asks_for_clients = record {
       ∷ ([], true)
       ∷ (
         greeted ++ hex (codes "0c006d03000000426f6200000c006d02000000416e6e00ff0c006d03000000426f62000007007e010000000c006d0200")
-          ++ hex (codes "0000416e6e00ff"),
+            ++ hex (codes "0000416e6e00ff"),
         true,
       )
       ∷ [];
@@ -111,20 +111,19 @@ abbrev pub asks_for_companies : Game
 asks_for_companies = record {
   origin = admin_game_with 2;
   events = (opens ∷ joins 1 ann 1 ∷ []) ++ enters 1 1 ++ (locks_company 1 noughts ∷ []) ++ comes_aside 2 ++ polls_all 2 2 ∷
-      polls 2 2 0 ∷ polls 2 2 2 ∷ pings 2 1 ∷ locks_company 1 [] ∷ polls 2 2 1 ∷ [];
-  conns =
-      (
-        hex (codes "0e000c020000000000000074740007000f000000000700108b0000008e00114f54544e0002000047414d450000000600")
-          ++ hex (codes "000000000052414e44000000080000000000000000434d50590000004b020000000000000186a0000186a0000493e009")
-          ++ hex (codes "436f6d70616e79203109507265736964656e740100000000000186a0000186a0000493e009436f6d70616e7920320950")
-          ++ hex (codes "7265736964656e745349474e000000020000454e4443000000000300120c001d0200000001416e6e000c001501000000")
-          ++ hex (codes "01000000ff"),
-        true,
-      )
+      polls 2 2 0 ∷ polls 2 2 2 ∷ polls 2 2 256 ∷ pings 2 1 ∷ locks_company 1 [] ∷ polls 2 2 1 ∷ [];
+  conns = (
+    hex (codes "0e000c020000000000000074740007000f000000000700108b0000008e00114f54544e0002000047414d450000000600")
+        ++ hex (codes "000000000052414e44000000080000000000000000434d50590000004b020000000000000186a0000186a0000493e009")
+        ++ hex (codes "436f6d70616e79203109507265736964656e740100000000000186a0000186a0000493e009436f6d70616e7920320950")
+        ++ hex (codes "7265736964656e745349474e000000020000454e4443000000000300120c001d0200000001416e6e000c001501000000")
+        ++ hex (codes "01000000ff"),
+    true,
+  )
       ∷ (
         greeted ++ hex (codes "19007200436f6d70616e79203100507265736964656e74000019007201436f6d70616e79203200507265736964656e74")
-          ++ hex (codes "000119007200436f6d70616e79203100507265736964656e74000007007e0100000019007201436f6d70616e79203200")
-          ++ hex (codes "507265736964656e740000"),
+            ++ hex (codes "000119007200436f6d70616e79203100507265736964656e74000007007e0100000019007201436f6d70616e79203200")
+            ++ hex (codes "507265736964656e740000"),
         true,
       )
       ∷ [];
@@ -139,7 +138,7 @@ asks_for_money = record {
   events = comes_aside 1 ++ polls_all 1 3 ∷ polls 1 3 2 ∷ polls 1 3 1 ∷ pings 1 1 ∷ [];
   conns = (
     greeted ++ hex (codes "10007500d08affffffffffffe0930400100075020080faca73f91f0000000000100075020080faca73f91f0000000000")
-      ++ hex (codes "07007e01000000"),
+        ++ hex (codes "07007e01000000"),
     true,
   ) ∷ [];
   journal = [];
@@ -163,11 +162,11 @@ asks_for_names = record {
   events = comes_aside 1 ++ polls_all 1 7 ∷ polls 1 7 3 ∷ [];
   conns = (
     greeted ++ hex (codes "82007a010000496e6372656173654c6f616e0001010044656372656173654c6f616e000102004769766500010300506c")
-      ++ hex (codes "6163655369676e0001040052656e616d655369676e0001050052656e616d65436f6d70616e790001060052656e616d65")
-      ++ hex (codes "507265736964656e74000107005061757365000108004e6577436f6d70616e79000082007a010000496e637265617365")
-      ++ hex (codes "4c6f616e0001010044656372656173654c6f616e000102004769766500010300506c6163655369676e0001040052656e")
-      ++ hex (codes "616d655369676e0001050052656e616d65436f6d70616e790001060052656e616d65507265736964656e740001070050")
-      ++ hex (codes "61757365000108004e6577436f6d70616e790000"),
+        ++ hex (codes "6163655369676e0001040052656e616d655369676e0001050052656e616d65436f6d70616e790001060052656e616d65")
+        ++ hex (codes "507265736964656e74000107005061757365000108004e6577436f6d70616e79000082007a010000496e637265617365")
+        ++ hex (codes "4c6f616e0001010044656372656173654c6f616e000102004769766500010300506c6163655369676e0001040052656e")
+        ++ hex (codes "616d655369676e0001050052656e616d65436f6d70616e790001060052656e616d65507265736964656e740001070050")
+        ++ hex (codes "61757365000108004e6577436f6d70616e790000"),
     true,
   ) ∷ [];
   journal = [];

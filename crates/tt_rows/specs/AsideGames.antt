@@ -20,7 +20,7 @@ without_admins = record {
   events = (opens ∷ founds 1 ann ∷ []) ++ enters 1 1 ++ Tick ∷ chats_to 1 0 0 (codes "a") ∷ Tick ∷ [];
   conns = (
     ann_came ++ hex (codes "140019ff080002000000000002000000010000000c001502000000020000000008002002000000000a001b0200000000")
-      ++ hex (codes "61000c0015030000000300000000"),
+        ++ hex (codes "61000c0015030000000300000000"),
     true,
   ) ∷ [];
   journal = entry 2 1 255 NewCompany 2 0 [] ∷ [];
@@ -36,16 +36,15 @@ with_admins = record {
       wants_updates 2 8 64 ∷ wants_updates 2 9 64 ∷ founds 1 ann ∷ []) ++ enters 1 1 ++ (polls_all 2 1 ∷ Tick ∷
       gives_line 2 (codes "clients") ∷ chats_to 1 0 0 (codes "a") ∷ pings 2 1 ∷ []) ++ comes_aside 3 ++
       wants_updates 3 10 1 ∷ Tick ∷ admin_quits 2 ∷ [];
-  conns =
-      (
-        ann_came ++ hex (codes "140019ff080002000000000002000000010000000c001502000000020000000008002002000000000a001b0200000000")
-          ++ hex (codes "61000c0015030000000300000000"),
-        true,
-      )
+  conns = (
+    ann_came ++ hex (codes "140019ff080002000000000002000000010000000c001502000000020000000008002002000000000a001b0200000000")
+        ++ hex (codes "61000c0015030000000300000000"),
+    true,
+  )
       ∷ (
         greeted ++ hex (codes "0c006d02000000416e6e00ff07006c020000000c006d02000000416e6e00ff0e007f01000000ff080002000000040071")
-          ++ hex (codes "0019007200436f6d70616e79203100507265736964656e7400000c006e02000000416e6e000011007961646d696e0063")
-          ++ hex (codes "6c69656e7473000d0078000032203020416e6e000b007d636c69656e7473000a00770002000000610007007e01000000"),
+            ++ hex (codes "0019007200436f6d70616e79203100507265736964656e7400000c006e02000000416e6e000011007961646d696e0063")
+            ++ hex (codes "6c69656e7473000d0078000032203020416e6e000b007d636c69656e7473000a00770002000000610007007e01000000"),
         false,
       )
       ∷ (greeted ++ hex (codes "04006604"), false)

@@ -2,8 +2,7 @@
 use Rattle.tt_rows.specs.Games.{Game}
 use Rattle.tt_world.specs.declared.command.Code.TheVariants.{IncreaseLoan, DecreaseLoan, Give, PlaceSign, RenameSign, RenameCompany}
 use Rattle.tt_world.specs.declared.command.Code.TheVariants.{RenamePresident, NewCompany}
-use Rattle.std.specs.Prelude.{List, [], ◌∷◌, ◌++◌, replicate, codes, true, false}
-use Rattle.tt_edge.specs.declared.event.Event.{Event}
+use Rattle.std.specs.Prelude.{[], ◌∷◌, ◌++◌, replicate, codes, true, false}
 use Rattle.tt_edge.specs.declared.event.Event.TheVariants.{Tick}
 use Rattle.tt_world.specs.Setup.{plain}
 use Rattle.tt_log.specs.Origin.{Origin}

@@ -2,7 +2,7 @@
 use Rattle.std.specs.Prelude.{[], codes, false, true, ◌++◌, ◌∷◌}
 use Rattle.tt_edge.specs.declared.event.Event.TheVariants.{Stop, Tick}
 use Rattle.tt_world.specs.declared.command.Code.TheVariants.{Pause}
-use Rattle.tt_rows.specs.Words.{ann, bob, cid, entry, hex, joins, opens, quits, spectates}
+use Rattle.tt_rows.specs.Words.{ann, asks_for_map, bob, cid, entry, hex, joins, opens, quits, spectates}
 use Rattle.tt_rows.specs.AdminWords.{admin_game, admin_game_with, admin_joins, ann_came, comes_aside, enters, gives_line, greeted}
 use Rattle.tt_rows.specs.AdminWords.{opens_aside, pings, wants_updates}
 use Rattle.tt_rows.specs.AdminPollsGames.{debts_game}
@@ -26,7 +26,7 @@ goes_on_again = record {
       Tick ∷ Tick ∷ [];
   conns = (
     greeted ++ hex (codes "08007800006f6b0009007d70617573650008007800006f6b000b007d756e70617573650008007800006f6b000b007d75")
-      ++ hex (codes "6e706175736500"),
+        ++ hex (codes "6e706175736500"),
     true,
   ) ∷ [];
   journal = entry 1 1 255 Pause 1 0 [] ∷ entry 1 1 255 Pause 0 0 [] ∷ entry 1 1 255 Pause 0 0 [] ∷ [];
@@ -39,18 +39,17 @@ kicks = record {
   origin = admin_game;
   events = (opens ∷ opens ∷ spectates 1 ann ∷ spectates 2 bob ∷ []) ++ enters 1 1 ++ enters 2 2 ++ comes_aside 3 ++
       wants_updates 3 1 64 ∷ gives_line 3 (codes "kick 2") ∷ [];
-  conns =
-      (
-        hex (codes "0e000c020000000000000074740007000f00000000070010410000004400114f54544e0002000047414d450000000600")
-          ++ hex (codes "000000000052414e44000000080000000000000000434d505900000001005349474e000000020000454e444300000000")
-          ++ hex (codes "0300120c001d02000000ff416e6e000c001d03000000ff426f62000c00150100000001000000ff0c0015020000000200")
-          ++ hex (codes "000000070014030000000400030c"),
-        false,
-      )
+  conns = (
+    hex (codes "0e000c020000000000000074740007000f00000000070010410000004400114f54544e0002000047414d450000000600")
+        ++ hex (codes "000000000052414e44000000080000000000000000434d505900000001005349474e000000020000454e444300000000")
+        ++ hex (codes "0300120c001d02000000ff416e6e000c001d03000000ff426f62000c00150100000001000000ff0c0015020000000200")
+        ++ hex (codes "000000070014030000000400030c"),
+    false,
+  )
       ∷ (
         hex (codes "0e000c030000000000000074740007000f01000000070010410000004400114f54544e0002000047414d450000000600")
-          ++ hex (codes "000000010052414e4400000008fe2468adffffffff434d505900000001005349474e000000020000454e444300000000")
-          ++ hex (codes "0300120c001d02000000ff416e6e000c001d03000000ff426f62000c00150200000002000000c0080022020000000c"),
+            ++ hex (codes "000000010052414e4400000008fe2468adffffffff434d505900000001005349474e000000020000454e444300000000")
+            ++ hex (codes "0300120c001d02000000ff416e6e000c001d03000000ff426f62000c00150200000002000000c0080022020000000c"),
         true,
       )
       ∷ (greeted ++ hex (codes "08007800006f6b000a007d6b69636b203200080070020000000c"), true)
@@ -74,6 +73,21 @@ kicks_the_unwelcomed = record {
   frames = (1, 1);
 }
 
+-- Its place in the queue is free, and the next one downloads.
+abbrev pub kicks_the_downloader : Game
+kicks_the_downloader = record {
+  origin = admin_game;
+  events = (opens ∷ opens ∷ spectates 1 ann ∷ spectates 2 bob ∷ asks_for_map 1 ∷ asks_for_map 2 ∷ []) ++ comes_aside 3 ++
+      gives_line 3 (codes "kick 2") ∷ [];
+  conns =
+      (hex (codes "0e000c020000000000000074740007000f00000000070010410000000400030c"), false)
+      ∷ (hex (codes "0e000c030000000000000074740004000e0107000f0000000007001041000000"), true)
+      ∷ (greeted ++ hex (codes "08007800006f6b000a007d6b69636b203200"), true)
+      ∷ [];
+  journal = [];
+  frames = (0, 0);
+}
+
 -- Client 1 is the server itself and no member; nor is one that is gone, or that never was.
 abbrev pub kicks_nobody : Game
 kicks_nobody = record {
@@ -85,8 +99,8 @@ kicks_nobody = record {
       ∷ ([], true)
       ∷ (
         greeted ++ hex (codes "14007800006e6f207375636820636c69656e74000a007d6b69636b20310014007800006e6f207375636820636c69656e")
-          ++ hex (codes "74000a007d6b69636b20320014007800006e6f207375636820636c69656e740013007d6b69636b203432393439363732")
-          ++ hex (codes "39350014007800006e6f207375636820636c69656e74000a007d6b69636b203000"),
+            ++ hex (codes "74000a007d6b69636b20320014007800006e6f207375636820636c69656e740013007d6b69636b203432393439363732")
+            ++ hex (codes "39350014007800006e6f207375636820636c69656e74000a007d6b69636b203000"),
         true,
       )
       ∷ [];
@@ -105,11 +119,11 @@ kick_is_spelled = record {
       ([], true)
       ∷ (
         greeted ++ hex (codes "1500780000756e6b6e6f776e20636f6d6d616e64000b007d6b69636b203032001500780000756e6b6e6f776e20636f6d")
-          ++ hex (codes "6d616e640008007d6b69636b001500780000756e6b6e6f776e20636f6d6d616e640009007d6b69636b20001500780000")
-          ++ hex (codes "756e6b6e6f776e20636f6d6d616e64000b007d6b69636b202032001500780000756e6b6e6f776e20636f6d6d616e6400")
-          ++ hex (codes "13007d6b69636b2034323934393637323936001500780000756e6b6e6f776e20636f6d6d616e64000c007d6b69636b20")
-          ++ hex (codes "322032001500780000756e6b6e6f776e20636f6d6d616e64000b007d6b69636b203220001500780000756e6b6e6f776e")
-          ++ hex (codes "20636f6d6d616e64000a007d6b69636b207800"),
+            ++ hex (codes "6d616e640008007d6b69636b001500780000756e6b6e6f776e20636f6d6d616e640009007d6b69636b20001500780000")
+            ++ hex (codes "756e6b6e6f776e20636f6d6d616e64000b007d6b69636b202032001500780000756e6b6e6f776e20636f6d6d616e6400")
+            ++ hex (codes "13007d6b69636b2034323934393637323936001500780000756e6b6e6f776e20636f6d6d616e64000c007d6b69636b20")
+            ++ hex (codes "322032001500780000756e6b6e6f776e20636f6d6d616e64000b007d6b69636b203220001500780000756e6b6e6f776e")
+            ++ hex (codes "20636f6d6d616e64000a007d6b69636b207800"),
         true,
       )
       ∷ [];
@@ -127,7 +141,7 @@ says_to_all = record {
       (ann_came ++ hex (codes "0c001b0100000000612062000b001b0100000000206300"), true)
       ∷ (
         greeted ++ hex (codes "08007800006f6b000b007d73617920612062000c007700010000006120620008007800006f6b000a007d736179202063")
-          ++ hex (codes "000b00770001000000206300"),
+            ++ hex (codes "000b00770001000000206300"),
         true,
       )
       ∷ [];
@@ -144,11 +158,11 @@ unknown_lines = record {
       gives_line 1 (codes "saya") ∷ gives_line 1 (codes "quit now") ∷ [];
   conns = (
     greeted ++ hex (codes "1500780000756e6b6e6f776e20636f6d6d616e640009007d5061757365001500780000756e6b6e6f776e20636f6d6d61")
-      ++ hex (codes "6e64000a007d706175736520001500780000756e6b6e6f776e20636f6d6d616e64000a007d2070617573650015007800")
-      ++ hex (codes "00756e6b6e6f776e20636f6d6d616e640007007d736179001500780000756e6b6e6f776e20636f6d6d616e640008007d")
-      ++ hex (codes "73617920001500780000756e6b6e6f776e20636f6d6d616e64000d007d636c69656e74732078001500780000756e6b6e")
-      ++ hex (codes "6f776e20636f6d6d616e640004007d001500780000756e6b6e6f776e20636f6d6d616e640008007d7361796100150078")
-      ++ hex (codes "0000756e6b6e6f776e20636f6d6d616e64000c007d71756974206e6f7700"),
+        ++ hex (codes "6e64000a007d706175736520001500780000756e6b6e6f776e20636f6d6d616e64000a007d2070617573650015007800")
+        ++ hex (codes "00756e6b6e6f776e20636f6d6d616e640007007d736179001500780000756e6b6e6f776e20636f6d6d616e640008007d")
+        ++ hex (codes "73617920001500780000756e6b6e6f776e20636f6d6d616e64000d007d636c69656e74732078001500780000756e6b6e")
+        ++ hex (codes "6f776e20636f6d6d616e640004007d001500780000756e6b6e6f776e20636f6d6d616e640008007d7361796100150078")
+        ++ hex (codes "0000756e6b6e6f776e20636f6d6d616e64000c007d71756974206e6f7700"),
     true,
   ) ∷ [];
   journal = [];
@@ -167,7 +181,7 @@ lists_clients = record {
       ∷ (hex (codes "0e000c0400000000000000747400"), false)
       ∷ (
         greeted ++ hex (codes "1200780000322032353520416e6e202331000d0078000034203020436964000b007d636c69656e7473000b007d636c69")
-          ++ hex (codes "656e747300"),
+            ++ hex (codes "656e747300"),
         true,
       )
       ∷ [];
@@ -184,7 +198,7 @@ lists_companies = record {
       (greeted, true)
       ∷ (
         greeted ++ hex (codes "1f0078000030202d33303030302033303030303020436f6d70616e792031002400780000322039303030303030303030")
-          ++ hex (codes "303030303030203020436f6d70616e792033000d007d636f6d70616e69657300"),
+            ++ hex (codes "303030303030203020436f6d70616e792033000d007d636f6d70616e69657300"),
         true,
       )
       ∷ [];
@@ -210,6 +224,16 @@ quits_the_game = record {
   conns = (greeted ++ hex (codes "08007800006f6b0008007d717569740003006a"), false) ∷ [];
   journal = [];
   frames = (0, 0);
+}
+
+-- Before JOIN `quit` is refused as any line is, and the game goes on.
+abbrev pub quits_before_joining : Game
+quits_before_joining = record {
+  origin = admin_game;
+  events = opens ∷ opens_aside ∷ gives_line 2 (codes "quit") ∷ Tick ∷ [];
+  conns = ([], true) ∷ (hex (codes "04006607"), false) ∷ [];
+  journal = [];
+  frames = (1, 1);
 }
 
 -- All that live are told so at both doors, in whatever status, and no admin is told of their ends.

@@ -1,5 +1,5 @@
 -- Ways into a game that the first games leave out.
-use Rattle.std.specs.Prelude.{List, [], ◌∷◌, ◌++◌, true, false, codes}
+use Rattle.std.specs.Prelude.{[], ◌∷◌, ◌++◌, true, false, codes}
 use Rattle.tt_edge.specs.declared.event.Event.TheVariants.{Shut, Tick}
 use Rattle.tt_world.specs.Setup.{plain}
 use Rattle.tt_rows.specs.Words.{plain_game, made_from, with_companies, hex, opens, ann, bob, cid, dan, joins, spectates, founds}

@@ -4,7 +4,7 @@ use Rattle.tt_edge.specs.declared.event.Event.{Event}
 use Rattle.tt_world.specs.declared.command.Entry.{Entry}
 use Rattle.tt_world.specs.World.{WorldState}
 use Rattle.tt_log.specs.Origin.{Origin}
-use Rattle.tt_log.specs.Table.{Table, is_live}
+use Rattle.tt_log.specs.Table.{is_live}
 use Rattle.tt_log.specs.History.{table_of, journal_of, world_behind}
 use Rattle.tt_log.specs.Told.{sent}
 

@@ -1,5 +1,5 @@
 -- Limits of time and cost that the first games leave out.
-use Rattle.std.specs.Prelude.{List, [], ◌∷◌, ◌++◌, true, false, replicate, codes}
+use Rattle.std.specs.Prelude.{[], ◌∷◌, ◌++◌, true, false, replicate, codes}
 use Rattle.tt_edge.specs.declared.event.Event.TheVariants.{Tick}
 use Rattle.tt_world.specs.Setup.{plain}
 use Rattle.tt_rows.specs.Words.{plain_game, made_from, with_companies, hex, opens, ann, bob, cid, joins, spectates, asks_for_map}

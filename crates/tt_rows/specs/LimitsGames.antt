@@ -1,7 +1,6 @@
 -- Time limits and acknowledgements: lists of events, and what a game is made from that is not plain.
 use Rattle.tt_rows.specs.Games.{Game}
-use Rattle.std.specs.Prelude.{List, [], ◌∷◌, ◌++◌, replicate, codes, true, false}
-use Rattle.tt_edge.specs.declared.event.Event.{Event}
+use Rattle.std.specs.Prelude.{[], ◌∷◌, ◌++◌, replicate, codes, true, false}
 use Rattle.tt_edge.specs.declared.event.Event.TheVariants.{Tick}
 use Rattle.tt_world.specs.Setup.{plain}
 use Rattle.tt_log.specs.Origin.{Origin}

@@ -1,5 +1,5 @@
 -- What those that play do, where the first games leave it out.
-use Rattle.std.specs.Prelude.{List, [], ◌∷◌, ◌++◌, true, false, codes}
+use Rattle.std.specs.Prelude.{[], ◌∷◌, ◌++◌, true, false, codes}
 use Rattle.tt_edge.specs.declared.event.Event.TheVariants.{Tick}
 use Rattle.tt_world.specs.Setup.{plain}
 use Rattle.tt_world.specs.declared.command.Code.TheVariants.{IncreaseLoan, NewCompany}

@@ -1,5 +1,5 @@
 -- Streams that no server sends, and some that it may: what each shows a client.
-use Rattle.std.specs.Prelude.{◌≡◌, ℕ, List, [], ◌∷◌, ◌++◌, codes}
+use Rattle.std.specs.Prelude.{◌≡◌, ℕ, List, [], ◌++◌, codes}
 use Rattle.tt_world.specs.World.{WorldState}
 use Rattle.tt_world.specs.declared.command.Entry.{Entry}
 use Rattle.tt_lockstep.specs.Shown as lockstep

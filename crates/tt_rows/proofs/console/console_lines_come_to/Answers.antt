@@ -19,32 +19,38 @@ returns-clause-kicks c = computed.4
 pub returns-clause-kicks_the_unwelcomed : goal.returns-clause-kicks_the_unwelcomed
 returns-clause-kicks_the_unwelcomed c = computed.5
 
+pub returns-clause-kicks_the_downloader : goal.returns-clause-kicks_the_downloader
+returns-clause-kicks_the_downloader c = computed.6
+
 pub returns-clause-kicks_nobody : goal.returns-clause-kicks_nobody
-returns-clause-kicks_nobody c = computed.6
+returns-clause-kicks_nobody c = computed.7
 
 pub returns-clause-kick_is_spelled : goal.returns-clause-kick_is_spelled
-returns-clause-kick_is_spelled c = computed.7
+returns-clause-kick_is_spelled c = computed.8
 
 pub returns-clause-says_to_all : goal.returns-clause-says_to_all
-returns-clause-says_to_all c = computed.8
+returns-clause-says_to_all c = computed.9
 
 pub returns-clause-unknown_lines : goal.returns-clause-unknown_lines
-returns-clause-unknown_lines c = computed.9
+returns-clause-unknown_lines c = computed.10
 
 pub returns-clause-lists_clients : goal.returns-clause-lists_clients
-returns-clause-lists_clients c = computed.10
+returns-clause-lists_clients c = computed.11
 
 pub returns-clause-lists_companies : goal.returns-clause-lists_companies
-returns-clause-lists_companies c = computed.11
+returns-clause-lists_companies c = computed.12
 
 pub returns-clause-lists_no_companies : goal.returns-clause-lists_no_companies
-returns-clause-lists_no_companies c = computed.12
+returns-clause-lists_no_companies c = computed.13
 
 pub returns-clause-quits_the_game : goal.returns-clause-quits_the_game
-returns-clause-quits_the_game c = computed.13
+returns-clause-quits_the_game c = computed.14
+
+pub returns-clause-quits_before_joining : goal.returns-clause-quits_before_joining
+returns-clause-quits_before_joining c = computed.15
 
 pub returns-clause-quit_at_both_doors : goal.returns-clause-quit_at_both_doors
-returns-clause-quit_at_both_doors c = computed.14
+returns-clause-quit_at_both_doors c = computed.16
 
 pub returns-clause-stop_at_both_doors : goal.returns-clause-stop_at_both_doors
-returns-clause-stop_at_both_doors c = computed.15
+returns-clause-stop_at_both_doors c = computed.17
