@@ -5,7 +5,7 @@ use Rattle.tt_world.specs.Setup.{plain}
 use Rattle.tt_world.specs.declared.command.Code.TheVariants.{NewCompany, Pause}
 use Rattle.tt_log.specs.Origin.{Origin}
 use Rattle.tt_rows.specs.Words.{acknowledges, ann, asks_for_map, bob, entry, founds, has_loaded, hex, opens, spectates, world}
-use Rattle.tt_rows.specs.AdminWords.{before_day, comes_aside, gives_line, opens_aside, pings, wants_updates}
+use Rattle.tt_rows.specs.AdminWords.{before_day, comes_aside, gives_line, greeted_on, opens_aside, pings, wants_updates}
 use Rattle.tt_rows.specs.Games.{Game}
 
 -- a game that begins four ticks before a day, and in which there is little time to join
@@ -20,12 +20,7 @@ abbrev pub each_day : Game
 each_day = record {
   origin = before_day 5 0;
   events = comes_aside 1 ++ (wants_updates 1 0 2 ∷ Tick ∷ pings 1 1 ∷ []) ++ replicate 73 Tick ++ pings 1 2 ∷ Tick ∷ [];
-  conns = (
-    hex (codes "370067030100003f00010100410001020041000103003d000104003d0001050040000106004000010700010001080040")
-        ++ hex (codes "000109004000001c006847616d650031332e340001000000000000040000000001000107006b0500000007007e010000")
-        ++ hex (codes "0007007e0200000007006b06000000"),
-    true,
-  ) ∷ [];
+  conns = (greeted_on 4 ++ hex (codes "07006b0500000007007e0100000007007e0200000007006b06000000"), true) ∷ [];
   journal = [];
   frames = (75, 75);
 }
@@ -35,12 +30,7 @@ abbrev pub each_week : Game
 each_week = record {
   origin = before_day 6 0;
   events = comes_aside 1 ++ (wants_updates 1 0 4 ∷ Tick ∷ pings 1 1 ∷ []) ++ replicate 73 Tick ++ pings 1 2 ∷ Tick ∷ [];
-  conns = (
-    hex (codes "370067030100003f00010100410001020041000103003d000104003d0001050040000106004000010700010001080040")
-        ++ hex (codes "000109004000001c006847616d650031332e340001000000000000050000000001000107007e0100000007007e020000")
-        ++ hex (codes "0007006b07000000"),
-    true,
-  ) ∷ [];
+  conns = (greeted_on 5 ++ hex (codes "07007e0100000007007e0200000007006b07000000"), true) ∷ [];
   journal = [];
   frames = (75, 75);
 }
@@ -51,31 +41,12 @@ each_month = record {
   origin = before_day 30 0;
   events = comes_aside 1 ++ comes_aside 2 ++ comes_aside 3 ++ comes_aside 4 ++ comes_aside 5 ++ wants_updates 1 0 2 ∷
       wants_updates 2 0 4 ∷ wants_updates 3 0 8 ∷ wants_updates 4 0 16 ∷ wants_updates 5 0 32 ∷ Tick ∷ [];
-  conns = (
-    hex (codes "370067030100003f00010100410001020041000103003d000104003d0001050040000106004000010700010001080040")
-        ++ hex (codes "000109004000001c006847616d650031332e3400010000000000001d0000000001000107006b1e000000"),
-    true,
-  )
-      ∷ (
-        hex (codes "370067030100003f00010100410001020041000103003d000104003d0001050040000106004000010700010001080040")
-            ++ hex (codes "000109004000001c006847616d650031332e3400010000000000001d00000000010001"),
-        true,
-      )
-      ∷ (
-        hex (codes "370067030100003f00010100410001020041000103003d000104003d0001050040000106004000010700010001080040")
-            ++ hex (codes "000109004000001c006847616d650031332e3400010000000000001d0000000001000107006b1e000000"),
-        true,
-      )
-      ∷ (
-        hex (codes "370067030100003f00010100410001020041000103003d000104003d0001050040000106004000010700010001080040")
-            ++ hex (codes "000109004000001c006847616d650031332e3400010000000000001d00000000010001"),
-        true,
-      )
-      ∷ (
-        hex (codes "370067030100003f00010100410001020041000103003d000104003d0001050040000106004000010700010001080040")
-            ++ hex (codes "000109004000001c006847616d650031332e3400010000000000001d00000000010001"),
-        true,
-      )
+  conns =
+      (greeted_on 29 ++ hex (codes "07006b1e000000"), true)
+      ∷ (greeted_on 29, true)
+      ∷ (greeted_on 29 ++ hex (codes "07006b1e000000"), true)
+      ∷ (greeted_on 29, true)
+      ∷ (greeted_on 29, true)
       ∷ [];
   journal = [];
   frames = (1, 1);
@@ -87,31 +58,12 @@ each_quarter = record {
   origin = before_day 90 0;
   events = comes_aside 1 ++ comes_aside 2 ++ comes_aside 3 ++ comes_aside 4 ++ comes_aside 5 ++ wants_updates 1 0 2 ∷
       wants_updates 2 0 4 ∷ wants_updates 3 0 8 ∷ wants_updates 4 0 16 ∷ wants_updates 5 0 32 ∷ Tick ∷ [];
-  conns = (
-    hex (codes "370067030100003f00010100410001020041000103003d000104003d0001050040000106004000010700010001080040")
-        ++ hex (codes "000109004000001c006847616d650031332e340001000000000000590000000001000107006b5a000000"),
-    true,
-  )
-      ∷ (
-        hex (codes "370067030100003f00010100410001020041000103003d000104003d0001050040000106004000010700010001080040")
-            ++ hex (codes "000109004000001c006847616d650031332e3400010000000000005900000000010001"),
-        true,
-      )
-      ∷ (
-        hex (codes "370067030100003f00010100410001020041000103003d000104003d0001050040000106004000010700010001080040")
-            ++ hex (codes "000109004000001c006847616d650031332e340001000000000000590000000001000107006b5a000000"),
-        true,
-      )
-      ∷ (
-        hex (codes "370067030100003f00010100410001020041000103003d000104003d0001050040000106004000010700010001080040")
-            ++ hex (codes "000109004000001c006847616d650031332e340001000000000000590000000001000107006b5a000000"),
-        true,
-      )
-      ∷ (
-        hex (codes "370067030100003f00010100410001020041000103003d000104003d0001050040000106004000010700010001080040")
-            ++ hex (codes "000109004000001c006847616d650031332e3400010000000000005900000000010001"),
-        true,
-      )
+  conns =
+      (greeted_on 89 ++ hex (codes "07006b5a000000"), true)
+      ∷ (greeted_on 89, true)
+      ∷ (greeted_on 89 ++ hex (codes "07006b5a000000"), true)
+      ∷ (greeted_on 89 ++ hex (codes "07006b5a000000"), true)
+      ∷ (greeted_on 89, true)
       ∷ [];
   journal = [];
   frames = (1, 1);
@@ -123,31 +75,12 @@ each_year = record {
   origin = before_day 360 0;
   events = comes_aside 1 ++ comes_aside 2 ++ comes_aside 3 ++ comes_aside 4 ++ comes_aside 5 ++ wants_updates 1 0 2 ∷
       wants_updates 2 0 4 ∷ wants_updates 3 0 8 ∷ wants_updates 4 0 16 ∷ wants_updates 5 0 32 ∷ Tick ∷ [];
-  conns = (
-    hex (codes "370067030100003f00010100410001020041000103003d000104003d0001050040000106004000010700010001080040")
-        ++ hex (codes "000109004000001c006847616d650031332e340001000000000000670100000001000107006b68010000"),
-    true,
-  )
-      ∷ (
-        hex (codes "370067030100003f00010100410001020041000103003d000104003d0001050040000106004000010700010001080040")
-            ++ hex (codes "000109004000001c006847616d650031332e3400010000000000006701000000010001"),
-        true,
-      )
-      ∷ (
-        hex (codes "370067030100003f00010100410001020041000103003d000104003d0001050040000106004000010700010001080040")
-            ++ hex (codes "000109004000001c006847616d650031332e340001000000000000670100000001000107006b68010000"),
-        true,
-      )
-      ∷ (
-        hex (codes "370067030100003f00010100410001020041000103003d000104003d0001050040000106004000010700010001080040")
-            ++ hex (codes "000109004000001c006847616d650031332e340001000000000000670100000001000107006b68010000"),
-        true,
-      )
-      ∷ (
-        hex (codes "370067030100003f00010100410001020041000103003d000104003d0001050040000106004000010700010001080040")
-            ++ hex (codes "000109004000001c006847616d650031332e340001000000000000670100000001000107006b68010000"),
-        true,
-      )
+  conns =
+      (greeted_on 359 ++ hex (codes "07006b68010000"), true)
+      ∷ (greeted_on 359, true)
+      ∷ (greeted_on 359 ++ hex (codes "07006b68010000"), true)
+      ∷ (greeted_on 359 ++ hex (codes "07006b68010000"), true)
+      ∷ (greeted_on 359 ++ hex (codes "07006b68010000"), true)
       ∷ [];
   journal = [];
   frames = (1, 1);
@@ -158,32 +91,25 @@ abbrev pub told_once : Game
 told_once = record {
   origin = before_day 360 0;
   events = comes_aside 1 ++ wants_updates 1 0 63 ∷ Tick ∷ [];
-  conns = (
-    hex (codes "370067030100003f00010100410001020041000103003d000104003d0001050040000106004000010700010001080040")
-        ++ hex (codes "000109004000001c006847616d650031332e340001000000000000670100000001000107006b68010000"),
-    true,
-  ) ∷ [];
+  conns = (greeted_on 359 ++ hex (codes "07006b68010000"), true) ∷ [];
   journal = [];
   frames = (1, 1);
 }
 
--- The day, the money and the signs of each company are told in this order, to the admins in order of arrival; money is that of the new day.
+-- The day, then the money and then the signs of each company, to each admin; the money is that of the new day.
 abbrev pub types_in_order : Game
 types_in_order = record {
   origin = before_day 30 2;
   events = comes_aside 1 ++ (opens_aside ∷ []) ++ comes_aside 3 ++ wants_updates 3 4 12 ∷ wants_updates 3 3 8 ∷
       wants_updates 3 0 8 ∷ wants_updates 1 4 8 ∷ wants_updates 1 3 12 ∷ wants_updates 1 0 16 ∷ Tick ∷ [];
   conns = (
-    hex (codes "370067030100003f00010100410001020041000103003d000104003d0001050040000106004000010700010001080040")
-        ++ hex (codes "000109004000001c006847616d650031332e3400010000000000001d0000000001000110007500e788010000000000a0")
-        ++ hex (codes "860100100075017786010000000000a0860100060076000000060076010000"),
+    greeted_on 29 ++ hex (codes "10007500e788010000000000a0860100100075017786010000000000a0860100060076000000060076010000"),
     true,
   )
       ∷ ([], true)
       ∷ (
-        hex (codes "370067030100003f00010100410001020041000103003d000104003d0001050040000106004000010700010001080040")
-            ++ hex (codes "000109004000001c006847616d650031332e3400010000000000001d0000000001000107006b1e00000010007500e788")
-            ++ hex (codes "010000000000a0860100100075017786010000000000a0860100060076000000060076010000"),
+        greeted_on 29 ++ hex (codes "07006b1e00000010007500e788010000000000a0860100100075017786010000000000a0860100060076000000060076")
+            ++ hex (codes "010000"),
         true,
       )
       ∷ [];
@@ -197,16 +123,9 @@ only_asked = record {
   origin = before_day 7 0;
   events = comes_aside 1 ++ comes_aside 2 ++ wants_updates 1 0 1 ∷ wants_updates 2 0 4 ∷ wants_updates 2 0 8 ∷ Tick ∷
       pings 1 1 ∷ pings 2 1 ∷ [];
-  conns = (
-    hex (codes "370067030100003f00010100410001020041000103003d000104003d0001050040000106004000010700010001080040")
-        ++ hex (codes "000109004000001c006847616d650031332e340001000000000000060000000001000107007e01000000"),
-    true,
-  )
-      ∷ (
-        hex (codes "370067030100003f00010100410001020041000103003d000104003d0001050040000106004000010700010001080040")
-            ++ hex (codes "000109004000001c006847616d650031332e340001000000000000060000000001000107007e01000000"),
-        true,
-      )
+  conns =
+      (greeted_on 6 ++ hex (codes "07007e01000000"), true)
+      ∷ (greeted_on 6 ++ hex (codes "07007e01000000"), true)
       ∷ [];
   journal = [];
   frames = (1, 1);
@@ -219,9 +138,7 @@ paused_days = record {
   events = comes_aside 1 ++ wants_updates 1 0 63 ∷ gives_line 1 (codes "pause") ∷ Tick ∷ Tick ∷
       gives_line 1 (codes "unpause") ∷ Tick ∷ Tick ∷ [];
   conns = (
-    hex (codes "370067030100003f00010100410001020041000103003d000104003d0001050040000106004000010700010001080040")
-        ++ hex (codes "000109004000001c006847616d650031332e340001000000000000060000000001000108007800006f6b0009007d7061")
-        ++ hex (codes "7573650008007800006f6b000b007d756e70617573650007006b07000000"),
+    greeted_on 6 ++ hex (codes "08007800006f6b0009007d70617573650008007800006f6b000b007d756e70617573650007006b07000000"),
     true,
   ) ∷ [];
   journal = entry 1 1 255 Pause 1 0 [] ∷ entry 3 1 255 Pause 0 0 [] ∷ [];
@@ -236,11 +153,9 @@ a_tick_in_order = record {
       wants_updates 1 3 4 ∷ wants_updates 1 4 4 ∷ opens ∷ opens ∷ founds 2 ann ∷ spectates 3 bob ∷ asks_for_map 2 ∷ Tick ∷
       has_loaded 2 ∷ Tick ∷ Tick ∷ acknowledges 2 0 ∷ Tick ∷ [];
   conns = (
-    hex (codes "370067030100003f00010100410001020041000103003d000104003d0001050040000106004000010700010001080040")
-        ++ hex (codes "000109004000001c006847616d650031332e34000100000000000006000000000100010c006d02000000416e6e00ff0c")
-        ++ hex (codes "006d03000000426f6200ff07006c020000000e007f01000000ff0800040000000400710019007200436f6d70616e7920")
-        ++ hex (codes "3100507265736964656e7400000c006e02000000416e6e0000080070030000001107006b0700000010007500fd880100")
-        ++ hex (codes "00000000a0860100060076000000"),
+    greeted_on 6 ++ hex (codes "0c006d02000000416e6e00ff0c006d03000000426f6200ff07006c020000000e007f01000000ff080004000000040071")
+        ++ hex (codes "0019007200436f6d70616e79203100507265736964656e7400000c006e02000000416e6e000008007003000000110700")
+        ++ hex (codes "6b0700000010007500fd88010000000000a0860100060076000000"),
     true,
   )
       ∷ (
@@ -262,14 +177,7 @@ abbrev pub gone_before_its_day : Game
 gone_before_its_day = record {
   origin = slow_before_day 7;
   events = (opens_aside ∷ []) ++ comes_aside 2 ++ (wants_updates 2 0 4 ∷ []) ++ replicate 4 Tick;
-  conns =
-      (hex (codes "04006611"), false)
-      ∷ (
-        hex (codes "370067030100003f00010100410001020041000103003d000104003d0001050040000106004000010700010001080040")
-            ++ hex (codes "000109004000001c006847616d650031332e340001000000000000060000000001000107006b07000000"),
-        true,
-      )
-      ∷ [];
+  conns = (hex (codes "04006611"), false) ∷ (greeted_on 6 ++ hex (codes "07006b07000000"), true) ∷ [];
   journal = [];
   frames = (4, 4);
 }

@@ -4,8 +4,8 @@ use Rattle.tt_edge.specs.declared.event.Event.TheVariants.{Tick}
 use Rattle.tt_world.specs.Setup.{plain}
 use Rattle.tt_log.specs.Origin.{Origin}
 use Rattle.tt_rows.specs.Words.{ann, bob, company, hex, joins, locks_company, opens, sign, spectates, world}
-use Rattle.tt_rows.specs.AdminWords.{admin_game, admin_game_with, before_day, comes_aside, enters, greeted, noughts, pings, polls}
-use Rattle.tt_rows.specs.AdminWords.{polls_all, wants_updates}
+use Rattle.tt_rows.specs.AdminWords.{admin_game, admin_game_with, before_day, comes_aside, enters, greeted, greeted_on, noughts}
+use Rattle.tt_rows.specs.AdminWords.{pings, polls, polls_all, wants_updates}
 use Rattle.tt_rows.specs.Games.{Game}
 
 -- a company in debt with a sign, and a rich one with two
@@ -70,18 +70,7 @@ abbrev pub asks_for_the_day : Game
 asks_for_the_day = record {
   origin = before_day 30 0;
   events = comes_aside 1 ++ (polls_all 1 0 ∷ Tick ∷ polls 1 0 5 ∷ []) ++ comes_aside 2;
-  conns = (
-    hex (codes "370067030100003f00010100410001020041000103003d000104003d0001050040000106004000010700010001080040")
-        ++ hex (codes "000109004000001c006847616d650031332e3400010000000000001d0000000001000107006b1d00000007006b1e0000")
-        ++ hex (codes "00"),
-    true,
-  )
-      ∷ (
-        hex (codes "370067030100003f00010100410001020041000103003d000104003d0001050040000106004000010700010001080040")
-            ++ hex (codes "000109004000001c006847616d650031332e3400010000000000001e00000000010001"),
-        true,
-      )
-      ∷ [];
+  conns = (greeted_on 29 ++ hex (codes "07006b1d00000007006b1e000000"), true) ∷ (greeted_on 30, true) ∷ [];
   journal = [];
   frames = (1, 1);
 }

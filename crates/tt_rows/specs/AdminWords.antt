@@ -91,11 +91,15 @@ brings_chat conn = Packet conn 8 (codes "irc" ++ 0 ∷ 0 ∷ 0 ∷ codes "Eve" +
 
 -- ---- what is told
 
--- PROTOCOL and WELCOME, of a game on its day 0
-abbrev pub greeted : List ℕ
-greeted =
+-- PROTOCOL and WELCOME, of a plain game on a day
+abbrev pub greeted_on : ℕ → List ℕ
+greeted_on day =
     hex (codes "370067030100003f00010100410001020041000103003d000104003d000105004000010600400001070001000108004000010900")
-    ++ hex (codes "4000001c006847616d650031332e3400010000000000000000000000010001")
+    ++ hex (codes "4000001c006847616d650031332e340001000000000000") ++ to_le_bytes w32 day ++ hex (codes "00010001")
+
+-- the same, of a game at its start
+abbrev pub greeted : List ℕ
+greeted = greeted_on 0
 
 -- what client 2 is told that comes first to a world without companies: Ann, who enters as a spectator at frame 1
 abbrev pub ann_came : List ℕ
