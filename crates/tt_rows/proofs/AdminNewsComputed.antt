@@ -12,8 +12,8 @@ use Rattle.tt_world.specs.Commands.{new_id, new_name}
 use Rattle.tt_log.specs.Rows.{word_at, rest_at, number_in, number_at as line_number_at}
 use Rattle.tt_rows.proofs.AllTold.{all_told}
 use Rattle.tt_rows.specs.Games.{ComesTo}
-use Rattle.tt_rows.specs.AdminNewsGames.{news_behind_a_password, news_of_a_founder, news_of_a_locked_company, news_of_a_lost_founder}
-use Rattle.tt_rows.specs.AdminNewsGames.{news_of_a_name, news_of_a_quit, news_of_a_welcome, news_of_an_entry, news_of_ends}
+use Rattle.tt_rows.specs.AdminNewsGames.{news_of_a_founder, news_of_a_locked_company, news_of_a_lost_founder, news_of_a_name}
+use Rattle.tt_rows.specs.AdminNewsGames.{news_of_a_password, news_of_a_quit, news_of_a_welcome, news_of_an_entry, news_of_ends}
 use Rattle.tt_rows.specs.AdminNewsGames.{news_of_moves, news_of_names, news_of_no_end, news_of_one_founding}
 
 pub computed : ComesTo news_of_a_welcome
@@ -27,7 +27,7 @@ pub computed : ComesTo news_of_a_welcome
     × ComesTo news_of_names
     × ComesTo news_of_a_locked_company
     × ComesTo news_of_a_lost_founder
-    × ComesTo news_behind_a_password
+    × ComesTo news_of_a_password
     × ComesTo news_of_one_founding
 unfolding number_at within_at truth_at fixed_at before_zero text_at digest_at optional_digest_at raw_at items_at marked_at is_text
     is_digest is_utf8 chars encode digits block_words rounds compress hash_after digest_bytes md5 encode_with new_id new_name

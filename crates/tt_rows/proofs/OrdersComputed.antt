@@ -14,7 +14,7 @@ use Rattle.tt_world.specs.declared.command.Code.TheVariants.{IncreaseLoan, NewCo
 use Rattle.tt_log.specs.History.{IsHistory}
 use Rattle.tt_log.specs.Stamps.{accepted, ordered}
 use Rattle.tt_rows.specs.AdminWords.{admin_game, admin_game_with}
-use Rattle.tt_rows.specs.OrdersGames.{a_history, behind_the_end, command, named_too_early, named_too_late}
+use Rattle.tt_rows.specs.OrdersGames.{a_history, after_the_end, command, named_too_early, named_too_late}
 use Rattle.tt_rows.specs.OrdersGames.{orders_of_the_server, orders_of_two}
 use Rattle.tt_rows.specs.Words.{plain_game}
 
@@ -43,8 +43,8 @@ unfolding number_at within_at truth_at fixed_at before_zero text_at digest_at op
     word_at rest_at number_in line_number_at
 too_late h = cc h.1.1.0
 
-pub behind : IsHistory plain_game behind_the_end → ⊥
+pub after : IsHistory plain_game after_the_end → ⊥
 unfolding number_at within_at truth_at fixed_at before_zero text_at digest_at optional_digest_at raw_at items_at marked_at is_text
     is_digest is_utf8 chars encode digits block_words rounds compress hash_after digest_bytes md5 encode_with new_id new_name
     word_at rest_at number_in line_number_at
-behind h = cc h.1.1.0
+after h = cc h.1.1.0

@@ -1,4 +1,4 @@
--- The side door: how an admin joins, and what is refused before and behind it.
+-- The side door: how an admin joins, and what is refused before and after it.
 use Rattle.std.specs.Prelude.{[], codes, false, replicate, true, ◌++◌, ◌∷◌}
 use Rattle.tt_edge.specs.declared.event.Event.TheVariants.{Broken, Shut, Tick}
 use Rattle.tt_world.specs.Setup.{plain}
@@ -101,7 +101,7 @@ before_joining = record {
   frames = (0, 0);
 }
 
--- QUIT and a lost connection end untold, and what comes behind them is not taken.
+-- QUIT and a lost connection end untold, and what comes after them is not taken.
 abbrev pub leaves : Game
 leaves = record {
   origin = admin_game;
@@ -111,7 +111,7 @@ leaves = record {
   frames = (0, 0);
 }
 
--- A packet of the server is refused, before JOIN and behind it.
+-- A packet of the server is refused, before JOIN and after it.
 abbrev pub packets_of_servers : Game
 packets_of_servers = record {
   origin = admin_game;
@@ -121,7 +121,7 @@ packets_of_servers = record {
   frames = (0, 0);
 }
 
--- What spells nothing ends with code 4, before JOIN and behind it: no type, a field that is missing, one byte more, a scope above 2.
+-- What spells nothing ends with code 4, before JOIN and after it: no type, a field that is missing, one byte more, a scope above 2.
 abbrev pub spells_nothing : Game
 spells_nothing = record {
   origin = admin_game;
@@ -139,7 +139,7 @@ spells_nothing = record {
   frames = (0, 0);
 }
 
--- A stream that breaks ends with code 4, before JOIN and behind it.
+-- A stream that breaks ends with code 4, before JOIN and after it.
 abbrev pub streams_break : Game
 streams_break = record {
   origin = admin_game;
@@ -180,7 +180,7 @@ sixteen_aside = record {
   frames = (0, 0);
 }
 
--- An admin that has not joined ends behind its limit, and one that has joined does not.
+-- An admin that has not joined ends after its limit, and one that has joined does not.
 abbrev pub slow_to_join : Game
 slow_to_join = record {
   origin = slow_game;

@@ -5,8 +5,8 @@ use Rattle.tt_world.specs.declared.command.Code.TheVariants.{NewCompany, RenameC
 use Rattle.tt_rows.specs.Words.{acknowledges, ann, asks_for_map, bob, chats_to, cid, entry, founds, gives_company_password}
 use Rattle.tt_rows.specs.Words.{has_loaded, hex, joins, locks_company, moves_to, opens, quits, renames_company, renames_president}
 use Rattle.tt_rows.specs.Words.{spectates, tells_error, wants_name}
-use Rattle.tt_rows.specs.AdminWords.{admin_game, admin_game_with, ann_came, comes_aside, enters, greeted, noughts, pings, polls}
-use Rattle.tt_rows.specs.AdminWords.{wants_updates}
+use Rattle.tt_rows.specs.AdminWords.{admin_game, admin_game_with, ann_came, comes_aside, enters, greeted, pings, polls, wants_updates}
+use Rattle.tt_rows.specs.AdminWords.{zeros}
 use Rattle.tt_rows.specs.Games.{Game}
 
 -- A welcome tells CLIENT_INFO, to those that asked for it alone, and the JOIN of one that is not welcomed tells nothing.
@@ -138,7 +138,7 @@ news_of_no_end = record {
   frames = (0, 0);
 }
 
--- Renamings in one frame tell COMPANY_UPDATE each right behind its own entry; one that is not done tells nothing.
+-- Renamings in one frame tell COMPANY_UPDATE each right after its own entry; one that is not done tells nothing.
 abbrev pub news_of_names : Game
 news_of_names = record {
   origin = admin_game_with 1;
@@ -168,7 +168,7 @@ news_of_names = record {
 abbrev pub news_of_a_locked_company : Game
 news_of_a_locked_company = record {
   origin = admin_game_with 1;
-  events = (opens ∷ joins 1 ann 0 ∷ []) ++ enters 1 1 ++ comes_aside 2 ++ wants_updates 2 2 64 ∷ locks_company 1 noughts ∷
+  events = (opens ∷ joins 1 ann 0 ∷ []) ++ enters 1 1 ++ comes_aside 2 ++ wants_updates 2 2 64 ∷ locks_company 1 zeros ∷
       renames_president 1 0 (codes "P") ∷ Tick ∷ [];
   conns = (
     hex (codes "0e000c020000000000000074740007000f00000000070010660000006900114f54544e0002000047414d450000000600")
@@ -184,7 +184,7 @@ news_of_a_locked_company = record {
   frames = (2, 2);
 }
 
--- A founder that is gone by then has founded its company all the same.
+-- A founder that has left before the frame has founded its company all the same.
 abbrev pub news_of_a_lost_founder : Game
 news_of_a_lost_founder = record {
   origin = admin_game;
@@ -198,12 +198,12 @@ news_of_a_lost_founder = record {
   frames = (2, 2);
 }
 
--- Who is asked for a company's password is not welcomed yet, and is told of behind it.
-abbrev pub news_behind_a_password : Game
-news_behind_a_password = record {
+-- Who is asked for a company's password is not welcomed yet; the right one is a welcome, and is told of.
+abbrev pub news_of_a_password : Game
+news_of_a_password = record {
   origin = admin_game_with 1;
-  events = (opens ∷ opens ∷ joins 1 ann 0 ∷ []) ++ enters 1 1 ++ (locks_company 1 noughts ∷ []) ++ comes_aside 3 ++
-      wants_updates 3 1 64 ∷ joins 2 bob 0 ∷ polls 3 1 3 ∷ gives_company_password 2 noughts ∷ [];
+  events = (opens ∷ opens ∷ joins 1 ann 0 ∷ []) ++ enters 1 1 ++ (locks_company 1 zeros ∷ []) ++ comes_aside 3 ++
+      wants_updates 3 1 64 ∷ joins 2 bob 0 ∷ polls 3 1 3 ∷ gives_company_password 2 zeros ∷ [];
   conns = (
     hex (codes "0e000c020000000000000074740007000f00000000070010660000006900114f54544e0002000047414d450000000600")
         ++ hex (codes "000000000052414e44000000080000000000000000434d505900000026010000000000000186a0000186a0000493e009")

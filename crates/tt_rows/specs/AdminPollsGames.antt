@@ -4,8 +4,8 @@ use Rattle.tt_edge.specs.declared.event.Event.TheVariants.{Tick}
 use Rattle.tt_world.specs.Setup.{plain}
 use Rattle.tt_log.specs.Origin.{Origin}
 use Rattle.tt_rows.specs.Words.{ann, bob, company, hex, joins, locks_company, opens, sign, spectates, world}
-use Rattle.tt_rows.specs.AdminWords.{admin_game, admin_game_with, before_day, comes_aside, enters, greeted, greeted_on, noughts}
-use Rattle.tt_rows.specs.AdminWords.{pings, polls, polls_all, wants_updates}
+use Rattle.tt_rows.specs.AdminWords.{admin_game, admin_game_with, before_day, comes_aside, enters, greeted, greeted_on, pings, polls}
+use Rattle.tt_rows.specs.AdminWords.{polls_all, wants_updates, zeros}
 use Rattle.tt_rows.specs.Games.{Game}
 
 -- a company in debt with a sign, and a rich one with two
@@ -65,7 +65,7 @@ polls_not_allowed = record {
   frames = (0, 0);
 }
 
--- The day of the world is told, whatever number stands behind, and WELCOME has it too.
+-- The day of the world is told, whatever id is asked for, and WELCOME has it too.
 abbrev pub asks_for_the_day : Game
 asks_for_the_day = record {
   origin = before_day 30 0;
@@ -99,7 +99,7 @@ asks_for_clients = record {
 abbrev pub asks_for_companies : Game
 asks_for_companies = record {
   origin = admin_game_with 2;
-  events = (opens ∷ joins 1 ann 1 ∷ []) ++ enters 1 1 ++ (locks_company 1 noughts ∷ []) ++ comes_aside 2 ++ polls_all 2 2 ∷
+  events = (opens ∷ joins 1 ann 1 ∷ []) ++ enters 1 1 ++ (locks_company 1 zeros ∷ []) ++ comes_aside 2 ++ polls_all 2 2 ∷
       polls 2 2 0 ∷ polls 2 2 2 ∷ polls 2 2 256 ∷ pings 2 1 ∷ locks_company 1 [] ∷ polls 2 2 1 ∷ [];
   conns = (
     hex (codes "0e000c020000000000000074740007000f000000000700108b0000008e00114f54544e0002000047414d450000000600")
@@ -144,7 +144,7 @@ asks_for_signs = record {
   frames = (0, 0);
 }
 
--- The commands and their names, whatever number stands behind.
+-- The commands and their names, whatever id is asked for.
 abbrev pub asks_for_names : Game
 asks_for_names = record {
   origin = admin_game;

@@ -31,9 +31,9 @@ before_day day k = record {
 abbrev pub enters : ℕ → ℕ → List Event
 enters conn frame = asks_for_map conn ∷ Tick ∷ has_loaded conn ∷ acknowledges conn frame ∷ []
 
--- a digest of 32 noughts
-abbrev pub noughts : List ℕ
-noughts = replicate 32 48
+-- a digest of 32 zeros
+abbrev pub zeros : List ℕ
+zeros = replicate 32 48
 
 -- ---- events of admins
 

@@ -58,7 +58,7 @@ kicks = record {
   frames = (2, 2);
 }
 
--- One that was not welcomed is told it alone.
+-- A member that was not welcomed is told so, and nobody else learns of it.
 abbrev pub kicks_the_unwelcomed : Game
 kicks_the_unwelcomed = record {
   origin = admin_game;
@@ -73,7 +73,7 @@ kicks_the_unwelcomed = record {
   frames = (1, 1);
 }
 
--- Its place in the queue is free, and the next one downloads.
+-- A downloader that is kicked leaves the queue, and the next one downloads.
 abbrev pub kicks_the_downloader : Game
 kicks_the_downloader = record {
   origin = admin_game;
@@ -108,7 +108,7 @@ kicks_nobody = record {
   frames = (0, 0);
 }
 
--- A number with a nought before it, none, two blanks, one too large, and a word behind it are no `kick`.
+-- A number with a leading zero, none, two blanks, one too large, and a further word are no `kick`.
 abbrev pub kick_is_spelled : Game
 kick_is_spelled = record {
   origin = admin_game;
@@ -131,7 +131,7 @@ kick_is_spelled = record {
   frames = (0, 0);
 }
 
--- `say` is a chat of client 1 to all, and what is said is all that stands behind one blank.
+-- `say` is a chat of client 1 to all, and what is said is all that follows one blank.
 abbrev pub says_to_all : Game
 says_to_all = record {
   origin = admin_game;
@@ -189,7 +189,7 @@ lists_clients = record {
   frames = (0, 0);
 }
 
--- `companies` lists those that live, each with its number, money, loan and name; money may be below nought.
+-- `companies` lists those that live, each with its number, money, loan and name; money may be below zero.
 abbrev pub lists_companies : Game
 lists_companies = record {
   origin = debts_game;
@@ -252,7 +252,7 @@ quit_at_both_doors = record {
   frames = (0, 0);
 }
 
--- So it is where the game is stopped.
+-- The same where the game is stopped.
 abbrev pub stop_at_both_doors : Game
 stop_at_both_doors = record {
   origin = admin_game;

@@ -35,6 +35,6 @@ named_too_early = quits 1 ∷ opens ∷ []
 abbrev pub named_too_late : List Event
 named_too_late = opens ∷ quits 1 ∷ Shut 1 ∷ []
 
--- Behind the end of the game nothing can be taken, be it a tick.
-abbrev pub behind_the_end : List Event
-behind_the_end = opens ∷ Stop ∷ Tick ∷ []
+-- After the end of the game nothing can be taken, be it a tick.
+abbrev pub after_the_end : List Event
+after_the_end = opens ∷ Stop ∷ Tick ∷ []

@@ -1,4 +1,4 @@
-//! The side door: how an admin joins, and what is refused before and behind it.
+//! The side door: how an admin joins, and what is refused before and after it.
 //! This function does nothing: its contract is the games.
 ghost use Rattle.tt_rows.specs.Games.{ComesTo};
 ghost use Rattle.tt_rows.specs.AdminJoinsGames.{another_password, before_joining, doors_apart, greeted_and_answered};

@@ -1,8 +1,8 @@
 //! What admins are told at once of clients and companies, where they have asked for it.
 //! This function does nothing: its contract is the games.
 ghost use Rattle.tt_rows.specs.Games.{ComesTo};
-ghost use Rattle.tt_rows.specs.AdminNewsGames.{news_behind_a_password, news_of_a_founder, news_of_a_locked_company};
-ghost use Rattle.tt_rows.specs.AdminNewsGames.{news_of_a_lost_founder, news_of_a_name, news_of_a_quit, news_of_a_welcome};
+ghost use Rattle.tt_rows.specs.AdminNewsGames.{news_of_a_founder, news_of_a_locked_company, news_of_a_lost_founder};
+ghost use Rattle.tt_rows.specs.AdminNewsGames.{news_of_a_name, news_of_a_password, news_of_a_quit, news_of_a_welcome};
 ghost use Rattle.tt_rows.specs.AdminNewsGames.{news_of_an_entry, news_of_ends, news_of_moves, news_of_names, news_of_no_end};
 ghost use Rattle.tt_rows.specs.AdminNewsGames.{news_of_one_founding};
 
@@ -19,6 +19,6 @@ pub fn admin_news_come_to()
     ensures news_of_names { ComesTo news_of_names }
     ensures news_of_a_locked_company { ComesTo news_of_a_locked_company }
     ensures news_of_a_lost_founder { ComesTo news_of_a_lost_founder }
-    ensures news_behind_a_password { ComesTo news_behind_a_password }
+    ensures news_of_a_password { ComesTo news_of_a_password }
     ensures news_of_one_founding { ComesTo news_of_one_founding }
 {}

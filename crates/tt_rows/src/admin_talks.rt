@@ -4,7 +4,7 @@ ghost use Rattle.tt_rows.specs.Games.{ComesTo};
 ghost use Rattle.tt_rows.specs.AdminTalksGames.{admins_chat, news_of_chats, news_of_commands, news_of_lines, news_of_own_chats};
 ghost use Rattle.tt_rows.specs.AdminTalksGames.{no_news, scripts_and_other_chats};
 
-/// Admins are told of chats, lines and commands as events come, behind what players are told.
+/// Admins are told of chats, lines and commands as events come.
 pub fn admin_talks_come_to()
     ensures news_of_chats { ComesTo news_of_chats }
     ensures news_of_own_chats { ComesTo news_of_own_chats }

@@ -5,7 +5,7 @@ ghost use Rattle.tt_world.specs.declared.command.Code.TheVariants.{IncreaseLoan,
 ghost use Rattle.tt_log.specs.History.{IsHistory};
 ghost use Rattle.tt_log.specs.Stamps.{accepted, ordered};
 ghost use Rattle.tt_rows.specs.AdminWords.{admin_game, admin_game_with};
-ghost use Rattle.tt_rows.specs.OrdersGames.{a_history, behind_the_end, command, named_too_early, named_too_late};
+ghost use Rattle.tt_rows.specs.OrdersGames.{a_history, after_the_end, command, named_too_early, named_too_late};
 ghost use Rattle.tt_rows.specs.OrdersGames.{orders_of_the_server, orders_of_two};
 ghost use Rattle.tt_rows.specs.Words.{plain_game};
 
@@ -21,5 +21,5 @@ pub fn orders_come_to()
     ensures history { IsHistory plain_game a_history }
     ensures too_early { IsHistory plain_game named_too_early → ⊥ }
     ensures too_late { IsHistory plain_game named_too_late → ⊥ }
-    ensures behind_the_end { IsHistory plain_game behind_the_end → ⊥ }
+    ensures after_the_end { IsHistory plain_game after_the_end → ⊥ }
 {}

@@ -34,8 +34,8 @@ returns-clause-news_of_a_locked_company c = computed.9
 pub returns-clause-news_of_a_lost_founder : goal.returns-clause-news_of_a_lost_founder
 returns-clause-news_of_a_lost_founder c = computed.10
 
-pub returns-clause-news_behind_a_password : goal.returns-clause-news_behind_a_password
-returns-clause-news_behind_a_password c = computed.11
+pub returns-clause-news_of_a_password : goal.returns-clause-news_of_a_password
+returns-clause-news_of_a_password c = computed.11
 
 pub returns-clause-news_of_one_founding : goal.returns-clause-news_of_one_founding
 returns-clause-news_of_one_founding c = computed.12

@@ -1,4 +1,4 @@
-use Rattle.tt_rows.proofs.OrdersComputed.{computed, too_early, too_late, behind}
+use Rattle.tt_rows.proofs.OrdersComputed.{computed, too_early, too_late, after}
 use Rattle.tt_rows.proofs.orders.orders_come_to.Goals as goal
 
 pub returns-clause-accepted_of_one : goal.returns-clause-accepted_of_one
@@ -25,5 +25,5 @@ returns-clause-too_early c = too_early
 pub returns-clause-too_late : goal.returns-clause-too_late
 returns-clause-too_late c = too_late
 
-pub returns-clause-behind_the_end : goal.returns-clause-behind_the_end
-returns-clause-behind_the_end c = behind
+pub returns-clause-after_the_end : goal.returns-clause-after_the_end
+returns-clause-after_the_end c = after
