@@ -1,9 +1,6 @@
 -- Both sides compute.
-use Rattle.std.specs.Prelude.{◌≡◌, true, false, refl}
-use Rattle.tt_log.specs.Table.{is_live}
-use Rattle.tt_log.specs.History.{table_of}
+use Rattle.std.specs.Prelude.{◌≡◌, refl}
 use Rattle.tt_log.specs.Told.{sent}
-use Rattle.tt_rows.specs.AsideGames.{guarded_game, seventeen, told_full}
 use Rattle.tt_frame.specs.Reading.{number_at, within_at, truth_at, fixed_at, before_zero, text_at, digest_at, optional_digest_at, raw_at}
 use Rattle.tt_frame.specs.ItemForms.{items_at, marked_at}
 use Rattle.tt_frame.specs.Text.{is_text, is_digest}
@@ -13,53 +10,24 @@ use lib.Utf8.{encode}
 use Rattle.md5.specs.Md5.{block_words, rounds, compress, hash_after, digest_bytes, md5}
 use Rattle.hex.specs.Hex.{encode_with}
 use Rattle.tt_world.specs.Commands.{new_id, new_name}
-use Rattle.tt_log.specs.Rows.{word_at, rest_at, number_in}
-use Rattle.tt_log.specs.Rows.{number_at as line_number_at}
+use Rattle.tt_log.specs.Rows.{word_at, rest_at, number_in, number_at as line_number_at}
 use Rattle.tt_rows.specs.Games.{ComesTo}
-use Rattle.tt_rows.specs.AsideGames.{joins_and_pings, pings_first, joins_without, is_told_weekly, quits_the_game, pauses_the_world}
-use Rattle.tt_rows.specs.AsideGames.{kicks_a_client, sees_a_company, lists_companies, says_to_all}
-use Rattle.tt_rows.specs.AsideGames.{joins_twice, sees_a_client, sees_a_name, is_told_annually, is_not_told_monthly, lists_clients, goes_on}
+use Rattle.tt_rows.specs.AsideGames.{by_its_cost, console_ends_it, told_at_both_doors, with_admins, without_admins}
 
-pub computed : ComesTo joins_and_pings
-    × ComesTo pings_first
-    × ComesTo joins_without
-    × ComesTo is_told_weekly
-    × ComesTo quits_the_game
-    × ComesTo pauses_the_world
-    × ComesTo kicks_a_client
-    × ComesTo sees_a_company
-    × ComesTo lists_companies
-    × ComesTo says_to_all
-    × ComesTo joins_twice
-    × ComesTo sees_a_client
-    × ComesTo sees_a_name
-    × ComesTo is_told_annually
-    × ComesTo is_not_told_monthly
-    × ComesTo lists_clients
-    × ComesTo goes_on
+pub computed : ComesTo without_admins
+    × ComesTo with_admins
+    × (sent with_admins.origin with_admins.events 1 ≡ sent without_admins.origin without_admins.events 1)
+    × ComesTo console_ends_it
+    × ComesTo told_at_both_doors
+    × ComesTo by_its_cost
 unfolding number_at within_at truth_at fixed_at before_zero text_at digest_at optional_digest_at raw_at items_at marked_at is_text
     is_digest is_utf8 chars encode digits block_words rounds compress hash_after digest_bytes md5 encode_with new_id new_name
     word_at rest_at number_in line_number_at
 computed = (
   ((refl, refl, tt), refl, refl, refl),
-  ((refl, refl, tt), refl, refl, refl),
-  ((refl, refl, tt), refl, refl, refl),
-  ((refl, refl, tt), refl, refl, refl),
-  ((refl, refl, tt), refl, refl, refl),
-  ((refl, refl, tt), refl, refl, refl),
+  ((refl, refl, (refl, refl, (refl, refl, tt))), refl, refl, refl),
+  refl,
   ((refl, refl, (refl, refl, tt)), refl, refl, refl),
-  ((refl, refl, tt), refl, refl, refl),
-  ((refl, refl, tt), refl, refl, refl),
-  ((refl, refl, tt), refl, refl, refl),
-  ((refl, refl, tt), refl, refl, refl),
-  ((refl, refl, tt), refl, refl, refl),
-  ((refl, refl, tt), refl, refl, refl),
-  ((refl, refl, tt), refl, refl, refl),
-  ((refl, refl, tt), refl, refl, refl),
+  ((refl, refl, (refl, refl, (refl, refl, tt))), refl, refl, refl),
   ((refl, refl, (refl, refl, tt)), refl, refl, refl),
-  ((refl, refl, tt), refl, refl, refl),
 )
-
-pub full : (sent guarded_game seventeen 17 ≡ told_full) × (is_live (table_of guarded_game seventeen) 17 ≡ false)
-    × (is_live (table_of guarded_game seventeen) 16 ≡ true)
-full = (refl, refl, refl)

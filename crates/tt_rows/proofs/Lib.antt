@@ -1,3 +1,4 @@
+pub mod AllTold
 pub mod TokensComputed
 pub mod SavedComputed
 pub mod EnteringComputed
@@ -5,9 +6,17 @@ pub mod PlayingComputed
 pub mod LastingComputed
 pub mod StreamsComputed
 pub mod MapsComputed
-pub mod AsideComputed
 pub mod JoinsComputed
 pub mod LimitsComputed
 pub mod CommandsComputed
 pub mod TalksComputed
 pub mod StepsComputed
+pub mod AdminJoinsComputed
+pub mod AdminPollsComputed
+pub mod AdminNewsComputed
+pub mod AdminTalksComputed
+pub mod AdminDaysComputed
+pub mod ConsoleComputed
+pub mod AsideComputed
+pub mod OrdersComputed
+pub mod AdminWeekComputed

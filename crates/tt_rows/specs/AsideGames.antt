@@ -1,248 +1,92 @@
--- Admins: they come in by the side door, join, ask, and steer.
-use Rattle.std.specs.Prelude.{ℕ, true, false, List, [], ◌∷◌, ◌++◌, codes, replicate}
-use Rattle.tt_edge.specs.declared.event.Door.TheVariants.{Side}
-use Rattle.tt_edge.specs.declared.event.Event.{Event}
-use Rattle.tt_edge.specs.declared.event.Event.TheVariants.{Open, Packet, Tick}
+-- Two lists of events side by side: what a player is told with an admin present, and without.
+use Rattle.std.specs.Prelude.{[], codes, false, true, ◌++◌, ◌∷◌}
+use Rattle.tt_edge.specs.declared.event.Event.TheVariants.{Tick}
 use Rattle.tt_world.specs.Setup.{plain}
-use Rattle.tt_world.specs.declared.setup.Setup.{Setup}
-use Rattle.tt_world.specs.declared.command.Code.TheVariants.{RenameCompany, Pause, NewCompany}
+use Rattle.tt_world.specs.declared.command.Code.TheVariants.{NewCompany}
 use Rattle.tt_log.specs.Origin.{Origin}
-use Rattle.tt_rows.specs.Words.{made_from, with_companies, world, entry, hex, says, opens, ann, spectates, founds, asks_for_map, has_loaded}
-use Rattle.tt_rows.specs.Words.{bob, joins, acknowledges, renames_company, wants_name, moves_to, quits}
+use Rattle.tt_rows.specs.Words.{ann, bob, chats_to, cid, entry, founds, hex, made_from, opens, quits, spectates, wants_name}
+use Rattle.tt_rows.specs.AdminWords.{admin_game, admin_joins, admin_quits, ann_came, comes_aside, enters, gives_line, greeted}
+use Rattle.tt_rows.specs.AdminWords.{opens_aside, pings, polls_all, wants_updates}
 use Rattle.tt_rows.specs.Games.{Game}
 
--- a connection opens at the side door
-abbrev pub opens_aside : Event
-opens_aside = Open Side (record { host = 0 ∷ 0 ∷ 0 ∷ 0 ∷ []; port = 0 })
+-- a game that is over at a small cost
+abbrev pub cheap_game : Origin
+cheap_game = made_from (record plain { admin_password = codes "pw"; cost = 337 })
 
--- the password of admins is `pw`
-abbrev pub guarded : Setup
-guarded = record plain { admin_password = codes "pw" }
-
-abbrev pub guarded_game : Origin
-guarded_game = made_from guarded
-
--- JOIN: the password `pw`, the application `cli`, the version `1`
-abbrev pub admin_joins : ℕ → Event
-admin_joins conn = says conn (codes "0c0000707700636c69003100")
-
--- RCON
-abbrev pub commands : ℕ → List ℕ → Event
-commands conn line = Packet conn 5 (line ++ 0 ∷ [])
-
--- PROTOCOL and WELCOME, on a day with these two low bytes
-abbrev pub welcomed_at : ℕ → ℕ → List ℕ
-welcomed_at low high =
-    hex (codes "370067030100003f00010100410001020041000103003d000104003d0001050040000106004000010700010001080040000109004000")
-    ++ hex (codes "001c006847616d650031332e340001000000000000") ++ low ∷ high ∷ hex (codes "000000010001")
-
--- on a day below 256
-abbrev pub welcomed_on : ℕ → List ℕ
-welcomed_on day = welcomed_at day 0
-
--- An admin joins, and is answered its PING.
-abbrev pub joins_and_pings : Game
-joins_and_pings = record {
-  origin = guarded_game;
-  events = opens_aside ∷ admin_joins 1 ∷ says 1 (codes "07000778563412") ∷ [];
-  conns = (welcomed_on 0 ++ hex (codes "07007e78563412"), true) ∷ [];
-  journal = [];
-  frames = (0, 0);
-}
-
--- Before its JOIN it may ask nothing.
-abbrev pub pings_first : Game
-pings_first = record {
-  origin = guarded_game;
-  events = opens_aside ∷ says 1 (codes "07000778563412") ∷ [];
-  conns = (hex (codes "04006607"), false) ∷ [];
-  journal = [];
-  frames = (0, 0);
-}
-
--- Where there is no password of admins nobody may join.
-abbrev pub joins_without : Game
-joins_without = record {
-  origin = made_from plain;
-  events = opens_aside ∷ admin_joins 1 ∷ [];
-  conns = (hex (codes "0400660a"), false) ∷ [];
-  journal = [];
-  frames = (0, 0);
-}
-
--- A week's day begins, and it is told the date; DATE at once is not allowed.
-abbrev pub is_told_weekly : Game
-is_told_weekly = record {
-  origin = record { setup = guarded; start = world (0, 0) 6 73 false [] [] };
-  events = opens_aside ∷ admin_joins 1 ∷ says 1 (codes "07000200000400") ∷ says 1 (codes "08000302ffffffff") ∷ Tick ∷ Tick
-      ∷ says 1 (codes "07000200004000") ∷ [];
-  conns = (welcomed_on 6 ++ hex (codes "07006b0700000004006604"), false) ∷ [];
-  journal = [];
-  frames = (2, 2);
-}
-
--- `quit`: it is answered, and then the game is over.
-abbrev pub quits_the_game : Game
-quits_the_game = record {
-  origin = guarded_game;
-  events = opens_aside ∷ admin_joins 1 ∷ commands 1 (codes "quit") ∷ Tick ∷ [];
-  conns = (welcomed_on 0 ++ hex (codes "08007800006f6b0008007d717569740003006a"), false) ∷ [];
-  journal = [];
-  frames = (0, 0);
-}
-
--- `pause`: those that watch the console see the line; the command is stamped, and seen.
-abbrev pub pauses_the_world : Game
-pauses_the_world = record {
-  origin = guarded_game;
-  events = opens_aside ∷ admin_joins 1 ∷ says 1 (codes "07000206004000") ∷ says 1 (codes "07000208004000") ∷ commands 1 (codes "pause")
-      ∷ Tick ∷ [];
+-- A founder, alone.
+abbrev pub without_admins : Game
+without_admins = record {
+  origin = admin_game;
+  events = (opens ∷ founds 1 ann ∷ []) ++ enters 1 1 ++ Tick ∷ chats_to 1 0 0 (codes "a") ∷ Tick ∷ [];
   conns = (
-    welcomed_on 0 ++ hex (codes "0f007961646d696e0070617573650008007800006f6b0009007d706175736500")
-        ++ hex (codes "0e007f01000000ff070001000000"),
+    ann_came ++ hex (codes "140019ff080002000000000002000000010000000c001502000000020000000008002002000000000a001b0200000000")
+        ++ hex (codes "61000c0015030000000300000000"),
     true,
   ) ∷ [];
-  journal = entry 1 1 255 Pause 1 0 [] ∷ [];
-  frames = (1, 1);
+  journal = entry 2 1 255 NewCompany 2 0 [] ∷ [];
+  frames = (3, 3);
 }
 
--- `kick`: the client ends, and those that watch clients see it. There is no client 3, and `kick 02` is no command.
-abbrev pub kicks_a_client : Game
-kicks_a_client = record {
-  origin = guarded_game;
-  events = opens ∷ spectates 1 ann ∷ opens_aside ∷ admin_joins 2 ∷ says 2 (codes "07000201004100") ∷ commands 2 (codes "kick 3")
-      ∷ commands 2 (codes "kick 02") ∷ commands 2 (codes "kick 2") ∷ [];
-  conns = (hex (codes "0e000c02000000000000007474000400030c"), false)
+-- The same, and admins that ask for all there is.
+abbrev pub with_admins : Game
+with_admins = record {
+  origin = admin_game;
+  events = (opens ∷ []) ++ comes_aside 2 ++ (wants_updates 2 0 63 ∷ wants_updates 2 1 65 ∷ wants_updates 2 2 65 ∷
+      wants_updates 2 3 61 ∷ wants_updates 2 4 61 ∷ wants_updates 2 5 64 ∷ wants_updates 2 6 64 ∷ wants_updates 2 7 1 ∷
+      wants_updates 2 8 64 ∷ wants_updates 2 9 64 ∷ founds 1 ann ∷ []) ++ enters 1 1 ++ (polls_all 2 1 ∷ Tick ∷
+      gives_line 2 (codes "clients") ∷ chats_to 1 0 0 (codes "a") ∷ pings 2 1 ∷ []) ++ comes_aside 3 ++
+      wants_updates 3 10 1 ∷ Tick ∷ admin_quits 2 ∷ [];
+  conns = (
+    ann_came ++ hex (codes "140019ff080002000000000002000000010000000c001502000000020000000008002002000000000a001b0200000000")
+        ++ hex (codes "61000c0015030000000300000000"),
+    true,
+  )
       ∷ (
-        welcomed_on 0
-            ++ hex (codes "1400780000") ++ codes "no such client" ++ 0 ∷ hex (codes "0a007d") ++ codes "kick 3" ++ 0
-            ∷ hex (codes "1500780000") ++ codes "unknown command" ++ 0 ∷ hex (codes "0b007d") ++ codes "kick 02" ++ 0
-            ∷ hex (codes "08007800006f6b000a007d") ++ codes "kick 2" ++ 0 ∷ hex (codes "080070020000000c"),
-        true,
+        greeted ++ hex (codes "0c006d02000000416e6e00ff07006c020000000c006d02000000416e6e00ff0e007f01000000ff080002000000040071")
+            ++ hex (codes "0019007200436f6d70616e79203100507265736964656e7400000c006e02000000416e6e000011007961646d696e0063")
+            ++ hex (codes "6c69656e7473000d0078000032203020416e6e000b007d636c69656e7473000a00770002000000610007007e01000000"),
+        false,
       )
+      ∷ (greeted ++ hex (codes "04006604"), false)
+      ∷ [];
+  journal = entry 2 1 255 NewCompany 2 0 [] ∷ [];
+  frames = (3, 3);
+}
+
+-- A spectator and an admin: `quit` ends both, each told in its own family.
+abbrev pub console_ends_it : Game
+console_ends_it = record {
+  origin = admin_game;
+  events = (opens ∷ []) ++ comes_aside 2 ++ (spectates 1 ann ∷ []) ++ enters 1 1 ++ gives_line 2 (codes "quit") ∷ Tick ∷ [];
+  conns =
+      (ann_came ++ hex (codes "030025"), false)
+      ∷ (greeted ++ hex (codes "08007800006f6b0008007d717569740003006a"), false)
       ∷ [];
   journal = [];
-  frames = (0, 0);
+  frames = (1, 1);
 }
 
--- A company is founded, and those that watch companies see it.
-abbrev pub sees_a_company : Game
-sees_a_company = record {
-  origin = guarded_game;
-  events = opens_aside ∷ admin_joins 1 ∷ says 1 (codes "07000202004000") ∷ opens ∷ founds 2 ann ∷ asks_for_map 2 ∷ Tick ∷ has_loaded 2
-      ∷ acknowledges 2 1 ∷ Tick ∷ [];
-  conns = (welcomed_on 0 ++ hex (codes "0400710019007200") ++ codes "Company 1" ++ 0 ∷ codes "President" ++ 0 ∷ 0 ∷ [], true) ∷ [];
-  journal = entry 2 1 255 NewCompany 2 0 [] ∷ [];
-  frames = (2, 2);
-}
-
--- The live companies are listed.
-abbrev pub lists_companies : Game
-lists_companies = record {
-  origin = with_companies 1 guarded;
-  events = opens_aside ∷ admin_joins 1 ∷ commands 1 (codes "companies") ∷ says 1 (codes "0800030300000000") ∷ [];
-  conns = (
-    welcomed_on 0 ++ hex (codes "1f00780000") ++ codes "0 100000 100000 Company 1" ++ 0 ∷ hex (codes "0d007d") ++ codes "companies"
-        ++ 0 ∷ hex (codes "10007500a086010000000000a0860100"),
-    true,
-  ) ∷ [];
-  journal = [];
-  frames = (0, 0);
-}
-
--- Seventeen come in: sixteen are admins, and the last one is told that there is no room.
-abbrev pub seventeen : List Event
-seventeen = replicate 17 opens_aside
-
-abbrev pub told_full : List ℕ
-told_full = hex (codes "030064")
-
--- The server says something to all that play, and to the admins that watch chats; it comes behind the answer.
-abbrev pub says_to_all : Game
-says_to_all = record {
-  origin = guarded_game;
-  events = opens_aside ∷ admin_joins 1 ∷ says 1 (codes "07000205004000") ∷ commands 1 (codes "say Hi") ∷ says 1
-      (codes "0b00040203000000486900") ∷ commands 1 (codes "say ") ∷ [];
-  conns = (
-    welcomed_on 0 ++ hex (codes "08007800006f6b000a007d736179204869000b00770001000000486900")
-        ++ hex (codes "0b007702010000004869001500780000") ++ codes "unknown command" ++ 0 ∷ hex (codes "08007d7361792000"),
-    true,
-  ) ∷ [];
-  journal = [];
-  frames = (0, 0);
-}
-
--- One JOIN is enough.
-abbrev pub joins_twice : Game
-joins_twice = record {
-  origin = guarded_game;
-  events = opens_aside ∷ admin_joins 1 ∷ admin_joins 1 ∷ [];
-  conns = (welcomed_on 0 ++ hex (codes "04006607"), false) ∷ [];
-  journal = [];
-  frames = (0, 0);
-}
-
--- Those that watch clients see them come, play, change, be it to the same, and go.
-abbrev pub sees_a_client : Game
-sees_a_client = record {
-  origin = guarded_game;
-  events = opens_aside ∷ admin_joins 1 ∷ says 1 (codes "07000201004000") ∷ opens ∷ spectates 2 ann ∷ asks_for_map 2 ∷ Tick ∷ has_loaded 2
-      ∷ acknowledges 2 1 ∷ wants_name 2 bob ∷ moves_to 2 255 [] ∷ quits 2 ∷ [];
-  conns = (
-    welcomed_on 0 ++ hex (codes "0c006d02000000416e6e00ff07006c020000000c006e02000000426f6200ff0c006e02000000426f6200ff07006f02000000"),
-    true,
-  ) ∷ [];
+-- A welcome, a chat, a name and an end, told at both doors: each connection is told them in the order of the events.
+abbrev pub told_at_both_doors : Game
+told_at_both_doors = record {
+  origin = admin_game;
+  events = (opens ∷ opens ∷ spectates 1 ann ∷ []) ++ enters 1 1 ++ comes_aside 3 ++ wants_updates 3 1 64 ∷
+      wants_updates 3 5 64 ∷ spectates 2 bob ∷ chats_to 1 0 0 (codes "a") ∷ wants_name 1 cid ∷ quits 2 ∷ [];
+  conns =
+      (ann_came ++ hex (codes "0c001d03000000ff426f62000a001b020000000061000c001d02000000ff4369640007002403000000"), true)
+      ∷ (hex (codes "0e000c0300000000000000747400"), false)
+      ∷ (greeted ++ hex (codes "0c006d03000000426f6200ff0a0077000200000061000c006e0200000043696400ff07006f03000000"), true)
+      ∷ [];
   journal = [];
   frames = (1, 1);
 }
 
--- A company is renamed, and those that watch companies see its new name.
-abbrev pub sees_a_name : Game
-sees_a_name = record {
-  origin = with_companies 1 guarded;
-  events = opens_aside ∷ admin_joins 1 ∷ says 1 (codes "07000202004000") ∷ opens ∷ joins 2 ann 0 ∷ asks_for_map 2 ∷ Tick ∷ has_loaded 2
-      ∷ acknowledges 2 1 ∷ renames_company 2 0 (codes "Acme") ∷ Tick ∷ [];
-  conns = (welcomed_on 0 ++ hex (codes "14007300") ++ codes "Acme" ++ 0 ∷ codes "President" ++ 0 ∷ 0 ∷ [], true) ∷ [];
-  journal = entry 2 2 0 RenameCompany 0 0 (codes "Acme") ∷ [];
-  frames = (2, 2);
-}
-
--- The 360th day is one that is told annually; the 31st is none that is told monthly.
-abbrev pub is_told_annually : Game
-is_told_annually = record {
-  origin = record { setup = guarded; start = world (0, 0) 359 73 false [] [] };
-  events = opens_aside ∷ admin_joins 1 ∷ says 1 (codes "07000200002000") ∷ Tick ∷ [];
-  conns = (welcomed_at 103 1 ++ hex (codes "07006b68010000"), true) ∷ [];
-  journal = [];
-  frames = (1, 1);
-}
-
-abbrev pub is_not_told_monthly : Game
-is_not_told_monthly = record {
-  origin = record { setup = guarded; start = world (0, 0) 30 73 false [] [] };
-  events = opens_aside ∷ admin_joins 1 ∷ says 1 (codes "07000200000800") ∷ Tick ∷ [];
-  conns = (welcomed_on 30, true) ∷ [];
-  journal = [];
-  frames = (1, 1);
-}
-
--- The welcomed clients are listed.
-abbrev pub lists_clients : Game
-lists_clients = record {
-  origin = guarded_game;
-  events = opens ∷ spectates 1 ann ∷ opens_aside ∷ admin_joins 2 ∷ commands 2 (codes "clients") ∷ [];
-  conns = (hex (codes "0e000c0200000000000000747400"), true)
-      ∷ (welcomed_on 0 ++ hex (codes "0f00780000") ++ codes "2 255 Ann" ++ 0 ∷ hex (codes "0b007d636c69656e747300"), true) ∷ [];
+-- A game that comes to its cost by an admin's packet tells both doors.
+abbrev pub by_its_cost : Game
+by_its_cost = record {
+  origin = cheap_game;
+  events = opens ∷ opens_aside ∷ admin_joins 2 ∷ pings 2 1 ∷ pings 2 2 ∷ [];
+  conns = (hex (codes "030025"), false) ∷ (greeted ++ hex (codes "07007e0100000007007e0200000003006a"), false) ∷ [];
   journal = [];
   frames = (0, 0);
-}
-
--- `unpause`: a paused world goes on.
-abbrev pub goes_on : Game
-goes_on = record {
-  origin = record { setup = guarded; start = world (0, 0) 0 0 true [] [] };
-  events = opens_aside ∷ admin_joins 1 ∷ commands 1 (codes "unpause") ∷ Tick ∷ [];
-  conns = (welcomed_on 0 ++ hex (codes "08007800006f6b000b007d756e706175736500"), true) ∷ [];
-  journal = entry 1 1 255 Pause 0 0 [] ∷ [];
-  frames = (1, 1);
 }

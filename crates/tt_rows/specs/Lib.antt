@@ -13,4 +13,13 @@ pub mod PlayingGames
 pub mod LastingGames
 pub mod StreamsGames
 pub mod MapsGames
+pub mod AdminWords
+pub mod AdminJoinsGames
+pub mod AdminPollsGames
+pub mod AdminNewsGames
+pub mod AdminTalksGames
+pub mod AdminDaysGames
+pub mod ConsoleGames
 pub mod AsideGames
+pub mod OrdersGames
+pub mod AdminWeekGames

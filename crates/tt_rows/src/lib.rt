@@ -5,13 +5,21 @@
 //! definitions.
 #![tactic(auto)]
 
+mod admin_days;
+mod admin_joins;
+mod admin_news;
+mod admin_polls;
+mod admin_talks;
+mod admin_week;
 mod aside;
 mod commands;
+mod console;
 mod entering;
 mod joins;
 mod lasting;
 mod limits;
 mod maps;
+mod orders;
 mod playing;
 mod saved;
 mod shown;
@@ -20,13 +28,21 @@ mod streams;
 mod talks;
 mod tokens;
 
-pub use aside::admins_come_to;
+pub use admin_days::admin_days_come_to;
+pub use admin_joins::admin_joins_come_to;
+pub use admin_news::admin_news_come_to;
+pub use admin_polls::admin_polls_come_to;
+pub use admin_talks::admin_talks_come_to;
+pub use admin_week::admin_week_come_to;
+pub use aside::side_by_side_come_to;
 pub use commands::commands_come_to;
+pub use console::console_lines_come_to;
 pub use entering::ways_in_come_to;
 pub use joins::joins_come_to;
 pub use lasting::limits_come_to;
 pub use limits::first_limits_come_to;
 pub use maps::maps_come_to;
+pub use orders::orders_come_to;
 pub use playing::plays_come_to;
 pub use saved::saved_games_come_to;
 pub use shown::{
