@@ -2,6 +2,7 @@
 use crate::{
     a_late_start_goes_wrong, all_in_step, all_in_step_however_cut, entries_told,
     every_game_may_begin, fronts_agree, fronts_show, table_is_tied, two_games_are_in_step,
+    wrong_rules_go_wrong,
 };
 
 #[test]
@@ -15,4 +16,5 @@ fn the_theorems_can_be_called(_rt: HostRuntime) {
     fronts_show();
     a_late_start_goes_wrong();
     two_games_are_in_step();
+    wrong_rules_go_wrong();
 }
