@@ -20,3 +20,5 @@ pub mod Endings
 pub mod Computed
 pub mod Ruled
 pub mod WrongComputed
+pub mod Quiet
+pub mod Syncs

@@ -54,7 +54,8 @@ deed-is o e t = by (takes t e)
     by true = taken-is o e t
     by false = refl
 
-told-is : (o : Origin) (t : Table) (d : Deed) (conn : ℕ) → ruled_told true_rules o t d conn ≡ told_to conn (filled o (filling o t d.table) d.told)
+told-is : (o : Origin) (t : Table) (d : Deed) (conn : ℕ)
+    → ruled_told true_rules o t d conn ≡ told_to conn (filled o (filling o t d.table) d.told)
 told-is o t d conn = ap (λ (ds : List Telling). told_to conn ds) (filled-is o (filling o t d.table) d.told)
 
 heard-is : (o : Origin) (t : Table) (events : List Event) (conn : ℕ) → ruled_heard true_rules o t events conn ≡ heard_from o t events conn

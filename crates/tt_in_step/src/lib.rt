@@ -7,6 +7,8 @@
 
 ghost use Rattle.std.specs.Prelude.{◌≡◌, ◌≤◌, ◌<◌, ◌^◌, ◌+◌, ◌++◌, ◌∷◌, ◌⊎◌, ℕ, true, false, Some, List, [], Ok};
 ghost use Rattle.tt_edge.specs.declared.event.Event.{Event};
+ghost use Rattle.tt_edge.specs.declared.event.Event.TheVariants.{Tick};
+ghost use Rattle.tt_game.specs.declared.message.GameMsg.TheVariants.{ServerSync};
 ghost use Rattle.tt_frame.specs.Packet.{IsBytes};
 ghost use Rattle.tt_frame.specs.Text.{IsName};
 ghost use Rattle.tt_world.specs.declared.setup.Setup.{Setup};
@@ -30,7 +32,8 @@ ghost use Rattle.tt_log.specs.Saved.{IsSaved};
 ghost use Rattle.tt_log.specs.Member.{Member, is_playing};
 ghost use Rattle.tt_log.specs.Table.{member_of};
 ghost use Rattle.tt_log.specs.History.{AreEvents, journal_of, table_of};
-ghost use Rattle.tt_log.specs.Told.{sent};
+ghost use Rattle.tt_log.specs.Deed.{Said, game};
+ghost use Rattle.tt_log.specs.Told.{sent, told};
 ghost use Rattle.tt_log.specs.Shown.{items_in, things_in};
 ghost use Rattle.tt_log.specs.Shown as book;
 ghost use Rattle.tt_in_step.specs.Watched.{entries_in, things_told, watched};
@@ -87,6 +90,21 @@ pub fn entries_told()
 {
     one_map();
 }
+
+/// What a connection is told of the words of worlds, whatever the event.
+pub fn syncs_told()
+    // A SYNC is told by the tick that makes its frame.
+    ensures told_by_its_tick { (o : Origin) (events : List Event) (e : Event) (conn : ℕ) (front later : List Said) (g w : ℕ)
+        → told o events e conn ≡ front ++ game (ServerSync g w) ∷ later → (e ≡ Tick) × (g ≡ (table_of o (events ++ e ∷ [])).frame) }
+    // Its word is that of the journal's world at that frame.
+    ensures of_its_world { (o : Origin) (events : List Event) (e : Event) (conn : ℕ) (front later : List Said) (g w : ℕ)
+        → told o events e conn ≡ front ++ game (ServerSync g w) ∷ later
+        → w ≡ (world_at o (journal_of o (events ++ e ∷ [])) g).words.0 }
+    // A member is on the connection that is told it, and the frame lies above its map frame.
+    ensures above_the_map { (o : Origin) (events : List Event) (e : Event) (conn : ℕ) (front later : List Said) (g w : ℕ)
+        → told o events e conn ≡ front ++ game (ServerSync g w) ∷ later
+        → (m : Member) × (member_of (table_of o events) conn ≡ Some m) × (m.map_frame < g) }
+{}
 
 /// What each front of what a connection is told shows its client.
 pub fn fronts_agree()
