@@ -18,3 +18,7 @@ pub mod Bytes
 pub mod Phases
 pub mod Endings
 pub mod Computed
+pub mod Ruled
+pub mod WrongComputed
+pub mod Quiet
+pub mod Syncs

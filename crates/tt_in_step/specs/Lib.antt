@@ -7,3 +7,4 @@ pub mod Ends
 pub mod Late
 -- Worked games
 pub mod Worked
+pub mod Wrong

@@ -7,6 +7,8 @@
 
 ghost use Rattle.std.specs.Prelude.{◌≡◌, ◌≤◌, ◌<◌, ◌^◌, ◌+◌, ◌++◌, ◌∷◌, ◌⊎◌, ℕ, true, false, Some, List, [], Ok};
 ghost use Rattle.tt_edge.specs.declared.event.Event.{Event};
+ghost use Rattle.tt_edge.specs.declared.event.Event.TheVariants.{Tick};
+ghost use Rattle.tt_game.specs.declared.message.GameMsg.TheVariants.{ServerSync};
 ghost use Rattle.tt_frame.specs.Packet.{IsBytes};
 ghost use Rattle.tt_frame.specs.Text.{IsName};
 ghost use Rattle.tt_world.specs.declared.setup.Setup.{Setup};
@@ -30,7 +32,8 @@ ghost use Rattle.tt_log.specs.Saved.{IsSaved};
 ghost use Rattle.tt_log.specs.Member.{Member, is_playing};
 ghost use Rattle.tt_log.specs.Table.{member_of};
 ghost use Rattle.tt_log.specs.History.{AreEvents, journal_of, table_of};
-ghost use Rattle.tt_log.specs.Told.{sent};
+ghost use Rattle.tt_log.specs.Deed.{Said, game};
+ghost use Rattle.tt_log.specs.Told.{sent, told};
 ghost use Rattle.tt_log.specs.Shown.{items_in, things_in};
 ghost use Rattle.tt_log.specs.Shown as book;
 ghost use Rattle.tt_in_step.specs.Watched.{entries_in, things_told, watched};
@@ -38,6 +41,10 @@ ghost use Rattle.tt_in_step.specs.Ends.{HasEnd};
 ghost use Rattle.tt_in_step.specs.Fed.{IsPlayer, calls_of};
 ghost use Rattle.tt_in_step.specs.Late.{late, late_events};
 ghost use Rattle.tt_in_step.specs.Worked.{ahead, at_once, client_of, in_step_at, stands_at, two_clients};
+ghost use Rattle.tt_in_step.specs.Wrong.{OutOfStepAt, StandsAt, ToldWrong, outcome, ruled_sent, true_rules};
+ghost use Rattle.tt_in_step.specs.Wrong.{drops_stamped_commands, misses_stamped_commands, stamps_for_next_frame};
+ghost use Rattle.tt_in_step.specs.Wrong.{tells_frame_first, tells_later_map, tells_whole_journal, tells_word_before};
+ghost use Rattle.tt_in_step.specs.Wrong.{evening_ahead, evening_at_once, joins_late, leaves_early};
 
 use tt_map::one_map;
 
@@ -83,6 +90,21 @@ pub fn entries_told()
 {
     one_map();
 }
+
+/// What a connection is told of the words of worlds, whatever the event.
+pub fn syncs_told()
+    // A SYNC is told by the tick that makes its frame.
+    ensures told_by_its_tick { (o : Origin) (events : List Event) (e : Event) (conn : ℕ) (front later : List Said) (g w : ℕ)
+        → told o events e conn ≡ front ++ game (ServerSync g w) ∷ later → (e ≡ Tick) × (g ≡ (table_of o (events ++ e ∷ [])).frame) }
+    // Its word is that of the journal's world at that frame.
+    ensures of_its_world { (o : Origin) (events : List Event) (e : Event) (conn : ℕ) (front later : List Said) (g w : ℕ)
+        → told o events e conn ≡ front ++ game (ServerSync g w) ∷ later
+        → w ≡ (world_at o (journal_of o (events ++ e ∷ [])) g).words.0 }
+    // A member is on the connection that is told it, and the frame lies above its map frame.
+    ensures above_the_map { (o : Origin) (events : List Event) (e : Event) (conn : ℕ) (front later : List Said) (g w : ℕ)
+        → told o events e conn ≡ front ++ game (ServerSync g w) ∷ later
+        → (m : Member) × (member_of (table_of o events) conn ≡ Some m) × (m.map_frame < g) }
+{}
 
 /// What each front of what a connection is told shows its client.
 pub fn fronts_agree()
@@ -172,6 +194,32 @@ pub fn two_games_are_in_step()
     ensures second { stands_at at_once (client_of at_once two_clients 2) ≡ in_step_at at_once two_clients 1 }
     ensures first_ahead { stands_at ahead (client_of ahead two_clients 1) ≡ in_step_at ahead two_clients 1 }
     ensures second_ahead { stands_at ahead (client_of ahead two_clients 2) ≡ in_step_at ahead two_clients 1 }
+{}
+
+/// The theorem is not blunt: servers whose rules are the true ones but for a single one, each on a small game. The client of
+/// the true server comes to its permitted frame; that of each wrong one is out of step, or is told what is not permitted.
+pub fn wrong_rules_go_wrong()
+    // They are apart from the true server by their rule alone: by the true rules each connection is sent what it is sent.
+    ensures true_rules { (o : Origin) (events : List Event) (conn : ℕ) → ruled_sent true_rules o events conn ≡ sent o events conn }
+    // With the true rules the four clients below come to the end of their games.
+    ensures true_joiner { outcome true_rules evening_ahead two_clients 2 ≡ StandsAt 8 }
+    ensures true_late_joiner { outcome true_rules evening_at_once joins_late 2 ≡ StandsAt 5 }
+    ensures true_first { outcome true_rules evening_at_once two_clients 1 ≡ StandsAt 6 }
+    ensures true_stayer { outcome true_rules evening_ahead leaves_early 1 ≡ StandsAt 8 }
+    // A joiner is not told the commands that are stamped and were not run: the company of frame 5 is missing.
+    ensures joiner_misses_stamped_commands { outcome misses_stamped_commands evening_ahead two_clients 2 ≡ OutOfStepAt 5 }
+    // A joiner is told the whole journal: it is told a command that is in its map.
+    ensures joiner_told_whole_journal { outcome tells_whole_journal evening_at_once joins_late 2 ≡ ToldWrong }
+    // A command is stamped for the next frame, to which a client may have run.
+    ensures stamped_for_next_frame { outcome stamps_for_next_frame evening_ahead two_clients 1 ≡ ToldWrong }
+    // FRAME is told before the commands of its tick: they are for the frame that it permits.
+    ensures frame_told_before_commands { outcome tells_frame_first evening_at_once two_clients 1 ≡ ToldWrong }
+    // The word is that of the world before the frame.
+    ensures word_before_the_frame { outcome tells_word_before evening_ahead two_clients 1 ≡ OutOfStepAt 2 }
+    // The map is that of the frame at which its bytes leave, and not of the one that it is said to be of.
+    ensures map_of_a_later_frame { outcome tells_later_map evening_ahead two_clients 1 ≡ OutOfStepAt 2 }
+    // Where another member leaves, a command is dropped that was stamped and told.
+    ensures stamped_commands_dropped { outcome drops_stamped_commands evening_ahead leaves_early 1 ≡ OutOfStepAt 5 }
 {}
 
 #[cfg(test)]
