@@ -1,5 +1,5 @@
 -- Lines of the console: what stands behind a word is a text, and what `kick` and `say` read.
-use Rattle.std.proofs.Common.{◌≡◌, ◌≢◌, ℕ, zero, suc, ◌+◌, ◌-◌, ◌<◌, ◌≤◌, ◌^◌, ◌⊎◌, inl, inr, List, [], ◌∷◌, ◌++◌, length, get_or, take, drop}
+use Rattle.std.proofs.Common.{◌≡◌, ◌≢◌, ℕ, suc, ◌-◌, ◌<◌, ◌≤◌, ◌^◌, ◌⊎◌, inl, inr, List, [], ◌∷◌, ◌++◌, length, get_or, take, drop}
 use Rattle.std.proofs.Common.{true, false, refl, ap, subst, Option, Some, None, arith, rules, sym, ◌∙◌, add-one, length-drop, drop-cons}
 use Rattle.std.specs.Prelude.{Bool, ◌==◌, All, codes, cond}
 use Rattle.std.proofs.lemmas.Bool.{ne_eqb, eqb-true}
@@ -28,7 +28,8 @@ text_from max bytes i is at =
     let t = IsText-from_is_text max bytes is in
     let few = length_of_text max bytes is in
     let short : length (drop i bytes) ≤ max = rw length-drop (omega arith) in
-    is_text-from_IsText max (drop i bytes) (record { utf8 = IsUtf8-drop bytes i t.utf8 at; shown = All-drop (λ b. 32 ≤ b) i bytes t.shown }) short
+    is_text-from_IsText max (drop i bytes)
+    (record { utf8 = IsUtf8-drop bytes i t.utf8 at; shown = All-drop (λ b. 32 ≤ b) i bytes t.shown }) short
 
 -- where a word ends: at the end, or at a blank
 abbrev Ends : List ℕ → List ℕ → Type 0
@@ -48,10 +49,10 @@ word_ends (b ∷ text) = ends_by b text (b == 32) refl (word_ends text)
 pub text_left : (max : ℕ) (text : List ℕ) → is_text max text ≡ true → is_text max (behind_word text) ≡ true
 text_left max text is =
     elim (word_ends text) [
-      inl none ↦ rw none (is_text-from_IsText max [] (record { utf8 = IsUtf8-nil; shown = search rules }) (omega arith))
-    | inr at ↦
-        let ascii : get_or text at.0 0 < 128 = rw at.2 (omega arith) in
-        rw at.3 (text_from max text at.0 is (IsCharBoundary-before_ascii text at.0 at.1 ascii))
+      | inl none ↦ rw none (is_text-from_IsText max [] (record { utf8 = IsUtf8-nil; shown = search rules }) (omega arith))
+      | inr at ↦
+          let ascii : get_or text at.0 0 < 128 = rw at.2 (omega arith) in
+          rw at.3 (text_from max text at.0 is (IsCharBoundary-before_ascii text at.0 at.1 ascii))
     ]
 
 -- and behind the blank too
@@ -59,7 +60,8 @@ pub text_behind : (max : ℕ) (left text : List ℕ) → is_text max left ≡ tr
 text_behind max left text is at =
     let here : is_text max (32 ∷ text) ≡ true = subst (λ (bytes : List ℕ). is_text max bytes ≡ true) at is in
     let ascii : get_or (32 ∷ text) 0 0 < 128 = omega arith in
-    text_from max (32 ∷ text) 1 here (IsCharBoundary-after_ascii (32 ∷ text) 0 (IsText-from_is_text max (32 ∷ text) here).utf8 (omega arith) ascii)
+    text_from max (32 ∷ text) 1 here
+    (IsCharBoundary-after_ascii (32 ∷ text) 0 (IsText-from_is_text max (32 ∷ text) here).utf8 (omega arith) ascii)
 
 -- the part of a text from its first blank on
 pub left_at : (text : List ℕ) (i : ℕ) → i < length text → ((k : ℕ) → k < i → get_or text k 0 ≡ 32 → ⊥) → get_or text i 0 ≡ 32

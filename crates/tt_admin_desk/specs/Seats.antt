@@ -1,6 +1,7 @@
 -- The admins of a table, and what becomes of them.
-use Rattle.std.specs.Prelude.{ℕ, Bool, true, false, ◌&&◌, ◌==◌, cond, List, map, Option, Some, None, slice_index, slice_set}
+use Rattle.std.specs.Prelude.{ℕ, Bool, true, false, ◌&&◌, ◌==◌, cond, nat_le, List, length, map, Option, Some, None, slice_index, slice_set}
 use Rattle.tt_log.specs.Admin.{Admin, is_due}
+use Rattle.tt_log.specs.Desk.{most_admins}
 use Rattle.tt_log.specs.Table.{Table, with_admin}
 use Rattle.tt_admin_desk.specs.declared.heard.Heard.{Heard}
 use Rattle.tt_admin_desk.specs.declared.heard.Heard.TheVariants.{Joined, Bits, Leave, Ends}
@@ -12,6 +13,10 @@ seats admins t = record t { admins = admins }
 -- the table as a connection comes in at a frame, which is counted
 abbrev pub opening : ℕ → ℕ → Table → Table
 opening conn frame t = record t { openings = conn; frame = frame }
+
+-- there is no room for another one
+abbrev pub is_full : List Admin → Bool
+is_full admins = nat_le most_admins (length admins)
 
 -- an admin in the place of the one on its connection
 abbrev pub placed : Admin → List Admin → List Admin

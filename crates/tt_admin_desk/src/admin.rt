@@ -15,9 +15,13 @@ const POLLED: u16 = 1;
 
 /// The bits of the periods.
 const DAILY: u16 = 2;
+
 const WEEKLY: u16 = 4;
+
 const MONTHLY: u16 = 8;
+
 const QUARTERLY: u16 = 16;
+
 const ANNUALLY: u16 = 32;
 
 /// An admin: a connection that came in by the side door and has not ended.

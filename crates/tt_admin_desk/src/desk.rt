@@ -1,11 +1,11 @@
 //! The admins that are there.
-ghost use Rattle.std.specs.Prelude.{◌≡◌, ◌++◌, [], ◌∷◌, map, filter, find, cond, ◌==◌, length, nat_le, nat_lt, not, Some, IfOk, IsSome, OnErr, OnOk};
+ghost use Rattle.std.specs.Prelude.{◌≡◌, [], ◌∷◌, find, not, Some, None, IfOk, IsSome, OnErr, OnOk};
 ghost use Rattle.tt_world.specs.World.{WorldState};
 ghost use Rattle.tt_log.specs.Admin.{Admin as TableAdmin};
-ghost use Rattle.tt_log.specs.Desk.{admin_arrives, most_admins};
-ghost use Rattle.tt_log.specs.Table.{Table, admin_of, is_admin_on, with_admin, without_admin};
+ghost use Rattle.tt_log.specs.Desk.{admin_arrives};
+ghost use Rattle.tt_log.specs.Table.{Table, is_admin_on, without_admin};
 ghost use Rattle.tt_admin_desk.specs.Hearing.{begun, hears};
-ghost use Rattle.tt_admin_desk.specs.Seats.{committed, opening, placed, seats, told_on};
+ghost use Rattle.tt_admin_desk.specs.Seats.{committed, is_full, opening, placed, seats, told_on};
 
 use crate::admin::Admin;
 use crate::heard::{Heard, heard_of};
@@ -48,8 +48,9 @@ impl Desk {
     /// A connection comes in, at this frame: it stands behind the others. False exactly where sixteen are there, and then it
     /// is no admin. At an error nothing has changed.
     pub fn open(&mut self, conn: u32, since: u32) -> Result<bool, OutOfMemory>
-        ensures room { IfOk result (λ stays. stays ≡ not (nat_le most_admins (length self.old))) }
-        ensures arrives { (t : Table) → OnOk result (self.new ≡ (admin_arrives (nat_le most_admins (length self.old)) (opening conn since (seats self.old t))).table.admins) }
+        ensures room { IfOk result (λ stays. stays ≡ not (is_full self.old)) }
+        ensures arrives { (t : Table) → OnOk result (self.new
+            ≡ (admin_arrives (is_full self.old) (opening conn since (seats self.old t))).table.admins) }
         ensures err { OnErr result (self.new ≡ self.old) }
     {
         if self.admins.len() >= MOST_ADMINS {
@@ -79,7 +80,8 @@ impl Desk {
     /// What a message of an admin that is there asks for, or the code that ends it. Nothing changes.
     pub fn heard(&self, setup: &Setup, conn: u32, msg: &AdminMsg) -> Heard
         requires live { IsSome (find (is_admin_on conn) self.now) }
-        ensures heard { (start : WorldState) (a : TableAdmin) → find (is_admin_on conn) self.now ≡ Some a → result ≡ hears (begun setup.now start) a msg.now }
+        ensures heard { (start : WorldState) (a : TableAdmin) → find (is_admin_on conn) self.now ≡ Some a
+            → result ≡ hears (begun setup.now start) a msg.now }
     {
         match admin_on(&self.admins, conn) {
             Some(admin) => heard_of(setup, &admin, msg),
@@ -90,7 +92,10 @@ impl Desk {
     /// Puts in force what was heard of an admin that is there: that it has joined, and its bits of a type. All else leaves the
     /// desk as it is; an admin that leaves or is ended is taken away by `close`.
     pub fn commit(&mut self, conn: u32, heard: &Heard)
-        ensures committed { (t : Table) (a : TableAdmin) → admin_of (seats self.old t) conn ≡ Some a → self.new ≡ (committed heard.now a (seats self.old t)).admins }
+        ensures committed { (t : Table) (a : TableAdmin) → find (is_admin_on conn) self.old ≡ Some a
+            → self.new ≡ (committed heard.now a (seats self.old t)).admins }
+        // Where nobody is on the connection, nothing changes.
+        ensures absent { find (is_admin_on conn) self.old ≡ None → self.new ≡ self.old }
     {
         let Some(mut admin) = admin_on(&self.admins, conn) else {
             return;

@@ -97,7 +97,8 @@ fn join_refusal(
     application: &Text<31>,
     version: &Text<31>,
 ) -> Option<u8>
-    ensures refusal { (start : WorldState) → result ≡ admin_join_refused (begun setup.now start) admin.now password.now application.now version.now }
+    ensures refusal { (start : WorldState) → result
+        ≡ admin_join_refused (begun setup.now start) admin.now password.now application.now version.now }
 {
     if admin.joined {
         Some(NOT_EXPECTED)

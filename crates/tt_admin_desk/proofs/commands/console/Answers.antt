@@ -1,4 +1,3 @@
-use Rattle.std.proofs.Common.{sym}
 use Rattle.tt_admin_desk.proofs.LineLaws.{command_is, text_left}
 use Rattle.tt_admin_desk.proofs.commands.console.Goals as goal
 
@@ -9,5 +8,6 @@ command_of-requires c = record {
 
 pub returns : goal.returns
 returns c = record {
-  command = rw (command_is c.args.text.now, ← c.bytes.ensures.same, ← c.parted.ensures.word, ← c.parted.ensures.left) c.command_of.ensures.command;
+  command = rw (command_is c.args.text.now, ← c.bytes.ensures.same, ← c.parted.ensures.word, ← c.parted.ensures.left)
+      c.command_of.ensures.command;
 }

@@ -11,9 +11,9 @@ returns-in_default c = record { command = rw (no_word c.args.left.now c.in_defau
 pub returns-in-Some-number_of : goal.returns-in-Some-number_of
 returns-in-Some-number_of c =
     let read : Some c.in-Some-number_of.client ≡ number_in (front_word c.in-Some.text.now) =
-        sym c.in-Some-number_of.is
-        ∙ number_is c.parted.result.0.now c.number_of.result c.number_of.ensures.found c.number_of.ensures.small c.number_of.ensures.none
-        ∙ ap number_in c.parted.ensures.word in
+    sym c.in-Some-number_of.is
+    ∙ number_is c.parted.result.0.now c.number_of.result c.number_of.ensures.found c.number_of.ensures.small c.number_of.ensures.none
+    ∙ ap number_in c.parted.ensures.word in
     record {
       command = rw (number_here c.args.left.now c.in-Some.text.now c.in-Some-number_of.client c.in-Some.ensures.cases read
           c.in-Some-number_of.ensures.small)
@@ -23,7 +23,7 @@ returns-in-Some-number_of c =
 pub returns-in-None : goal.returns-in-None
 returns-in-None c =
     let lost : None ≡ number_in (front_word c.in-Some.text.now) =
-        sym c.in-None.is
-        ∙ number_is c.parted.result.0.now c.number_of.result c.number_of.ensures.found c.number_of.ensures.small c.number_of.ensures.none
-        ∙ ap number_in c.parted.ensures.word in
+    sym c.in-None.is
+    ∙ number_is c.parted.result.0.now c.number_of.result c.number_of.ensures.found c.number_of.ensures.small c.number_of.ensures.none
+    ∙ ap number_in c.parted.ensures.word in
     record { command = rw (no_number c.args.left.now c.in-Some.text.now c.in-Some.ensures.cases lost) refl }

@@ -1,9 +1,8 @@
-use Rattle.std.proofs.Common.{rules}
+use Rattle.std.proofs.Common.{rules, sym}
 use Rattle.tt_lines.specs.Lines.{HasNo}
 use Rattle.tt_log.proofs.WordLaws.{front_at, front_none}
 use Rattle.tt_admin_desk.proofs.LineLaws.{left_at}
 use Rattle.tt_admin_desk.proofs.commands.parted.Goals as goal
-use Rattle.std.proofs.Common.{sym}
 
 pub returns-then-byte-eq32-clause-word : goal.returns-then-byte-eq32-clause-word
 returns-then-byte-eq32-clause-word c =

@@ -16,7 +16,7 @@ returns-then-is_empty c =
 pub unreachable-requires : goal.unreachable-requires
 unreachable-requires c =
     let yes : is_text 899 c.in-Some.text.now ≡ true =
-        text_behind 899 c.args.left.now c.in-Some.text.now c.requires.text c.in-Some.ensures.cases in
+    text_behind 899 c.args.left.now c.in-Some.text.now c.requires.text c.in-Some.ensures.cases in
     let no : is_text 899 c.in-Some.text.now ≡ false = c.in-None.ensures.test in
     cc
 
