@@ -1,10 +1,12 @@
-//! What the libraries of worlds, maps, rules, attempts, scripts and the hub answer to numbers and bytes from outside.
+//! What the libraries of worlds, maps, rules, attempts, scripts, the admin desk and the hub answer to numbers and bytes from outside.
 //!
 //! Only tests stand here, over public calls, so that a change of a library proves the library alone.
 #![tactic(auto)]
 
 #[cfg(test)]
 mod attempts;
+#[cfg(test)]
+mod desk;
 #[cfg(test)]
 mod hub;
 #[cfg(test)]
