@@ -109,8 +109,11 @@ blank = IsText-from_is_plain (codes " ") refl
 money-text : (z : ℤ) → neg_ℤ (pos most_money) ≤ℤ z → z ≤ℤ pos most_money → IsText (signed_decimal z) × (length (signed_decimal z) ≤ 21)
 money-text (pos n) low high =
     let l : n < 2 ^ 63 = omega (arith, ints) in
-    let k = length-decimal-le 20 n (omega arith) (omega (arith, l)) (omega (arith, l)) in (decimal-text n (omega (arith, l)), omega
-        (arith, k))
+    let k = length-decimal-le 20 n (omega arith) (omega (arith, l)) (omega (arith, l)) in (
+      decimal-text n (omega (arith, l)),
+      omega
+          (arith, k),
+    )
 money-text (negsuc n) low high =
     let l : suc n < 2 ^ 63 = omega (arith, ints) in
     let k = length-decimal-le 20 (suc n) (omega arith) (omega (arith, l)) (omega (arith, l)) in (

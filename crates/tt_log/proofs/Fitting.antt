@@ -211,8 +211,14 @@ module _ (o : Origin) (e : Event) (ok : IsOrigin o) (bytes : IsEvent e) where
         waiting = f.waiting;
       }
   turned-fits (goes_to company digest) t m may by h f =
-      record { client = f.client; asked = f.asked; company = move-fits e m company digest bytes may.says; name = f.name; some = f.some;
-          waiting = f.waiting }
+      record {
+        client = f.client;
+        asked = f.asked;
+        company = move-fits e m company digest bytes may.says;
+        name = f.name;
+        some = f.some;
+        waiting = f.waiting;
+      }
   turned-fits (founds company) t m may by h f =
       let places = ok.start.sound.places in
       record { client = f.client; asked = f.asked; company = omega (arith, may, places); name = f.name; some = f.some; waiting = f.waiting }

@@ -103,7 +103,7 @@ few-of conn name m (i ∷ is) d small = by (has conn name i m) refl (few-of conn
     by : (b : Bool) → has conn name i m ≡ b → length is ≤ suc (length (filter (λ j. not (has conn name j m)) is))
         → (has conn name i m ≡ true → filter (λ j. not (has conn name j m)) is ≡ is)
         → length (i ∷ is) ≤ suc (length (cond (not b) (i ∷ filter (λ j. not (has conn name j m)) is) (filter (λ j. not
-            (has conn name j m)) is)))
+        (has conn name j m)) is)))
     by true here few same = let e = ap (λ (xs : List ℕ). length xs) (same here) in omega (arith, e)
     by false here few same = omega (arith, few)
 
@@ -247,7 +247,7 @@ asked-name o e t m name asked n on same (inl before) h = kept-name t m n on (sam
     (λ named. lt-ltb 0 (rank m.status) (let l = before.2 in omega (arith, l))) h
 asked-name o e t m name asked n on same (inr (at, (revision, grf, wanted, is, allowed))) h =
     λ y there other named others equal. untaken m.conn (given_name t m.conn wanted) y t.members there
-        (given-free t m.conn wanted h.few) other others
+    (given-free t m.conn wanted h.few) other others
     (sym is ∙ sym same ∙ equal)
 
 turned-name : (c : Change) (o : Origin) (e : Event) (t : Table) (m : Member) → On t m → May o e t m c → Named t
@@ -269,7 +269,7 @@ turned-name (commands company code number to text command) o e t m on may h = ke
     (commands company code number to text command) t m) on refl (λ named. named) h
 turned-name (has_name name) o e t m on may h =
     λ y there other named others equal. untaken m.conn (given_name t m.conn name) y t.members there
-        (given-free t m.conn name h.few) other others equal
+    (given-free t m.conn name h.few) other others equal
 turned-name (goes_to company digest) o e t m on may h = kept-name t m (turned (goes_to company digest) t m) on refl (λ named. named) h
 turned-name (founds company) o e t m on may h = kept-name t m (turned (founds company) t m) on refl (λ named. named) h
 turned-name (gets_pieces left) o e t m on may h = kept-name t m (turned (gets_pieces left) t m) on refl (λ named. named) h
@@ -367,7 +367,7 @@ name-ticks o e = record {
         let k = among-drawn x t.members a in let l = among-drawn y t.members b in
         let at = k.2 in let too = l.2 in
         h.differ k.0 l.0 k.1 l.1 (ap (λ (z : Member). z.conn == l.0.conn) (sym at) ∙ ap (λ (z : Member). x.conn == z.conn)
-            (sym too) ∙ apart)
+        (sym too) ∙ apart)
         (ap (λ (z : Member). is_named z) (sym at) ∙ p) (ap (λ (z : Member). is_named z) (sym too) ∙ q)
         (ap (λ (z : Member). z.name) (sym at) ∙ same ∙ ap (λ (z : Member). z.name) too);
   };
@@ -394,5 +394,5 @@ names-differ o es x y c d ok a b apart p q same =
     let at : x.conn ≡ c = found-on c t.members x a in
     let too : y.conn ≡ d = found-on d t.members y b in
     (are-named o es ok).differ x y (on-found t c x a) (on-found t d y b) (ap (λ (k : ℕ). k == y.conn) at ∙ ap (λ
-        (k : ℕ). c == k) too ∙ apart)
+    (k : ℕ). c == k) too ∙ apart)
     p q same

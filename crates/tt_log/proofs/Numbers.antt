@@ -69,8 +69,12 @@ pub step-paid : (o : Origin) (e : Event) (t : Table) → IsOrigin o → IsPaid o
 step-paid o e t ok h = paid-by (takes t e) o e t ok refl h
 
 pub first-paid : (o : Origin) → IsOrigin o → IsPaid o (first o)
-first-paid o ok = record { few = omega arith; paid = omega arith; going = λ going. let l : 64 ≤ o.setup.cost = ok.setup.cost.0 in omega
-    (arith, l) }
+first-paid o ok = record {
+  few = omega arith;
+  paid = omega arith;
+  going = λ going. let l : 64 ≤ o.setup.cost = ok.setup.cost.0 in omega
+      (arith, l);
+}
 
 pub is-paid : (o : Origin) (es : List Event) → IsOrigin o → IsPaid o (table_of o es)
 is-paid o es ok = from-all o (IsPaid o) (λ e t h. step-paid o e t ok h) es (first o) (first-paid o ok)

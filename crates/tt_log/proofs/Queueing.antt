@@ -269,8 +269,10 @@ left-by false c d ds t is s once =
     one = omega arith
 
     behind : (k : ℕ) → place_in c ds ≡ k
-        → Queued (moved_up (suc k) (drop (suc k + 1) (d ∷ ds)) (record t { queue = take (suc k) (d ∷ ds) ++ drop (suc k + 1)
-            (d ∷ ds) })).table
+        → Queued (moved_up (suc k) (drop (suc k + 1) (d ∷ ds)) (record t {
+          queue = take (suc k) (d ∷ ds) ++ drop (suc k + 1)
+              (d ∷ ds);
+        })).table
     behind k place =
         let cut : take k ds ++ drop (k + 1) ds ≡ removed c ds = subst (λ (j : ℕ). take j ds ++ drop (j + 1) ds ≡ removed c ds) place
         (removed-is c ds) in
@@ -365,7 +367,7 @@ enters-shape m t h =
     let p : Member = opened_token (fresh_token t.tokens) u n in
     let w : Table = with_member p (record u { tokens = next_random t.tokens }) in
     leaves-queue-shape m.conn w (but-put p (put n t.members) t.queue (but-put n t.members t.queue
-        (but-of m.conn t.members t.queue h.shape)))
+    (but-of m.conn t.members t.queue h.shape)))
     h.once
 
 farewell-stays : (b : Bool) (f : Farewell) (m : Member) (u : Table) → Queued (leaves_queue m.conn u).table

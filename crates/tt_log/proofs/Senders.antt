@@ -60,7 +60,7 @@ found-by false n one code later is next found = next found
 found-code : (n : ℕ) (code : Code) → code_of n ≡ Some code → number_of code ≡ n
 found-code n code found =
     found-by (n == 0) n IncreaseLoan code _ refl (λ a. found-by (n == 1) n DecreaseLoan code _ refl (λ b. found-by
-        (n == 2) n Give code _ refl
+    (n == 2) n Give code _ refl
     (λ c. found-by (n == 3) n PlaceSign code _ refl (λ d. found-by (n == 4) n RenameSign code _ refl (λ f. found-by (n == 5) n
     RenameCompany code _ refl (λ g. found-by (n == 6) n RenamePresident code _ refl (λ h. found-by (n == 7) n Pause code _ refl
     (λ i. found-by (n == 8) n NewCompany code None refl (λ none. absurd cc) i) h) g) f) d) c) b) a) found

@@ -507,13 +507,16 @@ named-by None c said o t kind body company code number to text msg is r h =
     -- an event of this connection with the same bytes, which spells no command
     other : Event
     other = Packet c 0 body
+
     full : (b : Bool) (said : GameMsg) → result_ok (cond {A = Result GameMsg ℕ} b (Ok ServerFull) (Err 0)) ≡ Some said → said ≡ ServerFull
     full true said is = cc
     full false said is = absurd cc
+
     apart : (company code number to : ℕ) (text : List ℕ) → read_msg 0 body ≡ Some (ClientCommand company code number to text) → ⊥
     apart company code number to text is =
         let e : ClientCommand company code number to text ≡ ServerFull =
         full (length body == 0) (ClientCommand company code number to text) is in cc
+
     quiet : IsQuiet other c
     quiet m company code number to text at (k, b, is, said) =
         let one : 0 ≡ k = ap kind_in is in
@@ -523,9 +526,11 @@ named-by None c said o t kind body company code number to text msg is r h =
         kind_in : Event → ℕ
         kind_in (Packet conn k b) = k
         kind_in e = 0
+
         body_in : Event → List ℕ
         body_in (Packet conn k b) = b
         body_in e = []
+
     by : (x : Option Admin) → admin_of t c ≡ x → Kept c said (where_some x (admin_hears o (read_admin kind body)) t).table
     by None at = h
     by (Some a) at = (of-admin-hears o other (KeepsStamps c said) (stamp-walk c said o other quiet) (read_admin kind body) t a

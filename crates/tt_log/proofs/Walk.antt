@@ -425,7 +425,7 @@ module _ (o : Origin) (e : Event) (P : Table → List Step → Table → Type 0)
         let others : Within to (playing t) = λ c h. all-filter (IsOther c) (λ x. not (x == m.conn)) (playing t) h in
         let told : P t (step to (Msg (ServerJoin m.client)) ∷ []) u =
         w.base.joins t t u _ _ (w.base.tells_some t to (Msg (ServerJoin m.client)) others (m, on, refl))
-            (w.base.turns plays t m on at tt) in
+        (w.base.turns plays t m on at tt) in
         let news : Report = Message (admins.ServerClientJoin m.client) in
         let seen : P t (step to (Msg (ServerJoin m.client)) ∷ step (watching client_updates u) (ToAdmin news)
         ∷ []) u = w.base.joins t u u _ _ told (of-watched w.base client_updates _ u
