@@ -41,6 +41,7 @@ pub mod Ranges
 pub mod Senders
 pub mod Downloads
 pub mod Stamps
+pub mod Answered
 pub mod Endings
 pub mod Doors
 pub mod Quiet
