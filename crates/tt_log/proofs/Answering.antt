@@ -192,7 +192,10 @@ pub put-own : (c : ℕ) (told more given back : List ℕ) (t u : Table) (n m : M
     → u.openings ≡ t.openings → On t m → n.conn ≡ m.conn → m.conn ≡ c → more ≡ back ++ open_token n
     → (rank n.status ≤ 7 → n.token ≡ 0) → Kept c told given t → Kept c more back u
 put-own c told more given back t u n m is opened on conn own whole idle h = record {
-  live = λ x there at. elim (here x there at) [ inl same ↦ whole ∙ ap (λ (y : Member). back ++ open_token y) (sym same) | inr other ↦ absurd other ];
+  live = λ x there at. elim (here x there at) [
+    | inl same ↦ whole ∙ ap (λ (y : Member). back ++ open_token y) (sym same)
+    | inr other ↦ absurd other
+  ];
   idle = λ x there at low. elim (here x there at) [
     | inl same ↦ ap (λ (y : Member). y.token) same ∙ idle (subst (λ (y : Member). rank y.status ≤ 7) same low)
     | inr other ↦ absurd other
@@ -336,9 +339,10 @@ up-kept : (c : ℕ) (given : List ℕ) (o : Origin) (e : Event) → IsQuiet e c 
 up-kept c given o e quiet place [] t = tells-mutely c given t [] tt
 up-kept c given o e quiet zero (conn ∷ conns) t =
     let base = token-base c given o e quiet in
-    of-then o e (Keeps c given) base t (begins conn t) (moved_up 1 conns) (of-some o e (Keeps c given) base (member_of t conn) begins_where t
-    (λ m is. of-where o e (Keeps c given) base (is_in MapWait m) (begins_for m) t (λ waiting. begun-kept c given t m (on-found t conn m is)
-    (eqb-true (rank m.status) 5 waiting)))) (up-kept c given o e quiet 1 conns (begins conn t).table)
+    of-then o e (Keeps c given) base t (begins conn t) (moved_up 1 conns)
+    (of-some o e (Keeps c given) base (member_of t conn) begins_where t (λ m is. of-where o e (Keeps c given) base (is_in MapWait m)
+    (begins_for m) t (λ waiting. begun-kept c given t m (on-found t conn m is) (eqb-true (rank m.status) 5 waiting))))
+    (up-kept c given o e quiet 1 conns (begins conn t).table)
 up-kept c given o e quiet (suc place) (conn ∷ conns) t =
     of-then o e (Keeps c given) (token-base c given o e quiet) t (waits conn (suc place) t) (moved_up (suc (suc place)) conns)
     (tells-mutely c given t (waits conn (suc place) t).told (refl, tt)) (up-kept c given o e quiet (suc (suc place)) conns t)
@@ -373,7 +377,8 @@ farewell-mute (Failing code) m t = (refl, (refl, tt))
 farewell-kept : (f : Farewell) (c : ℕ) (given : List ℕ) (m : Member) (t : Table)
     → Keeps c given t (tells_farewell f m t).told (tells_farewell f m t).table
 farewell-kept Quitting c given m t = tells-mutely c given t (tells_farewell Quitting m t).told (farewell-mute Quitting m t)
-farewell-kept (Failing code) c given m t = tells-mutely c given t (tells_farewell (Failing code) m t).told (farewell-mute (Failing code) m t)
+farewell-kept (Failing code) c given m t = tells-mutely c given t (tells_farewell (Failing code) m t).told
+    (farewell-mute (Failing code) m t)
 
 leaves-kept : (c : ℕ) (given : List ℕ) (o : Origin) (e : Event) → IsQuiet e c → (m : Member) (f : Farewell) (t : Table)
     → Of o e (Keeps c given) t (leaves m f t)
@@ -427,6 +432,22 @@ enters-kept c given o e quiet t m on at told h =
     let pd : Of o e (Keeps c given) t d = of-then o e (Keeps c given) base t b (tells_fresh n) pb
     (greets-kept c given u n here refl (λ own. h.idle m on own (omega (arith, at)))) in
     of-then o e (Keeps c given) base t d (leaves_queue m.conn) pd (queue-kept c given o e quiet m.conn d.table) told h
+
+-- a member becomes ACTIVE
+pub active-kept : (c : ℕ) (given : List ℕ) (o : Origin) (e : Event) → IsQuiet e c → (t : Table) (m : Member) → On t m
+    → Of o e (Keeps c given) t (becomes_active m t)
+active-kept c given o e quiet t m on =
+    let n : Member = now_in Active t m in
+    let u : Table = with_member n t in
+    let to : List ℕ = filter (λ x. not (x == m.conn)) (playing t) in
+    let d : Deed = tells to (ServerJoin m.client) u ▹ sees_active n in
+    let turn : Keeps c given t [] u = put-kept c given [] t u n m refl refl on refl
+    (λ told own is idle. (append-nil told ∙ is, λ low. absurd (omega (arith, low)))) in
+    let pd : Of o e (Keeps c given) t d = to-then c given given given t u u [] d.told turn (tells-mutely c given u d.told
+    (refl, (refl, tt))) in
+    of-then o e (Keeps c given) (token-base c given o e quiet) t d (where_ (m.asked == founder) (asks_company n)) pd
+    (of-where o e (Keeps c given) (token-base c given o e quiet) (m.asked == founder) (asks_company n) u
+    (λ is. like-kept c given u (asks_company n u).table refl (omega arith)))
 
 pub token-walk : (c : ℕ) (given : List ℕ) (o : Origin) (e : Event) → IsQuiet e c → Walk o e (Keeps c given)
 token-walk c given o e quiet = record {
@@ -522,22 +543,7 @@ token-closing c given o e = record {
   });
 }
 
--- a member becomes ACTIVE
-pub active-kept : (c : ℕ) (given : List ℕ) (o : Origin) (e : Event) → IsQuiet e c → (t : Table) (m : Member) → On t m
-    → Of o e (Keeps c given) t (becomes_active m t)
-active-kept c given o e quiet t m on =
-    let n : Member = now_in Active t m in
-    let u : Table = with_member n t in
-    let to : List ℕ = filter (λ x. not (x == m.conn)) (playing t) in
-    let d : Deed = tells to (ServerJoin m.client) u ▹ sees_active n in
-    let turn : Keeps c given t [] u = put-kept c given [] t u n m refl refl on refl
-    (λ told own is idle. (append-nil told ∙ is, λ low. absurd (omega (arith, low)))) in
-    let pd : Of o e (Keeps c given) t d = to-then c given given given t u u [] d.told turn (tells-mutely c given u d.told
-    (refl, (refl, tt))) in
-    of-then o e (Keeps c given) (token-base c given o e quiet) t d (where_ (m.asked == founder) (asks_company n)) pd
-    (of-where o e (Keeps c given) (token-base c given o e quiet) (m.asked == founder) (asks_company n) u
-    (λ is. like-kept c given u (asks_company n u).table refl (omega arith)))
-
+-- no event but an ACK of the connection gives a token back
 pub quiet-kept : (c : ℕ) (given : List ℕ) (o : Origin) (e : Event) (t : Table) → IsQuiet e c
     → Of o e (Keeps c given) t (deed o e t)
 quiet-kept c given o e t quiet = of-deed o e (Keeps c given) (token-walk c given o e quiet) (token-ticks c given o e)

@@ -24,8 +24,8 @@ use Rattle.tt_log.specs.Judged.{judged}
 use Rattle.tt_log.specs.PacketRules.{acknowledged, acknowledges, closed_token, has_caught_up, becomes_active}
 use Rattle.tt_log.specs.Desk.{read_admin, admin_hears}
 use Rattle.tt_log.specs.Tellings.{filling}
-use Rattle.tt_log.specs.Events.{read_msg, heard, to_named, by_verdict, by_event, charged, closed, stops, shut_down, taken, takes, last_frame}
-use Rattle.tt_log.specs.Events.{deed, stepped}
+use Rattle.tt_log.specs.Events.{read_msg, heard, to_named, by_verdict, by_event, charged, closed, stops, shut_down, taken, takes}
+use Rattle.tt_log.specs.Events.{deed, stepped, last_frame}
 use Rattle.tt_log.specs.History.{table_of}
 use Rattle.tt_log.specs.Told as told
 use Rattle.tt_log.specs.Answered.{some_token, open_token, token_of, tokens_told, answer_in, if_allowed, answered_of, if_so, answered_by}
@@ -68,6 +68,7 @@ acked-conn : (b : Bool) (frame : ℕ) (m : Member) → (record (cond b m (closed
 acked-conn true frame m = refl
 acked-conn false frame m = refl
 
+-- so the member's open token is closed as it is given back
 acked-kept : (c : ℕ) (given : List ℕ) (t : Table) (m : Member) (frame token : ℕ) → On t m → m.conn ≡ c
     → not ((token == 0) || (token == m.token)) ≡ false
     → KeepsTo c given (given ++ some_token token) t [] (with_member (acknowledged frame token m) t)
@@ -80,6 +81,7 @@ acked-kept c given t m frame token on own right told h =
 stop-quiet : (c : ℕ) → IsQuiet Stop c
 stop-quiet c m frame token at (kind, body, is, said) = absurd cc
 
+-- and it may become ACTIVE behind that
 acks-kept : (c : ℕ) (given : List ℕ) (o : Origin) (t : Table) (m : Member) (frame token : ℕ) → On t m → m.conn ≡ c
     → not ((token == 0) || (token == m.token)) ≡ false
     → KeepsTo c given (given ++ some_token token) t (acknowledges m frame token t).told (acknowledges m frame token t).table
@@ -117,6 +119,7 @@ full-alone false said is = absurd cc
 no-ack : (body : List ℕ) (frame token : ℕ) → read_msg 0 body ≡ Some (ClientAck frame token) → ⊥
 no-ack body frame token is = let e : ClientAck frame token ≡ ServerFull = full-alone (length body == 0) (ClientAck frame token) is in cc
 
+-- an ACK of no member gives nothing back, and an admin says what it says
 named-kept : (x : Option Member) (c : ℕ) (given : List ℕ) (o : Origin) (t : Table) (kind : ℕ) (body : List ℕ) (frame token : ℕ)
     → read_msg kind body ≡ Some (ClientAck frame token) → member_of t c ≡ x
     → KeepsTo c given (given ++ answered_of o t x (read_msg kind body)) t
@@ -151,12 +154,14 @@ named-kept None c given o t kind body frame token said is =
         (found-among (is_admin_on c) a t.admins at) (sym (eqb-true a.conn c (found-passes (is_admin_on c) a t.admins at))) refl
         (is-packet-aside o other (Keeps c given) (token-walk c given o other quiet) (read_admin kind body) kind body refl (λ bytes. bytes))
 named-kept (Some m) c given o t kind body frame token said is =
-    let P : Option GameMsg → Type 0 = λ x. KeepsTo c given (given ++ answered_of o t (Some m) x) t (heard o x m t).told (heard o x m t).table in
+    let P : Option GameMsg → Type 0 = λ x. KeepsTo c given (given ++ answered_of o t (Some m) x) t (heard o x m t).told
+    (heard o x m t).table in
     subst P (sym said) (verdict-kept (judged o t m (Some (ClientAck frame token))) c given o t m kind body frame token said refl
     (judged-code o t m (Some (ClientAck frame token))) (on-found t c m is) (found-on c t.members m is))
 
 -- what follows the rule of an event
-taken-kept : (c : ℕ) (given back : List ℕ) (o : Origin) (e : Event) (t : Table) → KeepsTo c given back t (by_event o e t).told (by_event o e t).table
+taken-kept : (c : ℕ) (given back : List ℕ) (o : Origin) (e : Event) (t : Table)
+    → KeepsTo c given back t (by_event o e t).told (by_event o e t).table
     → KeepsTo c given back t (taken o e t).told (taken o e t).table
 taken-kept c given back o e t h =
     let d : Deed = by_event o e t in
