@@ -46,6 +46,7 @@ use Rattle.tt_log.proofs.Changes.{Allows, By, Change, wants_password, is_let_in,
 use Rattle.tt_log.proofs.Changes.{has_name, goes_to, founds, gets_pieces, has_all, Asks, May, turned, turned_in, steps_with, moved, Move}
 use Rattle.tt_log.proofs.Changes.{queues, begins_map, loads, IsClient, IsSeated, IsReason, IsEnd, IsChat, IsTalk, IsNews, IsNotice}
 use Rattle.tt_log.proofs.Changes.{IsAnswer, IsReport}
+use Rattle.tt_log.proofs.Walk.{Turns, ahead-of, behind-of}
 use Rattle.tt_log.proofs.Walk.{running, told_moved, IsOrdered, Base, Walk, Doors, Closing, Moves, Ticks, of-asks, of-enters}
 use Rattle.tt_log.proofs.Walk.{of-leaves, of-deed}
 use Rattle.tt_log.proofs.Marking.{fresh-low, none-first}
@@ -380,6 +381,10 @@ module _ (o : Origin) (e : Event) (ok : IsOrigin o) (bytes : IsEvent e) where
     near = rw (top, frame) h.near;
   }
 
+  fitting-turns : Turns o e Fitting
+  fitting-turns c t m on may by = at-once t (turned_in c t m) _ refl refl (λ low h. let f = found-fits o t m on h in
+        (put-fits t o (turned c t m) _ (turned-fits c t m may by h f) h, with-fits c t m low h f))
+
   fitting-base : Base o e Fitting
   fitting-base = record {
     still = λ t. at-once t t [] refl refl (λ low h. (h, tt));
@@ -390,8 +395,7 @@ module _ (o : Origin) (e : Event) (ok : IsOrigin o) (bytes : IsEvent e) where
           let one = a.fits (let k = b.frame in omega (arith, k, low)) (let k = b.clients in omega (arith, k, few)) h in
           let two = b.fits low few one.0 in (two.0, all-append (λ (s : Step). FitsWhat s.what) xs ys one.1 two.1);
     };
-    turns = λ c t m on may by. at-once t (turned_in c t m) _ refl refl (λ low h. let f = found-fits o t m on h in
-        (put-fits t o (turned c t m) _ (turned-fits c t m may by h f) h, with-fits c t m low h f));
+    turns = ahead-of o e Fitting fitting-turns;
     tells_one = λ t m msg on talk. at-once t t _ refl refl (λ low h. (h, (talk-fits t msg talk low h, tt)));
     tells_some = λ t to w there news. at-once t t _ refl refl (λ low h. (h, (news-fits t w news low h, tt)));
     tells_admins = λ t to r there is. at-once t t _ refl refl (λ low h. (h, (report-fits t r is h, tt)));
@@ -563,6 +567,7 @@ module _ (o : Origin) (e : Event) (ok : IsOrigin o) (bytes : IsEvent e) where
       },
       tt,
     ));
+    behind = behind-of o e Fitting fitting-turns;
     running = λ t b is. running-fits b t;
   }
 
