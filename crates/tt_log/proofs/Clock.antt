@@ -94,7 +94,7 @@ event-same o e t other = of-still o e KeepsClock (same-walk o e) (same-doors o e
 pub stamped-same : (o : Origin) (t : Table) → SameClock (stamping t) (stamped t).table
 stamped-same o t = of-entries o Tick KeepsClock (same-base o Tick) (stamps t) (stamping t) (last-among t.journal (stamps t))
 
-runs-same : (o : Origin) (b : Bool) (t : Table) → SameClock (running b o t) (frame_runs_by b o t).table
+pub runs-same : (o : Origin) (b : Bool) (t : Table) → SameClock (running b o t) (frame_runs_by b o t).table
 runs-same o true t = of-frames o Tick KeepsClock (same-base o Tick) t.members (running true o t)
 runs-same o false t = record { frame = refl; top = refl; over = refl; journal = refl }
 

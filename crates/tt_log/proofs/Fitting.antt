@@ -21,7 +21,6 @@ use Rattle.tt_admin.specs.declared.message.AdminMsg.TheVariants as admins
 use Rattle.tt_world.specs.declared.command.Code.{Code}
 use Rattle.tt_world.specs.declared.command.Command.{Command}
 use Rattle.tt_rules.specs.Commands.{code_of, command_with}
-use Rattle.tt_rules.specs.Reasons.{◌⇒◌}
 use Rattle.tt_log.specs.declared.deed.Step.{Step}
 use Rattle.tt_log.specs.declared.deed.What.{What}
 use Rattle.tt_log.specs.declared.deed.What.TheVariants.{Msg, Stamp, Sync}
@@ -49,7 +48,7 @@ use Rattle.tt_log.proofs.Changes.{IsAnswer, IsReport}
 use Rattle.tt_log.proofs.Walk.{Turns, ahead-of, behind-of}
 use Rattle.tt_log.proofs.Walk.{running, told_moved, IsOrdered, Base, Walk, Doors, Closing, Moves, Ticks, of-asks, of-enters}
 use Rattle.tt_log.proofs.Walk.{of-leaves, of-deed}
-use Rattle.tt_log.proofs.Marking.{fresh-low, none-first}
+use Rattle.tt_log.proofs.Marking.{fresh-low, last-none, none-first}
 use Rattle.tt_log.proofs.Reading.{join-fits, command-fits, chat-fits, name-fits, move-fits, error-fits, ping-fits, rcon-fits}
 use Rattle.tt_log.proofs.Reading.{aside-fits}
 use Rattle.tt_log.proofs.GivenNames.{given-fits, given-some}
@@ -62,10 +61,6 @@ use Rattle.tt_log.proofs.Ranges.{FitsTable, FitsReport, FitsSteps, FitsWhat}
 use Rattle.tt_log.proofs.Ranges.{code-small, low-code, low-scope, low-byte}
 
 -- ---- what was not refused
-
-last-none : (b : Bool) (code : ℕ) → (b ⇒ code) ≡ None → b ≡ false
-last-none true code is = absurd cc
-last-none false code is = refl
 
 join-short : (o : Origin) (e : Event) (t : Table) (m : Member) (revision : List ℕ) (grf : ℕ) (name : List ℕ) (company : ℕ)
     → Allows o e t m (ClientJoin revision grf name company) → is_too_long (given_name t m.conn name) ≡ false

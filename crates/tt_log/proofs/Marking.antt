@@ -36,6 +36,10 @@ pub none-first : (b : Bool) (code : ℕ) (later : Option ℕ) → ((b ⇒ code) 
 none-first true code later is = absurd cc
 none-first false code later is = (refl, is)
 
+pub last-none : (b : Bool) (code : ℕ) → (b ⇒ code) ≡ None → b ≡ false
+last-none true code is = absurd cc
+last-none false code is = refl
+
 or-false : (x y : Bool) → (x || y) ≡ false → (x ≡ false) × (y ≡ false)
 or-false true y is = absurd cc
 or-false false y is = (refl, is)

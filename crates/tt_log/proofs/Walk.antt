@@ -63,13 +63,13 @@ use Rattle.tt_log.specs.Events.{takes, deed, last_frame}
 use Rattle.tt_log.specs.History.{IsEvent}
 use Rattle.tt_log.proofs.Lists.{Among, Within, NotIn, IsOther, found-among, map-filter-not, all-of-filter, all-filter, all-among}
 use Rattle.tt_log.proofs.Lists.{last-among, all-append, found-passes}
-use Rattle.tt_log.proofs.Crew.{On, OnAdmin, conns, others, on-found, found-on, put-among, put-admin-among, admin_conns}
+use Rattle.tt_log.proofs.Crew.{On, OnAdmin, conns, others, on-found, found-on, put-among, put-admin-among, admin_conns, still-playing}
 use Rattle.tt_log.proofs.Codes.{IsCode, IsCodeOf, admin-judged-code, judged-code, late-code}
 use Rattle.tt_log.proofs.Places.{foundings-low, world-places}
 use Rattle.tt_log.proofs.Changes.{step, Allows, allows, Says, By, Change, wants_password, is_let_in, gets_token, gets_frame, answers, plays}
 use Rattle.tt_log.proofs.Changes.{commands, has_name, goes_to, founds, gets_pieces, has_all, Move, queues, begins_map, loads, Asks, May}
-use Rattle.tt_log.proofs.Changes.{is_behind, behind-by, turned, moved, turned_in, steps_with, IsSeated, IsChat, IsFarewell, IsTalk, IsNews, IsNotice, IsReport}
-use Rattle.tt_log.proofs.Changes.{SaysAside, turned-conn}
+use Rattle.tt_log.proofs.Changes.{is_behind, behind-by, turned, moved, turned_in, steps_with, IsSeated, IsChat, IsFarewell, IsTalk, IsNews}
+use Rattle.tt_log.proofs.Changes.{IsNotice, IsReport, SaysAside, turned-conn}
 use Rattle.tt_log.proofs.Reported.{due-known, lines-known, polls-known}
 
 -- ---- the tables of a tick
@@ -289,23 +289,6 @@ module _ (o : Origin) (e : Event) (P : Table → List Step → Table → Type 0)
         let day : ℕ = (world_of o t).day in
         of-where (not (day == before)) (day_told day) t (λ is. of-each-told day (filter (λ a. a.joined) t.admins) t
         (all-among (filter (λ a. a.joined) t.admins)))
-
-    -- who plays without a member plays with it too
-    still-playing : (conn : ℕ) (t : Table) → Within (playing (without_member conn t)) (playing t)
-    still-playing conn t c h = by t.members h
-      where
-        one : (b d : Bool) (m : Member) (few all : List Member) → (NotIn c (conns (filter is_playing all))
-            → NotIn c (conns (filter is_playing few))) → is_playing m ≡ d
-            → NotIn c (conns (cond d (m ∷ filter is_playing all) (filter is_playing all)))
-            → NotIn c (conns (filter is_playing (cond b (m ∷ few) few)))
-        one true true m few all next is a = rw is (a.0, next a.1)
-        one true false m few all next is a = rw is (next a)
-        one false true m few all next is a = next a.1
-        one false false m few all next is a = next a
-
-        by : (ms : List Member) → NotIn c (conns (filter is_playing ms)) → NotIn c (conns (filter is_playing (others conn ms)))
-        by [] a = tt
-        by (m ∷ ms) a = one (not (is_on conn m)) (is_playing m) m (others conn ms) ms (λ b. by ms b) refl a
 
     -- ---- stamps, and the frame
 

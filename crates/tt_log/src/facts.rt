@@ -9,6 +9,7 @@ ghost use Rattle.tt_log.specs.Member.{Member, is_named};
 ghost use Rattle.tt_log.specs.Origin.{IsOrigin, Origin};
 ghost use Rattle.tt_log.specs.PacketRules.{told_command};
 ghost use Rattle.tt_log.specs.Ranges.{FitsEntry, FitsMember};
+ghost use Rattle.tt_log.specs.Seats.{AreSeated, LockLive, WaitForLive};
 ghost use Rattle.tt_log.specs.Senders.{IsKnown, IsOfSender};
 ghost use Rattle.tt_log.specs.Spelled.{AreSpelled, IsReadAgain, IsSmall, IsSpelled};
 ghost use Rattle.tt_log.specs.Table.{member_of};
@@ -55,4 +56,12 @@ pub fn tables_are_in_range()
 pub fn names_differ()
     ensures { (o : Origin) (es : List Event) (x y : Member) (c d : ℕ) → IsOrigin o → member_of (table_of o es) c ≡ Some x
         → member_of (table_of o es) d ≡ Some y → (c == d) ≡ false → is_named x ≡ true → is_named y ≡ true → x.name ≡ y.name → ⊥ }
+{}
+
+/// Each company of which a table speaks lives: a member is in one that lives, or in none; commands wait for companies that live;
+/// and only companies that live have a password.
+pub fn companies_live()
+    ensures members { (o : Origin) (es : List Event) → AreSeated o (table_of o es) }
+    ensures waiting { (o : Origin) (es : List Event) → WaitForLive o (table_of o es) }
+    ensures digests { (o : Origin) (es : List Event) → LockLive o (table_of o es) }
 {}
