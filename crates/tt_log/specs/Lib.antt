@@ -46,5 +46,6 @@ pub mod Endings
 pub mod Doors
 pub mod Quiet
 pub mod Marks
+pub mod Seats
 pub mod Foundings
 pub mod Shown

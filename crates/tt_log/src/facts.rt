@@ -10,6 +10,7 @@ ghost use Rattle.tt_log.specs.Member.{Member, is_named};
 ghost use Rattle.tt_log.specs.Origin.{IsOrigin, Origin};
 ghost use Rattle.tt_log.specs.PacketRules.{told_command};
 ghost use Rattle.tt_log.specs.Ranges.{FitsEntry, FitsMember};
+ghost use Rattle.tt_log.specs.Seats.{AreSeated, LockLive, WaitForLive};
 ghost use Rattle.tt_log.specs.Senders.{IsKnown, IsOfSender};
 ghost use Rattle.tt_log.specs.Spelled.{AreSpelled, IsReadAgain, IsSmall, IsSpelled};
 ghost use Rattle.tt_log.specs.Table.{member_of};
@@ -69,4 +70,12 @@ pub fn tokens_are_answered()
     // At most one more was told than was given back.
     ensures one { (o : Origin) (es : List Event) (conn : ℕ)
         → length (tokens_told o es conn) ≤ length (tokens_answered o es conn) + 1 }
+{}
+
+/// Each company of which a table speaks lives: a member is in one that lives, or in none; commands wait for companies that live;
+/// and only companies that live have a password.
+pub fn companies_live()
+    ensures members { (o : Origin) (es : List Event) → AreSeated o (table_of o es) }
+    ensures waiting { (o : Origin) (es : List Event) → WaitForLive o (table_of o es) }
+    ensures digests { (o : Origin) (es : List Event) → LockLive o (table_of o es) }
 {}
