@@ -36,7 +36,7 @@ use Rattle.tt_log.proofs.Crew.{On, put, put-among, on-found}
 use Rattle.tt_log.proofs.Changes.{step, Says, By, May, Asks, Change, wants_password, is_let_in, gets_token, gets_frame, answers, plays}
 use Rattle.tt_log.proofs.Changes.{commands, has_name, goes_to, founds, gets_pieces, has_all, turned, turned_in, turned-conn, told_with}
 use Rattle.tt_log.proofs.Changes.{IsTalk, IsNews, Move, queues, begins_map, loads, moved, moved-conn}
-use Rattle.tt_log.proofs.Walk.{Base, Walk, Doors, Closing, Ticks, Of, running, stamping, MayMove, of-then, of-where, of-some}
+use Rattle.tt_log.proofs.Walk.{Turns, ahead-of, behind-of, Base, Walk, Doors, Closing, Ticks, Of, running, stamping, MayMove, of-then, of-where, of-some}
 use Rattle.tt_log.proofs.Walk.{of-deed}
 use Rattle.tt_log.proofs.Stamping.{among-put, among-filter, among-drawn, among-last}
 
@@ -306,12 +306,15 @@ news-mute o e t (Entries frame) news = refl
 news-mute o e t (Stamp entry) news = refl
 news-mute o e t End news = refl
 
+token-turns : (c : ℕ) (given : List ℕ) (o : Origin) (e : Event) → IsQuiet e c → Turns o e (Keeps c given)
+token-turns c given o e quiet k t m on may by = put-kept c given (told_with k o t m) t (turned_in k t m) (turned k t m) m refl refl on
+    (turned-conn k t m) (λ told at. turned-suits k c o e t m told given quiet at may by)
+
 pub token-base : (c : ℕ) (given : List ℕ) (o : Origin) (e : Event) → IsQuiet e c → Base o e (Keeps c given)
 token-base c given o e quiet = record {
   still = λ t. tells-mutely c given t [] tt;
   joins = λ t u v xs ys a b. to-then c given given given t u v xs ys a b;
-  turns = λ k t m on may by. put-kept c given (told_with k o t m) t (turned_in k t m) (turned k t m) m refl refl on (turned-conn k t m)
-      (λ told at. turned-suits k c o e t m told given quiet at may by);
+  turns = ahead-of o e (Keeps c given) (token-turns c given o e quiet);
   tells_one = λ t m said on talk. tells-once c given t (step (m.conn ∷ []) (Msg said)) (talk-mute o e t said talk);
   tells_some = λ t to w there news. tells-once c given t (step to w) (news-mute o e t w news);
   tells_admins = λ t to r may is. tells-once c given t (step to (ToAdmin r)) refl;
@@ -523,8 +526,9 @@ run-kept : (b : Bool) (c : ℕ) (given : List ℕ) (o : Origin) (t : Table) → 
 run-kept true c given o t = like-kept c given t _ refl (omega arith)
 run-kept false c given o t = like-kept c given t _ refl (omega arith)
 
-token-ticks : (c : ℕ) (given : List ℕ) (o : Origin) (e : Event) → Ticks o e (Keeps c given)
-token-ticks c given o e = record {
+token-ticks : (c : ℕ) (given : List ℕ) (o : Origin) (e : Event) → IsQuiet e c → Ticks o e (Keeps c given)
+token-ticks c given o e quiet = record {
+  behind = behind-of o e (Keeps c given) (token-turns c given o e quiet);
   stamping = λ t. mutely c given t _ [] tt (λ told h. drawn-kept c told given t h);
   running = λ t b is. run-kept b c given o t;
 }
@@ -546,5 +550,5 @@ token-closing c given o e = record {
 -- no event but an ACK of the connection gives a token back
 pub quiet-kept : (c : ℕ) (given : List ℕ) (o : Origin) (e : Event) (t : Table) → IsQuiet e c
     → Of o e (Keeps c given) t (deed o e t)
-quiet-kept c given o e t quiet = of-deed o e (Keeps c given) (token-walk c given o e quiet) (token-ticks c given o e)
+quiet-kept c given o e t quiet = of-deed o e (Keeps c given) (token-walk c given o e quiet) (token-ticks c given o e quiet)
     (token-doors c given o e) (token-closing c given o e) t

@@ -112,9 +112,9 @@ all-aside c steps a = all-so (λ (s : Step). NotIn c s.to) (Aside c) steps (λ s
 
 out-turns : (c : ℕ) (o : Origin) (e : Event) → Turns o e (KeepsOut c)
 out-turns c o e k t m on may by h = (
-    put-out c (turned k t m) t h,
-    all-aside c (steps_with k o t m) (own-missed c m.conn (told_with k o t m) (among-not c m t.members on h.members)),
-  )
+  put-out c (turned k t m) t h,
+  all-aside c (steps_with k o t m) (own-missed c m.conn (told_with k o t m) (among-not c m t.members on h.members)),
+)
 
 out-base : (c : ℕ) (o : Origin) (e : Event) → Base o e (KeepsOut c)
 out-base c o e = record {

@@ -205,14 +205,14 @@ put-live c said t n m on conn client waiting h x there at = elim (among-put n x 
 
 stamp-turns : (c : ℕ) (said : List (ℕ × Command)) (o : Origin) (e : Event) → IsQuiet e c → Turns o e (KeepsStamps c said)
 stamp-turns c said o e quiet k t m on may by r h = (
-    order-turns o e k t m on may by r,
-    record {
-      live = λ x there at. put-live c said t (turned k t m) m on (turned-conn k t m) (turned-client k t m)
-          (λ own. turned-waiting k c e t m quiet own by) h x there at;
-      early = h.early;
-      senders = h.senders;
-    },
-  )
+  order-turns o e k t m on may by r,
+  record {
+    live = λ x there at. put-live c said t (turned k t m) m on (turned-conn k t m) (turned-client k t m)
+        (λ own. turned-waiting k c e t m quiet own by) h x there at;
+    early = h.early;
+    senders = h.senders;
+  },
+)
 
 stamp-base : (c : ℕ) (said : List (ℕ × Command)) (o : Origin) (e : Event) → IsQuiet e c → Base o e (KeepsStamps c said)
 stamp-base c said o e quiet = record {
