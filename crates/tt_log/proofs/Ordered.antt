@@ -75,7 +75,7 @@ under-later n xs a = all-so (λ (x : ℕ). x ≤ n) (λ (x : ℕ). x ≤ n + 1) 
 abbrev pub clients : List Member → List ℕ
 clients ms = map (λ (m : Member). m.client) ms
 
-rising-above : (k : ℕ) (m : Member) (ms : List Member) → AreRising k (conns ms) → Among m ms → k < m.conn
+pub rising-above : (k : ℕ) (m : Member) (ms : List Member) → AreRising k (conns ms) → Among m ms → k < m.conn
 rising-above k m [] r there = absurd there
 rising-above k m (x ∷ xs) r (inl here) = subst (λ (y : Member). k < y.conn) here r.0
 rising-above k m (x ∷ xs) r (inr later) = let a : k < x.conn = r.0 in let b : x.conn < m.conn = rising-above x.conn m xs r.1 later in

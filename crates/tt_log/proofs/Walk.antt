@@ -625,7 +625,7 @@ module _ (o : Origin) (e : Event) (P : Table → List Step → Table → Type 0)
         of-moves t m f.1 on (behind (founds f.1) t m on low.0 refl)))
         (of-all-moved behind fs d.table low.1)
 
-    loading-is : (x : Option Member) (m : Member) → if_loading x ≡ Some m → (x ≡ Some m) × (rank m.status ≡ 6)
+    pub loading-is : (x : Option Member) (m : Member) → if_loading x ≡ Some m → (x ≡ Some m) × (rank m.status ≡ 6)
     loading-is None m is = absurd cc
     loading-is (Some n) m is = by (rank n.status == 6) refl is
       where
@@ -670,6 +670,14 @@ module _ (o : Origin) (e : Event) (P : Table → List Step → Table → Type 0)
     of-founders behind before t places = of-all-moved behind (foundings (living before) (at_frame o t.frame t.journal)) t
         (foundings-low (length o.start.companies) (living before) (at_frame o t.frame t.journal) (length-map before.companies is_some
         ∙ places))
+
+    -- what ends a tick: time limits, and what admins are told
+    pub of-limits : (before : ℕ) (t : Table) → Of t (timed o t ▹ admins_limited o ▹ admins_told before o)
+    of-limits before t =
+        let d : Deed = timed o t in
+        let e : Deed = d ▹ admins_limited o in
+        let pe : Of t e = of-then w.base t d (admins_limited o) (of-each-limited t.members t)
+        (of-admins-limited d.table.admins d.table) in of-then w.base t e (admins_told before o) pe (of-admins-told w.base before e.table)
 
     pub of-follows-by : (before : WorldState) (left : List ℕ) (t : Table) → Of t (founders_moved o (living before) t)
         → ((u : Table) → Of u (mapped left u)) → Of t (frame_follows before left o t)

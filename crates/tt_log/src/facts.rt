@@ -4,7 +4,7 @@ ghost use Rattle.std.specs.List.{AllByRecursion};
 ghost use Rattle.tt_edge.specs.declared.event.Event.{Event};
 ghost use Rattle.tt_log.specs.Answered.{open_token, tokens_answered, tokens_told};
 ghost use Rattle.tt_log.specs.Deed.{game};
-ghost use Rattle.tt_log.specs.Downloads.{IsQueue};
+ghost use Rattle.tt_log.specs.Downloads.{AreMapped, IsQueue};
 ghost use Rattle.tt_log.specs.History.{AreEvents, journal_of, table_of};
 ghost use Rattle.tt_log.specs.Member.{Member, is_named};
 ghost use Rattle.tt_log.specs.Origin.{IsOrigin, Origin};
@@ -78,4 +78,10 @@ pub fn companies_live()
     ensures members { (o : Origin) (es : List Event) → AreSeated o (table_of o es) }
     ensures waiting { (o : Origin) (es : List Event) → WaitForLive o (table_of o es) }
     ensures digests { (o : Origin) (es : List Event) → LockLive o (table_of o es) }
+{}
+
+/// The map of a member is that of no later frame than the table's, and of an earlier one once it was told whole; and until then
+/// bytes of it are left: it has more than 1,400 for each piece that was told.
+pub fn downloads_are_on_their_way()
+    ensures { (o : Origin) (es : List Event) → AreMapped o (table_of o es) }
 {}
