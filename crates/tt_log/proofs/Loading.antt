@@ -350,8 +350,11 @@ put-twice n k (x ∷ xs) same = ap₂ (λ (y : Member) (ys : List Member). y ∷
     (put-twice n k xs same)
 
 all-mapped : (o : Origin) (left : List ℕ) (t : Table) → Early o left t → Loads o t
-all-mapped o left t h = (h.0, all-so (IsEarly o t.journal t.frame t.queue left) (IsMapped o t.journal t.frame) t.members
-    (λ m a. early-mapped o t.journal t.frame t.queue left m a) h.1)
+all-mapped o left t h = (
+  h.0,
+  all-so (IsEarly o t.journal t.frame t.queue left) (IsMapped o t.journal t.frame) t.members
+      (λ m a. early-mapped o t.journal t.frame t.queue left m a) h.1,
+)
 
 pieces-loads : (b : Bool) (o : Origin) (left : List ℕ) (t : Table) (m : Member) → nat_lt (4 * 1400) (length left) ≡ b
     → IsEarly o t.journal t.frame t.queue left m → rank m.status ≡ 6 → IsFirst t.queue m.conn → Loads o t
