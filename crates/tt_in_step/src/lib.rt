@@ -98,29 +98,6 @@ pub fn syncs_told()
         → (m : Member) × (member_of (table_of o events) conn ≡ Some m) × (m.map_frame < g) }
 {}
 
-/// Nobody is told that it is banned.
-pub fn nobody_is_told_a_ban()
-    ensures never { (o : Origin) (events : List Event) (e : Event) (conn : ℕ) (front later : List Said)
-        → told o events e conn ≡ front ++ ban ∷ later → ⊥ }
-{}
-
-/// Each command is stamped once, with the company for which it was allowed.
-pub fn stamped_once()
-    // While a player lives: what was accepted of its connection is, in order, what was stamped of it, and then what waits.
-    ensures players { (o : Origin) (events : List Event) (conn : ℕ) (m : Member) → member_of (table_of o events) conn ≡ Some m
-        → accepted o events conn ≡ stamped_of m.client (journal_of o events) ++ m.waiting }
-    // Whatever comes after, also its end: what was stamped of it is a prefix of what was accepted of its connection.
-    ensures fronts { (o : Origin) (events later : List Event) (conn : ℕ) (m : Member) → member_of (table_of o events) conn ≡ Some m
-        → (rest : List (ℕ × Command)) × (accepted o (events ++ later) conn
-            ≡ stamped_of m.client (journal_of o (events ++ later)) ++ rest) }
-    // So for the server's own list: what it ordered is what was stamped of it, and then the commands that still wait.
-    ensures servers { (o : Origin) (events : List Event)
-        → map owned (ordered o events) ≡ stamped_of 1 (journal_of o events) ++ map owned (table_of o events).own }
-    // Every sender is the server, or a client number that was given.
-    ensures senders { (o : Origin) (events : List Event)
-        → AllByRecursion (λ (e : Entry). e.sender ≤ (table_of o events).clients) (journal_of o events) }
-{}
-
 /// What each front of what a connection is told shows its client.
 pub fn fronts_agree()
     // It is permitted; and its map is that of the journal's world at its map frame, each of its words that of the journal's
@@ -170,10 +147,16 @@ pub fn all_in_step_however_cut()
         → IsOrigin o → AreEvents events → IsPlayer events conn → AreBytes (fed_bytes calls)
         → sent o events conn ≡ fed_bytes calls ++ later
         → IsRunnerAt (runner_run (game_of o) RunnerJoining (calls_of calls)) (book.shown o (fed_bytes calls)).phase
-            (items_in (fed_bytes calls)) }
+        (items_in (fed_bytes calls)) }
 {
     one_map();
 }
+
+/// Nobody is told that it is banned, whatever the event: a ban is a message of the protocol that this server never sends.
+pub fn nobody_is_told_a_ban()
+    ensures never { (o : Origin) (events : List Event) (e : Event) (conn : ℕ) (front later : List Said)
+        → told o events e conn ≡ front ++ ban ∷ later → ⊥ }
+{}
 
 /// What a front of the bytes sent to a player shows its client.
 pub fn fronts_show()
@@ -192,8 +175,8 @@ pub fn fronts_show()
         → IsOrigin o → AreEvents events → IsPlayer events conn → AreBytes bytes
         → sent o events conn ≡ bytes ++ later
         → (book.shown o bytes).phase ≡ book.WrongAt at → ⊥ }
-    // Its phase is joining, in the game, ended with the code of an error that stands there, ended full where the server says so
-    // there, or shut down where it says that: never another.
+    // It shows that its client is joining, is in the game, was ended with the code of an error that stands in it, was ended as
+    // the server is full, where it says so, or that the game is over, where it says that. It shows nothing else.
     ensures ends { (o : Origin) (events : List Event) (conn : ℕ) (bytes later : List ℕ)
         → IsOrigin o → AreEvents events → IsPlayer events conn → AreBytes bytes
         → sent o events conn ≡ bytes ++ later
@@ -201,6 +184,23 @@ pub fn fronts_show()
 {
     one_map();
 }
+
+/// Each command is stamped once, with the company for which it was allowed.
+pub fn stamped_once()
+    // While a player lives: what was accepted of its connection is, in order, what was stamped of it, and then what waits.
+    ensures players { (o : Origin) (events : List Event) (conn : ℕ) (m : Member) → member_of (table_of o events) conn ≡ Some m
+        → accepted o events conn ≡ stamped_of m.client (journal_of o events) ++ m.waiting }
+    // Whatever comes after, also its end: what was stamped of it is a prefix of what was accepted of its connection.
+    ensures fronts { (o : Origin) (events later : List Event) (conn : ℕ) (m : Member) → member_of (table_of o events) conn ≡ Some m
+        → (rest : List (ℕ × Command)) × (accepted o (events ++ later) conn
+        ≡ stamped_of m.client (journal_of o (events ++ later)) ++ rest) }
+    // So for the server's own list: what it ordered is what was stamped of it, and then the commands that still wait.
+    ensures servers { (o : Origin) (events : List Event)
+        → map owned (ordered o events) ≡ stamped_of 1 (journal_of o events) ++ map owned (table_of o events).own }
+    // Every sender is the server, or a client number that was given.
+    ensures senders { (o : Origin) (events : List Event)
+        → AllByRecursion (λ (e : Entry). e.sender ≤ (table_of o events).clients) (journal_of o events) }
+{}
 
 /// A game that begins anew, or from a saved map, is one of which all this holds.
 pub fn every_game_may_begin()
