@@ -23,25 +23,9 @@ use Rattle.tt_log.specs.Shown.{Item, items_in, item_told, Shown, Phase, nothing_
 use Rattle.tt_log.specs.Shown.{unless_over, shown}
 use Rattle.tt_log.specs.Shown as book
 use Rattle.std.specs.List.{AllByRecursion}
-use Rattle.std.specs.Prelude.{◌⊎◌}
-use Rattle.tt_rules.specs.Codes.{kicked}
 use Rattle.tt_log.specs.Shown.{server_full}
-use Rattle.tt_in_step.specs.Ends.{SomeItem, TellsCode, TellsShutdown, IsRightPhase}
+use Rattle.tt_in_step.specs.Ends.{SomeItem, TellsCode, IsRightPhase, AnyCode, AnyEnd}
 use Rattle.tt_in_step.proofs.Bans.{HasNoBan}
-
--- ---- what any stream may tell: a ban too
-
--- it tells this code, or that the server is full, or that the client is banned, which stand for a code each
-abbrev pub AnyCode : ℕ → Item → Type 0
-AnyCode code i =
-    (i.msg ≡ Some (ServerError code)) ⊎ (((i.msg ≡ Some ServerFull) × (code ≡ server_full))
-    ⊎ ((i.msg ≡ Some ServerBanned) × (code ≡ kicked)))
-
--- an end stands there: its code, or that the game is over
-abbrev pub AnyEnd : Phase → List Item → Type 0
-AnyEnd (book.EndedWith code) items = SomeItem (AnyCode code) items
-AnyEnd book.ShutDown items = SomeItem TellsShutdown items
-AnyEnd _ items = Unit
 
 -- ---- which messages tell an end
 
@@ -66,9 +50,9 @@ abbrev item_of : ℕ → Option GameMsg → Item
 item_of at msg = record { at = at; msg = msg }
 
 ends-by : (place : Place) (m : GameMsg) (at : ℕ) → told_at place m ≡ told.End → AnyEnd (end_by (Some m)) (item_of at (Some m) ∷ [])
-ends-by place ServerFull at is = inl (inr (inl (refl, refl)))
-ends-by place ServerBanned at is = inl (inr (inr (refl, refl)))
-ends-by place (ServerError code) at is = inl (inl refl)
+ends-by place ServerFull at is = inl (inl (inr (refl, refl)))
+ends-by place ServerBanned at is = inl (inr (refl, refl))
+ends-by place (ServerError code) at is = inl (inl (inl refl))
 ends-by place ServerShutdown at is = inl refl
 ends-by Asking (ServerCheckNewgrfs items) at is = absurd (not-other (length items == 0) is)
 ends-by Asking (ServerNeedGamePassword seed id) at is = absurd (not-other _ is)
@@ -203,9 +187,8 @@ module _ (o : Origin) where
 -- ---- in what is sent no ban stands
 
 one-code : (code : ℕ) (i : Item) → HasNoBan i → AnyCode code i → TellsCode code i
-one-code code i none (inl error) = inl error
-one-code code i none (inr (inl full)) = inr full
-one-code code i none (inr (inr ban)) = absurd (none ban.0)
+one-code code i none (inl told) = told
+one-code code i none (inr ban) = absurd (none ban.0)
 
 some-code : (code : ℕ) (items : List Item) → AllByRecursion HasNoBan items → SomeItem (AnyCode code) items
     → SomeItem (TellsCode code) items

@@ -1,12 +1,13 @@
 -- How a client stands by its stream: joining, in the game, or at an end that stands in it.
 use Rattle.std.specs.Prelude.{◌≡◌, ◌⊎◌, ℕ, List, [], ◌∷◌, Some}
-use Rattle.tt_game.specs.declared.message.GameMsg.TheVariants.{ServerFull, ServerError, ServerShutdown}
+use Rattle.tt_game.specs.declared.message.GameMsg.TheVariants.{ServerFull, ServerBanned, ServerError, ServerShutdown}
 use Rattle.tt_world.specs.declared.command.Entry.{Entry}
 use Rattle.tt_world.specs.World.{WorldState}
 use Rattle.tt_lockstep.specs.Shown as lockstep
 use Rattle.tt_lockstep.specs.Client.{Client, Following, Desync}
 use Rattle.tt_lockstep.specs.Runner.{Runner, RunnerJoining, RunnerRunning, RunnerEndedJoining, RunnerEnded, RunnerWrongJoining}
 use Rattle.tt_lockstep.specs.Runner.{RunnerWrong, RunnerDesync}
+use Rattle.tt_rules.specs.Codes.{kicked}
 use Rattle.tt_log.specs.Shown.{Item, Phase, Joining, Loaded, EndedWith, ShutDown, server_full}
 
 -- one of these items is so
@@ -54,3 +55,15 @@ IsRunnerAt (RunnerEnded k) phase items = HasEnded phase items
 IsRunnerAt RunnerWrongJoining phase items = ⊥
 IsRunnerAt (RunnerWrong k) phase items = ⊥
 IsRunnerAt (RunnerDesync k g mine theirs) phase items = ⊥
+
+-- ---- any stream, whoever wrote it
+
+-- it tells this code, or that the client is banned, which stands for a code
+abbrev pub AnyCode : ℕ → Item → Type 0
+AnyCode code i = TellsCode code i ⊎ ((i.msg ≡ Some ServerBanned) × (code ≡ kicked))
+
+-- where the client has ended, its end stands there
+abbrev pub AnyEnd : Phase → List Item → Type 0
+AnyEnd (EndedWith code) items = SomeItem (AnyCode code) items
+AnyEnd ShutDown items = SomeItem TellsShutdown items
+AnyEnd other items = Unit

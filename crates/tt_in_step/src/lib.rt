@@ -29,7 +29,7 @@ ghost use Rattle.tt_log.specs.Told.{sent, told};
 ghost use Rattle.tt_log.specs.Shown.{items_in, things_in};
 ghost use Rattle.tt_log.specs.Shown as book;
 ghost use Rattle.tt_in_step.specs.Watched.{entries_in, things_told, watched};
-ghost use Rattle.tt_in_step.specs.Ends.{IsAt, IsRightPhase, IsRunnerAt};
+ghost use Rattle.tt_in_step.specs.Ends.{AnyEnd, IsAt, IsRightPhase, IsRunnerAt};
 ghost use Rattle.tt_in_step.specs.Fed.{IsPlayer, calls_of};
 ghost use Rattle.tt_in_step.specs.Late.{late, late_events};
 ghost use Rattle.tt_in_step.specs.Worked.{ahead, at_once, client_of, in_step_at, stands_at, two_clients};
@@ -181,6 +181,8 @@ pub fn fronts_show()
         → IsOrigin o → AreEvents events → IsPlayer events conn → AreBytes bytes
         → sent o events conn ≡ bytes ++ later
         → IsRightPhase (book.shown o bytes).phase (items_in bytes) }
+    // What any stream shows of an end stands in it, whoever wrote it: a ban may be among them.
+    ensures any_end { (o : Origin) (bytes : List ℕ) → AnyEnd (book.shown o bytes).phase (items_in bytes) }
 {
     one_map();
 }
