@@ -1,4 +1,5 @@
--- Which rules tell the word of a world: the one of a tick, and no other; and none tells a ban. Each rule has a lemma, in the order in which rules are built.
+-- Which rules tell the word of a world: the one of a tick, and no other; and none tells a ban. Each rule has a lemma, in the order in
+-- which rules are built.
 use Rattle.std.proofs.Common.{◌≡◌, ℕ, ◌+◌, Bool, true, false, List, [], ◌∷◌, ◌++◌, Option, Some, None, map, zero, suc, refl}
 use Rattle.std.specs.Prelude.{◌*◌, ◌==◌, ◌%◌, ◌||◌, not, nat_le, nat_lt, filter, drop, take, length, position}
 use Rattle.std.specs.List.{AllByRecursion}
@@ -9,7 +10,8 @@ use Rattle.tt_edge.specs.Event.{event_cost}
 use Rattle.tt_game.specs.declared.message.GameMsg.{GameMsg}
 use Rattle.tt_game.specs.declared.message.GameMsg.TheVariants.{ClientJoin, ClientGameInfo, ClientGamePassword, ClientCompanyPassword}
 use Rattle.tt_game.specs.declared.message.GameMsg.TheVariants.{ClientGetmap, ClientMapOk, ClientAck, ClientCommand, ClientChat}
-use Rattle.tt_game.specs.declared.message.GameMsg.TheVariants.{ClientSetName, ClientSetPassword, ClientMove, ClientError, ClientQuit, ServerSync, ServerBanned}
+use Rattle.tt_game.specs.declared.message.GameMsg.TheVariants.{ClientSetName, ClientSetPassword, ClientMove, ClientError, ClientQuit}
+use Rattle.tt_game.specs.declared.message.GameMsg.TheVariants.{ServerSync, ServerBanned}
 use Rattle.tt_admin.specs.declared.message.AdminMsg.{AdminMsg}
 use Rattle.tt_admin.specs.declared.message.AdminMsg.TheVariants as admins
 use Rattle.tt_world.specs.declared.command.Entry.{Entry}

@@ -88,7 +88,8 @@ module _ (S : Type 0) (f : Filling) where
   word-says o (Stamp e) h = (tt, tt)
   word-says o End h = tt
 
-pub words-told : (o : Origin) (t : Table) (e : Event) (c : ℕ) → AllByRecursion (Word (e ≡ Tick) (filling o t (stepped o t e))) (told_by o t e c)
+pub words-told : (o : Origin) (t : Table) (e : Event) (c : ℕ)
+    → AllByRecursion (Word (e ≡ Tick) (filling o t (stepped o t e))) (told_by o t e c)
 words-told o t e c =
     let f : Filling = filling o t (stepped o t e) in
     let steps : List Step = (deed o e t).told in
