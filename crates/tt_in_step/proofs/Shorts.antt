@@ -37,7 +37,7 @@ use Rattle.tt_log.proofs.Changes.{gets_frame, answers, plays, May, Move, turned,
 use Rattle.tt_log.proofs.Changes.{commands, has_name, goes_to, founds, gets_pieces, has_all, queues, begins_map, loads}
 use Rattle.std.proofs.Common.{inl, inr}
 use Rattle.tt_log.proofs.Walk.{IsOrdered}
-use Rattle.tt_log.proofs.Walk.{Base, Walk, Moves, Ticks, running, of-asks, of-enters, of-leaves, of-deed}
+use Rattle.tt_log.proofs.Walk.{Base, Walk, Moves, Ticks, Turns, ahead-of, behind-of, running, of-asks, of-enters, of-leaves, of-deed}
 use Rattle.tt_in_step.proofs.Worlds.{AreShort}
 
 -- what is read spells its message
@@ -144,13 +144,15 @@ module _ (o : Origin) (e : Event) (bytes : IsEvent e) where
   ordered-brief t c (inl is) = subst (λ (c : Command). IsShort c.text) (sym is.2) nothing
   ordered-brief t c (inr is) = subst (λ (c : Command). IsShort c.text) (sym is.1) nothing
 
+  short-turns : Turns o e KeepsShort
+  short-turns c t m on may by h = put-short t (turned c t m) (turned-brief c t m may by
+      (among-all (λ (m : Member). AreBrief m.waiting) m t.members on h.waiting)) h
+
   short-base : Base o e KeepsShort
   short-base = record {
     still = λ t h. h;
     joins = λ t u v xs ys a b h. b (a h);
-    turns = λ c t m on may by h. put-short t (turned c t m) (turned-brief c t m may by (among-all (λ
-        (m : Member). AreBrief m.waiting) m t.members
-        on h.waiting)) h;
+    turns = ahead-of o e KeepsShort short-turns;
     tells_one = λ t m msg on talk h. h;
     tells_some = λ t to w there news h. h;
     tells_admins = λ t to msg there report h. h;
@@ -217,6 +219,7 @@ module _ (o : Origin) (e : Event) (bytes : IsEvent e) where
           (all-append (λ (e : Entry). IsShort e.command.text) (map (own_entry (t.top + 1)) t.own) _ (own-entries (t.top + 1) t.own h.owned)
           (members-entries (t.top + 1) t.members h.waiting));
     };
+    behind = behind-of o e KeepsShort short-turns;
     running = λ t b is. run-short b t;
   }
 
