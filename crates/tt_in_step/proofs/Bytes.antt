@@ -10,8 +10,7 @@ use Rattle.tt_frame.specs.Stream.{Splits, Cut, IsPartial, End, rest_of}
 use Rattle.tt_frame.specs.StreamReading.{reading}
 use Rattle.tt_frame.proofs.StreamLaws.{same_reading, reading_reads, reads_more, first_packets, none_in}
 use Rattle.tt_frame.proofs.FrontLaws.{front_is_partial}
-use Rattle.tt_frame.proofs.RowLaws.{row_again}
-use Rattle.tt_frame.specs.Tables.{rule_of}
+use Rattle.tt_frame.proofs.TableLaws.{again}
 use Rattle.tt_lockstep.specs.Told.{Told}
 use Rattle.tt_lockstep.specs.Client.{Feed, fed}
 use Rattle.tt_lockstep.specs.Wire.{PieceCall, FeedPiece, AdvanceBy, fed_bytes}
@@ -35,7 +34,7 @@ use Rattle.tt_log.specs.Shown.{Place, Asking, dialog, place_behind, items_from, 
 use Rattle.tt_in_step.specs.Watched.{game_messages}
 use Rattle.tt_in_step.specs.Fed.{calls_behind, calls_of, IsSpelled, AreSpelled}
 
-abbrev packet_for : GameMsg → Packet
+abbrev pub packet_for : GameMsg → Packet
 packet_for m = record { kind = kind_of m; body = body_bytes m }
 
 abbrev pub stream_for : List GameMsg → List ℕ
@@ -56,9 +55,8 @@ games-spelled (admin m ∷ said) a = games-spelled said a.1
 within : (m : GameMsg) → IsSpelled m → IsWithin 32767 (packet_for m)
 within m s = record { size = spelled_size GameMsg game_family game_lawful m (kind_of m) (body_bytes m) s }
 
-is_read : (m : GameMsg) → IsSpelled m → read_msg (kind_of m) (body_bytes m) ≡ Some m
-is_read m s = ap (λ (r : Result GameMsg ℕ). result_ok r) (row_again (rule_of messages (kind_of m)).fields (rule_of messages
-    (kind_of m)).make m 0 (body_bytes m) s)
+pub is_read : (m : GameMsg) → IsSpelled m → read_msg (kind_of m) (body_bytes m) ≡ Some m
+is_read m s = ap (λ (r : Result GameMsg ℕ). result_ok r) (again messages (kind_of m) (body_bytes m) m s)
 
 -- ---- cutting
 
@@ -150,11 +148,11 @@ things-front place at (m ∷ ms) rest s =
     (ap (λ (x : Option GameMsg). things_of (place_then place x) (items_from (at + size_of (packet_for m)) (map packet_for ms)
     (rest_of rest))) (is_read m s.0) ∙ things-front (place_behind place m) (at + size_of (packet_for m)) ms rest s.1)
 
-spelled-front : (xs ys : List GameMsg) → AreSpelled (xs ++ ys) → AreSpelled xs
+pub spelled-front : (xs ys : List GameMsg) → AreSpelled (xs ++ ys) → AreSpelled xs
 spelled-front [] ys s = tt
 spelled-front (x ∷ xs) ys s = (s.0, spelled-front xs ys s.1)
 
-reading-is : (bytes : List ℕ) (qs : List Packet) (rest : List ℕ) → IsBytes bytes → Cut 32767 bytes qs rest →
+pub reading-is : (bytes : List ℕ) (qs : List Packet) (rest : List ℕ) → IsBytes bytes → Cut 32767 bytes qs rest →
     ((reading 32767 bytes).0 ≡ qs) × ((reading 32767 bytes).1 ≡ rest_of rest)
 reading-is bytes qs rest fits cut =
     let same = same_reading 32767 bytes (reading 32767 bytes).0 qs (reading 32767 bytes).1 (rest_of rest) (lit< tt)

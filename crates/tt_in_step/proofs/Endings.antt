@@ -22,7 +22,10 @@ use Rattle.tt_log.specs.Shown.{Place, Asking, Greeted, Begun, Fetching, InPlay, 
 use Rattle.tt_log.specs.Shown.{Item, items_in, item_told, Shown, Phase, nothing_shown, goes_on, learns, end_by, phase_by, with_item, behind}
 use Rattle.tt_log.specs.Shown.{unless_over, shown}
 use Rattle.tt_log.specs.Shown as book
-use Rattle.tt_in_step.specs.Ends.{SomeItem, HasEnd}
+use Rattle.std.specs.List.{AllByRecursion}
+use Rattle.tt_log.specs.Shown.{server_full}
+use Rattle.tt_in_step.specs.Ends.{SomeItem, TellsCode, IsRightPhase, AnyCode, AnyEnd}
+use Rattle.tt_in_step.proofs.Bans.{HasNoBan}
 
 -- ---- which messages tell an end
 
@@ -46,10 +49,10 @@ not-entry None company frame sender is = cc
 abbrev item_of : ℕ → Option GameMsg → Item
 item_of at msg = record { at = at; msg = msg }
 
-ends-by : (place : Place) (m : GameMsg) (at : ℕ) → told_at place m ≡ told.End → HasEnd (end_by (Some m)) (item_of at (Some m) ∷ [])
-ends-by place ServerFull at is = inl (inr (inl (refl, refl)))
-ends-by place ServerBanned at is = inl (inr (inr (refl, refl)))
-ends-by place (ServerError code) at is = inl (inl refl)
+ends-by : (place : Place) (m : GameMsg) (at : ℕ) → told_at place m ≡ told.End → AnyEnd (end_by (Some m)) (item_of at (Some m) ∷ [])
+ends-by place ServerFull at is = inl (inl (inr (refl, refl)))
+ends-by place ServerBanned at is = inl (inr (refl, refl))
+ends-by place (ServerError code) at is = inl (inl (inl refl))
 ends-by place ServerShutdown at is = inl refl
 ends-by Asking (ServerCheckNewgrfs items) at is = absurd (not-other (length items == 0) is)
 ends-by Asking (ServerNeedGamePassword seed id) at is = absurd (not-other _ is)
@@ -66,10 +69,10 @@ ends-by InPlay (ServerCommand company code number to text frame sender) at is =
 ends-by InPlay _ at is = absurd cc
 ends-by Parted _ at is = absurd cc
 
-item-ends : (place : Place) (i : Item) → item_told place i.msg ≡ told.End → HasEnd (end_by i.msg) (i ∷ [])
+item-ends : (place : Place) (i : Item) → item_told place i.msg ≡ told.End → AnyEnd (end_by i.msg) (i ∷ [])
 item-ends place i is = by i.msg is
   where
-    by : (msg : Option GameMsg) → item_told place msg ≡ told.End → HasEnd (end_by msg) (item_of i.at msg ∷ [])
+    by : (msg : Option GameMsg) → item_told place msg ≡ told.End → AnyEnd (end_by msg) (item_of i.at msg ∷ [])
     by None is = absurd cc
     by (Some m) is = ends-by place m i.at is
 
@@ -103,7 +106,7 @@ module _ (o : Origin) where
 
   -- the phase behind an item
   item-phase : (k : lockstep.Shown WorldState Entry) (place : Place) (i : Item) → (ended k ≡ true → item_told place i.msg ≡ told.End)
-      → HasEnd (phase_by k i) (i ∷ [])
+      → AnyEnd (phase_by k i) (i ∷ [])
   item-phase lockstep.Joining place i ends = tt
   item-phase (lockstep.Running v) place i ends = tt
   item-phase lockstep.EndedJoining place i ends = item-ends place i (ends refl)
@@ -136,19 +139,19 @@ module _ (o : Origin) where
   some-back P [] ys a = a
   some-back P (x ∷ xs) ys a = inr (some-back P xs ys a)
 
-  has-front : (p : Phase) (xs ys : List Item) → HasEnd p xs → HasEnd p (xs ++ ys)
+  has-front : (p : Phase) (xs ys : List Item) → AnyEnd p xs → AnyEnd p (xs ++ ys)
   has-front (book.EndedWith code) xs ys a = some-front _ xs ys a
   has-front book.ShutDown xs ys a = some-front _ xs ys a
   has-front _ xs ys a = tt
 
-  has-back : (p : Phase) (xs ys : List Item) → HasEnd p ys → HasEnd p (xs ++ ys)
+  has-back : (p : Phase) (xs ys : List Item) → AnyEnd p ys → AnyEnd p (xs ++ ys)
   has-back (book.EndedWith code) xs ys a = some-back _ xs ys a
   has-back book.ShutDown xs ys a = some-back _ xs ys a
   has-back _ xs ys a = tt
 
   record Stands (s : Shown) (items : List Item) : Type 0 where
     goes : goes_on s.phase ≡ true → going s.seen ≡ true
-    has : HasEnd s.phase items
+    has : AnyEnd s.phase items
 
   learnt : (msg : Option GameMsg) (s : Shown) (items : List Item) → Stands s items → Stands (learns msg s) items
   learnt (Some (ServerWelcome client seed id)) s items h = record { goes = h.goes; has = h.has }
@@ -178,5 +181,25 @@ module _ (o : Origin) where
       (all-stand items (unless_over o s i) (done ++ i ∷ []) (one-stands (goes_on s.phase) s done i refl h))
 
   -- what a stream shows of an end stands in it
-  pub ends-stand : (bytes : List ℕ) → HasEnd (shown o bytes).phase (items_in bytes)
+  pub ends-stand : (bytes : List ℕ) → AnyEnd (shown o bytes).phase (items_in bytes)
   ends-stand bytes = (all-stand (items_in bytes) nothing_shown [] (record { goes = λ g. refl; has = tt })).has
+
+-- ---- in what is sent no ban stands
+
+one-code : (code : ℕ) (i : Item) → HasNoBan i → AnyCode code i → TellsCode code i
+one-code code i none (inl told) = told
+one-code code i none (inr ban) = absurd (none ban.0)
+
+some-code : (code : ℕ) (items : List Item) → AllByRecursion HasNoBan items → SomeItem (AnyCode code) items
+    → SomeItem (TellsCode code) items
+some-code code [] none h = h
+some-code code (i ∷ items) none (inl here) = inl (one-code code i none.0 here)
+some-code code (i ∷ items) none (inr later) = inr (some-code code items none.1 later)
+
+pub right-phase : (p : Phase) (items : List Item) → AllByRecursion HasNoBan items → AnyEnd p items
+    → ((at : ℕ) → p ≡ book.WrongAt at → ⊥) → IsRightPhase p items
+right-phase book.Joining items none h right = tt
+right-phase book.Loaded items none h right = tt
+right-phase (book.EndedWith code) items none h right = some-code code items none h
+right-phase book.ShutDown items none h right = h
+right-phase (book.WrongAt at) items none h right = right at refl

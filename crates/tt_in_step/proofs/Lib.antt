@@ -13,12 +13,13 @@ pub mod Ticks
 pub mod Admins
 pub mod Shorts
 pub mod Histories
-pub mod Promises
 pub mod Bytes
 pub mod Phases
+pub mod Quiet
+pub mod Syncs
+pub mod Bans
 pub mod Endings
+pub mod Promises
 pub mod Computed
 pub mod Ruled
 pub mod WrongComputed
-pub mod Quiet
-pub mod Syncs

@@ -25,7 +25,8 @@ use Rattle.tt_lockstep.specs.Leads.{Leads}
 use Rattle.tt_lockstep.proofs.Leading.{led_in_step}
 use Rattle.tt_lockstep.proofs.Servers.{kept_from_start}
 use Rattle.tt_lockstep.proofs.Streams.{fronts, compared_holds}
-use Rattle.tt_lockstep.proofs.Runners.{runner_carries}
+use Rattle.tt_lockstep.proofs.Followers.{Has-run}
+use Rattle.tt_lockstep.proofs.Runners.{runner_is, runner_carries}
 use Rattle.tt_log.specs.Origin.{Origin, IsOrigin, game_of, world_at, above, at_frame}
 use Rattle.tt_log.specs.Judged.{is_empty}
 use Rattle.tt_log.specs.Member.{Member, is_playing}
@@ -45,8 +46,11 @@ use Rattle.tt_log.proofs.ShownLaws.{is-seen}
 use Rattle.tt_in_step.specs.Fed.{IsPlayer, AreSpelled, calls_of}
 use Rattle.tt_log.proofs.Spelling.{all-spelled}
 use Rattle.tt_log.proofs.Families.{not-of-admins}
+use Rattle.tt_in_step.specs.Ends.{IsRightPhase, IsAt, IsRunnerAt}
 use Rattle.tt_in_step.proofs.Bytes.{sent-is, games-spelled, stream_for, front-things, fed-pieces}
-use Rattle.tt_in_step.proofs.Phases.{agrees-not-wrong, wrong-seen}
+use Rattle.tt_in_step.proofs.Phases.{kind_at, kind_seen, same-kind, agrees-not-wrong, client-at, runner-at}
+use Rattle.tt_in_step.proofs.Bans.{messages-none, front-none}
+use Rattle.tt_in_step.proofs.Endings.{ends-stand, right-phase}
 use Rattle.tt_in_step.proofs.Seats.{found-seat, plays_at, plays-member, high-seat}
 use Rattle.tt_in_step.proofs.Worlds.{MapsAreMaps, maps_are_read}
 use Rattle.tt_in_step.proofs.Histories.{Leading, led, leads-there}
@@ -294,4 +298,31 @@ module _ (maps : MapsAreMaps) (o : Origin) (h : IsOrigin o) (es : List Event) (a
     pub never_wrong : (bytes later : List ℕ) (at : ℕ) → IsBytes bytes → sent o es c ≡ bytes ++ later
         → (book.shown o bytes).phase ≡ book.WrongAt at → ⊥
     never_wrong bytes later at fits e wrong = agrees-not-wrong (game_of o) (journal_of o es) (table_of o es).top (book.shown o bytes).seen
-        (shows bytes later fits e) (wrong-seen o bytes at wrong)
+        (shows bytes later fits e) (sym (same-kind o bytes) ∙ ap kind_at wrong)
+
+    -- the phase behind a front of the bytes
+    pub phase-right : (bytes later : List ℕ) → IsBytes bytes → sent o es c ≡ bytes ++ later
+        → IsRightPhase (book.shown o bytes).phase (book.items_in bytes)
+    phase-right bytes later fits e = right-phase (book.shown o bytes).phase (book.items_in bytes)
+        (front-none (game_messages (heard o es c)) bytes later fits spelled (messages-none o es c) (sym sent_is ∙ e)) (ends-stand o bytes)
+        (λ at wrong. never_wrong bytes later at fits e wrong)
+
+    -- and that of a client that was fed it
+    pub cut_phase : (calls : List PieceCall) (later : List ℕ) → IsBytes (fed_bytes calls) → sent o es c ≡ fed_bytes calls ++ later
+        → IsAt (run (game_of o) unfed (calls_of calls)) (book.shown o (fed_bytes calls)).phase (book.items_in (fed_bytes calls))
+    cut_phase calls later fits e =
+        let bytes : List ℕ = fed_bytes calls in
+        let same : (book.shown o bytes).seen ≡ shown (game_of o) Joining (fed (calls_of calls)) =
+        is-seen o bytes ∙ ap (λ (ts : List (Told WorldState Entry)). shown (game_of o) Joining ts) (sym (cut_fed calls later fits e)) in
+        client-at (game_of o) (journal_of o es) (book.shown o bytes).phase (book.items_in bytes) (phase-right bytes later fits e)
+        (shown (game_of o) Joining (fed (calls_of calls))) (run (game_of o) unfed (calls_of calls))
+        (Has-run (game_of o) Joining unfed (calls_of calls) (refl, tt)) (cut_in_step calls later fits e)
+        (same-kind o bytes ∙ ap (λ (h : lockstep.Shown WorldState Entry). kind_seen h) same)
+
+    pub cut_runs_phase : (calls : List PieceCall) (later : List ℕ) → IsBytes (fed_bytes calls) → sent o es c ≡ fed_bytes calls ++ later
+        → IsRunnerAt (runner_run (game_of o) RunnerJoining (calls_of calls)) (book.shown o (fed_bytes calls)).phase
+        (book.items_in (fed_bytes calls))
+    cut_runs_phase calls later fits e =
+        subst (λ r. IsRunnerAt r (book.shown o (fed_bytes calls)).phase (book.items_in (fed_bytes calls)))
+        (runner_is (game_of o) (calls_of calls)) (runner-at (game_of o) (run (game_of o) unfed (calls_of calls))
+        (book.shown o (fed_bytes calls)).phase (book.items_in (fed_bytes calls)) (cut_phase calls later fits e))

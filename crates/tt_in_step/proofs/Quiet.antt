@@ -1,4 +1,5 @@
--- Which rules tell the word of a world: the one of a tick, and no other. Each rule has a lemma, in the order in which rules are built.
+-- Which rules tell the word of a world: the one of a tick, and no other; and none tells a ban. Each rule has a lemma, in the order in
+-- which rules are built.
 use Rattle.std.proofs.Common.{◌≡◌, ℕ, ◌+◌, Bool, true, false, List, [], ◌∷◌, ◌++◌, Option, Some, None, map, zero, suc, refl}
 use Rattle.std.specs.Prelude.{◌*◌, ◌==◌, ◌%◌, ◌||◌, not, nat_le, nat_lt, filter, drop, take, length, position}
 use Rattle.std.specs.List.{AllByRecursion}
@@ -8,8 +9,9 @@ use Rattle.tt_edge.specs.declared.event.Event.TheVariants.{Open, Packet, Broken,
 use Rattle.tt_edge.specs.Event.{event_cost}
 use Rattle.tt_game.specs.declared.message.GameMsg.{GameMsg}
 use Rattle.tt_game.specs.declared.message.GameMsg.TheVariants.{ClientJoin, ClientGameInfo, ClientGamePassword, ClientCompanyPassword}
-use Rattle.tt_game.specs.declared.message.GameMsg.TheVariants.{ClientGetmap, ClientMapOk, ClientAck, ClientCommand, ClientChat, ServerSync}
+use Rattle.tt_game.specs.declared.message.GameMsg.TheVariants.{ClientGetmap, ClientMapOk, ClientAck, ClientCommand, ClientChat}
 use Rattle.tt_game.specs.declared.message.GameMsg.TheVariants.{ClientSetName, ClientSetPassword, ClientMove, ClientError, ClientQuit}
+use Rattle.tt_game.specs.declared.message.GameMsg.TheVariants.{ServerSync, ServerBanned}
 use Rattle.tt_admin.specs.declared.message.AdminMsg.{AdminMsg}
 use Rattle.tt_admin.specs.declared.message.AdminMsg.TheVariants as admins
 use Rattle.tt_world.specs.declared.command.Entry.{Entry}
@@ -51,16 +53,17 @@ use Rattle.tt_log.specs.Events.{counted_in, arrives, read_msg, by_verdict, heard
 use Rattle.tt_log.specs.Events.{shut_down, taken, takes, deed, last_frame}
 use Rattle.tt_log.proofs.Lists.{all-append}
 
--- a message that is no word of a world
-abbrev pub IsNoSync : GameMsg → Type 0
-IsNoSync (ServerSync frame word) = ⊥
-IsNoSync other = Unit
+-- a message that is neither the word of a world nor a ban
+abbrev pub IsUsual : GameMsg → Type 0
+IsUsual (ServerSync frame word) = ⊥
+IsUsual ServerBanned = ⊥
+IsUsual other = Unit
 
--- a word is told only where this is so
+-- a word is told only where this is so, and a ban nowhere
 module _ (S : Type 0) where
   abbrev pub MayTell : What → Type 0
   MayTell Sync = S
-  MayTell (Msg m) = IsNoSync m
+  MayTell (Msg m) = IsUsual m
   MayTell other = Unit
 
   abbrev pub MaySay : Step → Type 0

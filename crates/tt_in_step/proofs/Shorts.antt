@@ -1,6 +1,6 @@
 -- The texts of commands are short: of those that wait, of the server's own, and so of the journal.
 use Rattle.std.proofs.Common.{◌≡◌, ℕ, ◌+◌, Bool, true, false, cond, List, [], ◌∷◌}
-use Rattle.std.proofs.Common.{Option, Some, None, refl, ap, sym, subst, map, take, arith}
+use Rattle.std.proofs.Common.{Option, Some, None, refl, ap, sym, subst, ◌∙◌, map, take, arith}
 use Rattle.std.specs.Prelude.{◌==◌, flat_map, Result, Ok, length, nat_le, not}
 use Rattle.std.specs.Result.{result_ok}
 use Rattle.std.specs.List.{AllByRecursion}
@@ -9,6 +9,7 @@ use Rattle.tt_frame.specs.Text.{IsShort, is_text}
 use Rattle.tt_frame.specs.Tables.{rule_of, read_by}
 use Rattle.tt_frame.specs.Unread.{whole}
 use Rattle.tt_frame.proofs.RowLaws.{row_takes}
+use Rattle.tt_frame.proofs.TableLaws.{read_by_row}
 use Rattle.tt_frame.proofs.FamilyLaws.{kind_is}
 use Rattle.tt_frame.proofs.TextLaws.{IsText-from_is_text, IsText-from_is_plain, length_of_text}
 use Rattle.tt_edge.specs.declared.event.Event.{Event}
@@ -37,7 +38,7 @@ use Rattle.tt_log.proofs.Changes.{gets_frame, answers, plays, May, Move, turned,
 use Rattle.tt_log.proofs.Changes.{commands, has_name, goes_to, founds, gets_pieces, has_all, queues, begins_map, loads}
 use Rattle.std.proofs.Common.{inl, inr}
 use Rattle.tt_log.proofs.Walk.{IsOrdered}
-use Rattle.tt_log.proofs.Walk.{Base, Walk, Moves, Ticks, running, of-asks, of-enters, of-leaves, of-deed}
+use Rattle.tt_log.proofs.Walk.{Base, Walk, Moves, Ticks, Turns, ahead-of, behind-of, running, of-asks, of-enters, of-leaves, of-deed}
 use Rattle.tt_in_step.proofs.Worlds.{AreShort}
 
 -- what is read spells its message
@@ -47,8 +48,8 @@ ok-is other m is = absurd cc
 
 spells : (kind : ℕ) (body : List ℕ) (m : GameMsg) → IsBytes body → read_msg kind body ≡ Some m → Spells m kind body
 spells kind body m bytes is =
-    row_takes (rule_of messages kind).fields (rule_of messages kind).make (whole body) m bytes (ok-is (read_by messages kind
-    (whole body)) m is)
+    row_takes (rule_of messages kind).fields (rule_of messages kind).make (whole body) m bytes
+    (sym (read_by_row messages kind (whole body)) ∙ ok-is (read_by messages kind (whole body)) m is)
 
 abbrev text_in : GameMsg → List ℕ
 text_in (ClientCommand company code number to text) = text
@@ -144,13 +145,15 @@ module _ (o : Origin) (e : Event) (bytes : IsEvent e) where
   ordered-brief t c (inl is) = subst (λ (c : Command). IsShort c.text) (sym is.2) nothing
   ordered-brief t c (inr is) = subst (λ (c : Command). IsShort c.text) (sym is.1) nothing
 
+  short-turns : Turns o e KeepsShort
+  short-turns c t m on may by h = put-short t (turned c t m) (turned-brief c t m may by
+      (among-all (λ (m : Member). AreBrief m.waiting) m t.members on h.waiting)) h
+
   short-base : Base o e KeepsShort
   short-base = record {
     still = λ t h. h;
     joins = λ t u v xs ys a b h. b (a h);
-    turns = λ c t m on may by h. put-short t (turned c t m) (turned-brief c t m may by (among-all (λ
-        (m : Member). AreBrief m.waiting) m t.members
-        on h.waiting)) h;
+    turns = ahead-of o e KeepsShort short-turns;
     tells_one = λ t m msg on talk h. h;
     tells_some = λ t to w there news h. h;
     tells_admins = λ t to msg there report h. h;
@@ -217,6 +220,7 @@ module _ (o : Origin) (e : Event) (bytes : IsEvent e) where
           (all-append (λ (e : Entry). IsShort e.command.text) (map (own_entry (t.top + 1)) t.own) _ (own-entries (t.top + 1) t.own h.owned)
           (members-entries (t.top + 1) t.members h.waiting));
     };
+    behind = behind-of o e KeepsShort short-turns;
     running = λ t b is. run-short b t;
   }
 

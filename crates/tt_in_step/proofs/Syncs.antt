@@ -7,7 +7,7 @@ use Rattle.std.proofs.lemmas.Bool.{eqb-true}
 use Rattle.tt_edge.specs.declared.event.Event.{Event}
 use Rattle.tt_edge.specs.declared.event.Event.TheVariants.{Tick}
 use Rattle.tt_game.specs.declared.message.GameMsg.{GameMsg}
-use Rattle.tt_game.specs.declared.message.GameMsg.TheVariants.{ServerSync, ServerMapData, ServerMapDone}
+use Rattle.tt_game.specs.declared.message.GameMsg.TheVariants.{ServerSync, ServerBanned, ServerMapData, ServerMapDone}
 use Rattle.tt_admin.specs.declared.message.AdminMsg.{AdminMsg}
 use Rattle.tt_world.specs.declared.command.Entry.{Entry}
 use Rattle.tt_log.specs.declared.deed.Step.{Step}
@@ -37,29 +37,31 @@ use Rattle.tt_log.proofs.Marking.{are-marked}
 use Rattle.tt_log.proofs.Clock.{tick-runs}
 use Rattle.tt_log.proofs.Going.{over-stays}
 use Rattle.tt_log.proofs.Refusing.{table-snoc}
-use Rattle.tt_in_step.proofs.Quiet.{IsNoSync, MayTell, MaySay, of-deed}
+use Rattle.tt_in_step.proofs.Quiet.{IsUsual, MayTell, MaySay, of-deed}
 
 -- what stands in the middle of a list of which each is so
-in-middle : {A : Type 0} (P : A → Type 0) (front later : List A) (x : A) → AllByRecursion P (front ++ x ∷ later) → P x
+pub in-middle : {A : Type 0} (P : A → Type 0) (front later : List A) (x : A) → AllByRecursion P (front ++ x ∷ later) → P x
 in-middle P [] later x a = a.0
 in-middle P (y ∷ front) later x a = in-middle P front later x a.1
 
--- ---- a SYNC is that of the filling, and told only where this is so
+-- ---- a SYNC is that of the filling, and told only where this is so; a ban is told nowhere
 
 module _ (S : Type 0) (f : Filling) where
   abbrev pub Word : Said → Type 0
   Word (game (ServerSync frame word)) = S × (frame ≡ f.frame) × (word ≡ f.world.words.0)
+  Word (game ServerBanned) = ⊥
   Word other = Unit
 
-  word-msg : (m : GameMsg) → IsNoSync m → Word (game m)
+  word-msg : (m : GameMsg) → IsUsual m → Word (game m)
   word-msg (ServerSync frame word) h = absurd h
+  word-msg ServerBanned h = absurd h
   word-msg other h = tt
 
   word-admins : (ms : List AdminMsg) → AllByRecursion Word (map admin ms)
   word-admins [] = tt
   word-admins (m ∷ ms) = (tt, word-admins ms)
 
-  word-games : (ms : List GameMsg) → AllByRecursion IsNoSync ms → AllByRecursion Word (map game ms)
+  word-games : (ms : List GameMsg) → AllByRecursion IsUsual ms → AllByRecursion Word (map game ms)
   word-games [] a = tt
   word-games (m ∷ ms) a = (word-msg m a.0, word-games ms a.1)
 
@@ -67,11 +69,11 @@ module _ (S : Type 0) (f : Filling) where
   word-entries [] = tt
   word-entries (e ∷ es) = (tt, word-entries es)
 
-  no-piece : (pieces : List (List ℕ)) → AllByRecursion IsNoSync (map ServerMapData pieces)
+  no-piece : (pieces : List (List ℕ)) → AllByRecursion IsUsual (map ServerMapData pieces)
   no-piece [] = tt
   no-piece (p ∷ pieces) = (tt, no-piece pieces)
 
-  no-done : (b : Bool) → AllByRecursion IsNoSync (if b then [] else ServerMapDone ∷ [])
+  no-done : (b : Bool) → AllByRecursion IsUsual (if b then [] else ServerMapDone ∷ [])
   no-done true = tt
   no-done false = (tt, tt)
 
@@ -79,14 +81,15 @@ module _ (S : Type 0) (f : Filling) where
   word-says o (Msg m) h = (word-msg m h, tt)
   word-says o (ToAdmin r) h = word-admins (reported o f r)
   word-says o MapBegin h = (tt, (tt, tt))
-  word-says o MapPieces h = word-games (piece_messages f.left) (all-append IsNoSync (map ServerMapData (pieces_of 4 f.left)) _
+  word-says o MapPieces h = word-games (piece_messages f.left) (all-append IsUsual (map ServerMapData (pieces_of 4 f.left)) _
       (no-piece (pieces_of 4 f.left)) (no-done (nat_lt (4 * 1400) (length f.left))))
   word-says o Sync h = ((h, refl, refl), tt)
   word-says o (Entries frame) h = word-entries (above o frame f.journal)
   word-says o (Stamp e) h = (tt, tt)
   word-says o End h = tt
 
-words-told : (o : Origin) (t : Table) (e : Event) (c : ℕ) → AllByRecursion (Word (e ≡ Tick) (filling o t (stepped o t e))) (told_by o t e c)
+pub words-told : (o : Origin) (t : Table) (e : Event) (c : ℕ)
+    → AllByRecursion (Word (e ≡ Tick) (filling o t (stepped o t e))) (told_by o t e c)
 words-told o t e c =
     let f : Filling = filling o t (stepped o t e) in
     let steps : List Step = (deed o e t).told in

@@ -1,3 +1,5 @@
+-- The words of the statements that come from the crates below
+pub mod Words
 -- The server as one connection sees it
 pub mod Watched
 -- Streams of bytes

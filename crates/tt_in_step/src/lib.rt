@@ -5,19 +5,10 @@
 //! every connection. A proof that needs one calls the function.
 #![tactic(auto)]
 
-ghost use Rattle.std.specs.Prelude.{◌≡◌, ◌≤◌, ◌<◌, ◌^◌, ◌+◌, ◌++◌, ◌∷◌, ◌⊎◌, ℕ, true, false, Some, List, [], Ok};
-ghost use Rattle.tt_edge.specs.declared.event.Event.{Event};
-ghost use Rattle.tt_edge.specs.declared.event.Event.TheVariants.{Tick};
-ghost use Rattle.tt_game.specs.declared.message.GameMsg.TheVariants.{ServerSync};
-ghost use Rattle.tt_frame.specs.Packet.{IsBytes};
-ghost use Rattle.tt_frame.specs.Text.{IsName};
-ghost use Rattle.tt_world.specs.declared.setup.Setup.{Setup};
-ghost use Rattle.tt_world.specs.Setup.{Fits};
-ghost use Rattle.tt_world.specs.declared.command.Entry.{Entry};
-ghost use Rattle.tt_world.specs.World.{WorldState};
-ghost use Rattle.tt_map.specs.Layout.{map_of};
-ghost use Rattle.tt_map.specs.Maps.{IsTold};
-ghost use Rattle.tt_map.specs.Reading.{map_in};
+ghost use Rattle.std.specs.Prelude.{◌≡◌, ◌≤◌, ◌<◌, ◌+◌, ◌++◌, ◌∷◌, ◌⊎◌, ℕ, map, true, false, Some, List, []};
+ghost use Rattle.std.specs.List.{AllByRecursion};
+ghost use Rattle.tt_in_step.specs.Words.{Command, Entry, Event, Setup, World};
+ghost use Rattle.tt_in_step.specs.Words.{AreBytes, CanBeTold, IsReadBack, MayBegin, ban, sync, tick};
 ghost use Rattle.tt_lockstep.specs.Told.{Frame, Sync, Told};
 ghost use Rattle.tt_lockstep.specs.Server.{initial};
 ghost use Rattle.tt_lockstep.specs.Shown.{Joining, Running, View, WrongJoining, shown};
@@ -28,16 +19,17 @@ ghost use Rattle.tt_lockstep.specs.Facts.{Agrees, ViewAgrees};
 ghost use Rattle.tt_lockstep.specs.Leads.{Leads};
 ghost use Rattle.tt_lockstep.specs.Wire.{PieceCall, fed_bytes};
 ghost use Rattle.tt_log.specs.Origin.{IsOrigin, Origin, above, at_frame, game_of, origin_of, world_at};
+ghost use Rattle.tt_log.specs.Stamps.{accepted, ordered, owned, stamped_of};
 ghost use Rattle.tt_log.specs.Saved.{IsSaved};
 ghost use Rattle.tt_log.specs.Member.{Member, is_playing};
 ghost use Rattle.tt_log.specs.Table.{member_of};
 ghost use Rattle.tt_log.specs.History.{AreEvents, journal_of, table_of};
-ghost use Rattle.tt_log.specs.Deed.{Said, game};
+ghost use Rattle.tt_log.specs.Deed.{Said};
 ghost use Rattle.tt_log.specs.Told.{sent, told};
 ghost use Rattle.tt_log.specs.Shown.{items_in, things_in};
 ghost use Rattle.tt_log.specs.Shown as book;
 ghost use Rattle.tt_in_step.specs.Watched.{entries_in, things_told, watched};
-ghost use Rattle.tt_in_step.specs.Ends.{HasEnd};
+ghost use Rattle.tt_in_step.specs.Ends.{AnyEnd, IsAt, IsRightPhase, IsRunnerAt};
 ghost use Rattle.tt_in_step.specs.Fed.{IsPlayer, calls_of};
 ghost use Rattle.tt_in_step.specs.Late.{late, late_events};
 ghost use Rattle.tt_in_step.specs.Worked.{ahead, at_once, client_of, in_step_at, stands_at, two_clients};
@@ -60,13 +52,13 @@ pub fn table_is_tied()
 /// So a client that was fed any front of what its connection is told is in step with the journal: never out of step, never
 /// wrong, and its world at its frame is that of the journal, once it has its map.
 pub fn all_in_step()
-    ensures in_step { (o : Origin) (events : List Event) (conn : ℕ) (calls : List (Call WorldState Entry))
-        (later : List (Told WorldState Entry)) → IsOrigin o → AreEvents events
+    ensures in_step { (o : Origin) (events : List Event) (conn : ℕ) (calls : List (Call World Entry))
+        (later : List (Told World Entry)) → IsOrigin o → AreEvents events
         → things_told o events conn ≡ fed calls ++ later
         → IsInStep (game_of o) (journal_of o events) (run (game_of o) unfed calls) }
     // The same of the client as a program runs it.
-    ensures runs_in_step { (o : Origin) (events : List Event) (conn : ℕ) (calls : List (Call WorldState Entry))
-        (later : List (Told WorldState Entry)) → IsOrigin o → AreEvents events
+    ensures runs_in_step { (o : Origin) (events : List Event) (conn : ℕ) (calls : List (Call World Entry))
+        (later : List (Told World Entry)) → IsOrigin o → AreEvents events
         → things_told o events conn ≡ fed calls ++ later
         → IsRunnerInStep (game_of o) (journal_of o events) (runner_run (game_of o) RunnerJoining calls) }
 {
@@ -83,8 +75,8 @@ pub fn entries_told()
         → member_of (table_of o events) conn ≡ Some m → is_playing m ≡ true
         → entries_in (things_told o events conn) ≡ above o m.map_frame (journal_of o events) }
     // Before each FRAME stand all entries that the journal will ever have above the map frame and up to its maximum.
-    ensures frames { (o : Origin) (events : List Event) (conn : ℕ) (front later : List (Told WorldState Entry))
-        (v : View WorldState Entry) (f max g : ℕ) → IsOrigin o → AreEvents events
+    ensures frames { (o : Origin) (events : List Event) (conn : ℕ) (front later : List (Told World Entry))
+        (v : View World Entry) (f max g : ℕ) → IsOrigin o → AreEvents events
         → things_told o events conn ≡ front ++ Frame f max ∷ later → shown (game_of o) Joining front ≡ Running v
         → v.map_frame < g → g ≤ max → at_frame o g (entries_in front) ≡ at_frame o g (journal_of o events) }
 {
@@ -95,14 +87,14 @@ pub fn entries_told()
 pub fn syncs_told()
     // A SYNC is told by the tick that makes its frame.
     ensures told_by_its_tick { (o : Origin) (events : List Event) (e : Event) (conn : ℕ) (front later : List Said) (g w : ℕ)
-        → told o events e conn ≡ front ++ game (ServerSync g w) ∷ later → (e ≡ Tick) × (g ≡ (table_of o (events ++ e ∷ [])).frame) }
+        → told o events e conn ≡ front ++ sync g w ∷ later → (e ≡ tick) × (g ≡ (table_of o (events ++ e ∷ [])).frame) }
     // Its word is that of the journal's world at that frame.
     ensures of_its_world { (o : Origin) (events : List Event) (e : Event) (conn : ℕ) (front later : List Said) (g w : ℕ)
-        → told o events e conn ≡ front ++ game (ServerSync g w) ∷ later
+        → told o events e conn ≡ front ++ sync g w ∷ later
         → w ≡ (world_at o (journal_of o (events ++ e ∷ [])) g).words.0 }
     // A member is on the connection that is told it, and the frame lies above its map frame.
     ensures above_the_map { (o : Origin) (events : List Event) (e : Event) (conn : ℕ) (front later : List Said) (g w : ℕ)
-        → told o events e conn ≡ front ++ game (ServerSync g w) ∷ later
+        → told o events e conn ≡ front ++ sync g w ∷ later
         → (m : Member) × (member_of (table_of o events) conn ≡ Some m) × (m.map_frame < g) }
 {}
 
@@ -110,20 +102,20 @@ pub fn syncs_told()
 pub fn fronts_agree()
     // It is permitted; and its map is that of the journal's world at its map frame, each of its words that of the journal's
     // world at the word's frame, told while no client might run more than the lead beyond it.
-    ensures agree { (o : Origin) (events : List Event) (conn : ℕ) (front later : List (Told WorldState Entry))
+    ensures agree { (o : Origin) (events : List Event) (conn : ℕ) (front later : List (Told World Entry))
         → IsOrigin o → AreEvents events → things_told o events conn ≡ front ++ later
         → Agrees (game_of o) (journal_of o events) (table_of o events).top (shown (game_of o) Joining front) }
-    ensures view { (o : Origin) (events : List Event) (conn : ℕ) (front later : List (Told WorldState Entry))
-        (v : View WorldState Entry) → IsOrigin o → AreEvents events → things_told o events conn ≡ front ++ later
+    ensures view { (o : Origin) (events : List Event) (conn : ℕ) (front later : List (Told World Entry))
+        (v : View World Entry) → IsOrigin o → AreEvents events → things_told o events conn ≡ front ++ later
         → shown (game_of o) Joining front ≡ Running v → ViewAgrees (game_of o) (journal_of o events) (table_of o events).top v }
     // No word comes too late to be compared.
-    ensures compared { (o : Origin) (events : List Event) (conn : ℕ) (calls : List (Call WorldState Entry))
-        (later : List (Told WorldState Entry)) (v : View WorldState Entry) (f g w : ℕ) → IsOrigin o → AreEvents events
+    ensures compared { (o : Origin) (events : List Event) (conn : ℕ) (calls : List (Call World Entry))
+        (later : List (Told World Entry)) (v : View World Entry) (f g w : ℕ) → IsOrigin o → AreEvents events
         → things_told o events conn ≡ fed calls ++ Sync g w ∷ later → run (game_of o) unfed calls ≡ Following (Running v) f
         → (f < g) ⊎ ((g ≤ v.map_frame) ⊎ (is_recent (game_of o) v f g ≡ true)) }
     // The map of each frame of the game is read back as its world.
     ensures map { (o : Origin) (events : List Event) (s : ℕ) → IsOrigin o → AreEvents events → s ≤ (table_of o events).frame
-        → map_in (map_of (world_at o (journal_of o events) s)) ≡ Ok (world_at o (journal_of o events) s) }
+        → IsReadBack (world_at o (journal_of o events) s) }
 {
     one_map();
 }
@@ -132,58 +124,97 @@ pub fn fronts_agree()
 /// sent to it, in whatever pieces and with frames run between any two, is in step with the journal.
 pub fn all_in_step_however_cut()
     ensures in_step { (o : Origin) (events : List Event) (conn : ℕ) (calls : List PieceCall) (later : List ℕ)
-        → IsOrigin o → AreEvents events → IsPlayer events conn → IsBytes (fed_bytes calls)
+        → IsOrigin o → AreEvents events → IsPlayer events conn → AreBytes (fed_bytes calls)
         → sent o events conn ≡ fed_bytes calls ++ later
         → IsInStep (game_of o) (journal_of o events) (run (game_of o) unfed (calls_of calls)) }
     // The same of the client as a program runs it.
     ensures runs_in_step { (o : Origin) (events : List Event) (conn : ℕ) (calls : List PieceCall) (later : List ℕ)
-        → IsOrigin o → AreEvents events → IsPlayer events conn → IsBytes (fed_bytes calls)
+        → IsOrigin o → AreEvents events → IsPlayer events conn → AreBytes (fed_bytes calls)
         → sent o events conn ≡ fed_bytes calls ++ later
         → IsRunnerInStep (game_of o) (journal_of o events) (runner_run (game_of o) RunnerJoining (calls_of calls)) }
     // Its calls feed just what the bytes tell, however they are cut.
     ensures fed { (o : Origin) (events : List Event) (conn : ℕ) (calls : List PieceCall) (later : List ℕ)
-        → IsOrigin o → AreEvents events → IsPlayer events conn → IsBytes (fed_bytes calls)
+        → IsOrigin o → AreEvents events → IsPlayer events conn → AreBytes (fed_bytes calls)
         → sent o events conn ≡ fed_bytes calls ++ later
         → fed (calls_of calls) ≡ things_in (fed_bytes calls) }
+    // It is joining, runs, or has ended by an end that stands in the bytes: an error with its code, that the server is full, or
+    // that the game is over. So says the phase of what the bytes show.
+    ensures phase { (o : Origin) (events : List Event) (conn : ℕ) (calls : List PieceCall) (later : List ℕ)
+        → IsOrigin o → AreEvents events → IsPlayer events conn → AreBytes (fed_bytes calls)
+        → sent o events conn ≡ fed_bytes calls ++ later
+        → IsAt (run (game_of o) unfed (calls_of calls)) (book.shown o (fed_bytes calls)).phase (items_in (fed_bytes calls)) }
+    ensures runs_phase { (o : Origin) (events : List Event) (conn : ℕ) (calls : List PieceCall) (later : List ℕ)
+        → IsOrigin o → AreEvents events → IsPlayer events conn → AreBytes (fed_bytes calls)
+        → sent o events conn ≡ fed_bytes calls ++ later
+        → IsRunnerAt (runner_run (game_of o) RunnerJoining (calls_of calls)) (book.shown o (fed_bytes calls)).phase
+        (items_in (fed_bytes calls)) }
 {
     one_map();
 }
+
+/// Nobody is told that it is banned, whatever the event: a ban is a message of the protocol that this server never sends.
+pub fn nobody_is_told_a_ban()
+    ensures never { (o : Origin) (events : List Event) (e : Event) (conn : ℕ) (front later : List Said)
+        → told o events e conn ≡ front ++ ban ∷ later → ⊥ }
+{}
 
 /// What a front of the bytes sent to a player shows its client.
 pub fn fronts_show()
     // The things that it tells are the first of those that all messages tell.
     ensures tells { (o : Origin) (events : List Event) (conn : ℕ) (bytes later : List ℕ)
-        → IsOrigin o → AreEvents events → IsPlayer events conn → IsBytes bytes
+        → IsOrigin o → AreEvents events → IsPlayer events conn → AreBytes bytes
         → sent o events conn ≡ bytes ++ later
-        → (more : List (Told WorldState Entry)) × (things_told o events conn ≡ things_in bytes ++ more) }
+        → (more : List (Told World Entry)) × (things_told o events conn ≡ things_in bytes ++ more) }
     // It agrees with the journal: its map, its words, and all entries up to its permitted frame.
     ensures shows { (o : Origin) (events : List Event) (conn : ℕ) (bytes later : List ℕ)
-        → IsOrigin o → AreEvents events → IsPlayer events conn → IsBytes bytes
+        → IsOrigin o → AreEvents events → IsPlayer events conn → AreBytes bytes
         → sent o events conn ≡ bytes ++ later
         → Agrees (game_of o) (journal_of o events) (table_of o events).top (book.shown o bytes).seen }
     // It is never wrong: no bad size stands in it, no packet that spells nothing, and none that is not permitted where it stands.
     ensures right { (o : Origin) (events : List Event) (conn : ℕ) (bytes later : List ℕ) (at : ℕ)
-        → IsOrigin o → AreEvents events → IsPlayer events conn → IsBytes bytes
+        → IsOrigin o → AreEvents events → IsPlayer events conn → AreBytes bytes
         → sent o events conn ≡ bytes ++ later
         → (book.shown o bytes).phase ≡ book.WrongAt at → ⊥ }
-    // What any stream shows of an end stands in it: a code that is told, or that the game is over.
-    ensures ends { (o : Origin) (bytes : List ℕ) → HasEnd (book.shown o bytes).phase (items_in bytes) }
+    // It shows that its client is joining, is in the game, was ended with the code of an error that stands in it, was ended as
+    // the server is full, where it says so, or that the game is over, where it says that. It shows nothing else.
+    ensures ends { (o : Origin) (events : List Event) (conn : ℕ) (bytes later : List ℕ)
+        → IsOrigin o → AreEvents events → IsPlayer events conn → AreBytes bytes
+        → sent o events conn ≡ bytes ++ later
+        → IsRightPhase (book.shown o bytes).phase (items_in bytes) }
+    // What any stream shows of an end stands in it, whoever wrote it: a ban may be among them.
+    ensures any_end { (o : Origin) (bytes : List ℕ) → AnyEnd (book.shown o bytes).phase (items_in bytes) }
 {
     one_map();
 }
 
+/// Each command is stamped once, with the company for which it was allowed.
+pub fn stamped_once()
+    // While a player lives: what was accepted of its connection is, in order, what was stamped of it, and then what waits.
+    ensures players { (o : Origin) (events : List Event) (conn : ℕ) (m : Member) → member_of (table_of o events) conn ≡ Some m
+        → accepted o events conn ≡ stamped_of m.client (journal_of o events) ++ m.waiting }
+    // Whatever comes after, also its end: what was stamped of it is a prefix of what was accepted of its connection.
+    ensures fronts { (o : Origin) (events later : List Event) (conn : ℕ) (m : Member) → member_of (table_of o events) conn ≡ Some m
+        → (rest : List (ℕ × Command)) × (accepted o (events ++ later) conn
+        ≡ stamped_of m.client (journal_of o (events ++ later)) ++ rest) }
+    // So for the server's own list: what it ordered is what was stamped of it, and then the commands that still wait.
+    ensures servers { (o : Origin) (events : List Event)
+        → map owned (ordered o events) ≡ stamped_of 1 (journal_of o events) ++ map owned (table_of o events).own }
+    // Every sender is the server, or a client number that was given.
+    ensures senders { (o : Origin) (events : List Event)
+        → AllByRecursion (λ (e : Entry). e.sender ≤ (table_of o events).clients) (journal_of o events) }
+{}
+
 /// A game that begins anew, or from a saved map, is one of which all this holds.
 pub fn every_game_may_begin()
-    ensures anew { (setup : Setup) → Fits setup → setup.seed < 2 ^ 32 → IsName setup.name → IsName setup.revision → IsName setup.id
-        → IsOrigin (origin_of setup) }
-    ensures saved { (setup : Setup) (bytes : List ℕ) (saved : IsSaved bytes) → Fits setup → setup.seed < 2 ^ 32 → IsName setup.name
-        → IsName setup.revision → IsName setup.id → IsOrigin (record { setup = setup; start = saved.world }) }
+    ensures anew { (setup : Setup) → MayBegin setup → IsOrigin (origin_of setup) }
+    ensures saved { (setup : Setup) (bytes : List ℕ) (saved : IsSaved bytes) → MayBegin setup
+        → IsOrigin (record { setup = setup; start = saved.world }) }
 {}
 
 /// Why a game starts no later than it may: on the last day that a map can tell, a map of the next day is refused, and an
 /// honest client is wrong.
 pub fn a_late_start_goes_wrong()
-    ensures told { IsTold late.start }
+    ensures told { CanBeTold late.start }
     ensures wrong { (book.shown late (sent late late_events 1)).seen ≡ WrongJoining }
 {}
 

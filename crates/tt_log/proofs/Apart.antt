@@ -19,6 +19,7 @@ use Rattle.tt_log.specs.Told.{told_to}
 use Rattle.tt_log.proofs.Lists.{Among, NotIn, IsOther, all-append, all-take, all-drop, any-not, all-of-filter}
 use Rattle.tt_log.proofs.Crew.{put, conns, admin_conns, put-conns, put-admin-conns, live-conns, live-admins}
 use Rattle.tt_log.proofs.Changes.{step, told_with, turned, moved, Move, queues, begins_map, loads}
+use Rattle.tt_log.proofs.Walk.{Turns, ahead-of, behind-of}
 use Rattle.tt_log.proofs.Walk.{Base, Walk, Doors, Closing, Moves, Ticks, running, told_moved, of-asks, of-enters, of-leaves, of-deed}
 use Rattle.tt_log.proofs.Ordered.{map-same, all-more}
 
@@ -108,15 +109,18 @@ says c t to w not_in = passes c t _ t refl (λ a. record { apart = a; misses = (
 abbrev PassesBy : ℕ → Table → List Step → Table → Type 0
 PassesBy c t steps u = Passes c t steps u
 
+apart-turns : (c : ℕ) (o : Origin) (e : Event) → Turns o e (PassesBy c)
+apart-turns c o e k t m on may by = passes c t _ _ refl (λ a. record {
+  apart = put-apart c (turned k t m) t a;
+  misses =
+      own-missed c m.conn (told_with k o t m) (among-not c m t.members on a.members);
+})
+
 apart-base : (c : ℕ) (o : Origin) (e : Event) → Base o e (PassesBy c)
 apart-base c o e = record {
   still = λ t. still-passes c t;
   joins = λ t u v xs ys a b. then-passes c t u v xs ys a b;
-  turns = λ k t m on may by. passes c t _ _ refl (λ a. record {
-    apart = put-apart c (turned k t m) t a;
-    misses =
-        own-missed c m.conn (told_with k o t m) (among-not c m t.members on a.members);
-  });
+  turns = ahead-of o e (PassesBy c) (apart-turns c o e);
   tells_one = λ t m msg on talk. says c t (m.conn ∷ []) _ (λ a. (among-not c m t.members on a.members, tt));
   tells_some = λ t to w there news. says c t to w (λ a. there c (playing-not c t a));
   tells_admins = λ t to r may is. says c t to _ (λ a. may.within c a.admins);
@@ -287,6 +291,7 @@ apart-ticks c o e = record {
             };
         misses = tt;
       });
+  behind = behind-of o e (PassesBy c) (apart-turns c o e);
   running = λ t b is. running-passes b c o t;
 }
 

@@ -133,6 +133,21 @@ abbrev pub password_status : Bool → Table → Member → Member
 password_status true t m = now_in AuthGame t m
 password_status false t m = now_in AuthCompany t m
 
+-- a change that comes in ticks alone, behind the frame
+abbrev pub is_behind : Change → Bool
+is_behind (founds company) = true
+is_behind (gets_pieces left) = true
+is_behind has_all = true
+is_behind other = false
+
+pub behind-by : (e : Event) (m : Member) (c : Change) → is_behind c ≡ true → By e m c
+behind-by e m (founds company) is = tt
+behind-by e m (gets_pieces left) is = tt
+behind-by e m has_all is = tt
+behind-by e m (answers frame token) is = absurd cc
+behind-by e m (commands company code number to text command) is = absurd cc
+behind-by e m other is = absurd cc
+
 -- the member behind it
 abbrev pub turned : Change → Table → Member → Member
 turned (wants_password game name asked) t m = password_status game t (record m { name = name; asked = asked })

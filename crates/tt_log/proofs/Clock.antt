@@ -13,6 +13,7 @@ use Rattle.tt_log.specs.Desk.{admin_arrives, counted_aside, most_admins}
 use Rattle.tt_log.specs.Tick.{stamps, stamped, frame_runs_by, left_of, ticked}
 use Rattle.tt_log.specs.Events.{arrives, counted_in, by_event, charged, shut_down, taken, takes, names_live, stepped}
 use Rattle.tt_log.specs.History.{table_of}
+use Rattle.tt_log.proofs.Walk.{Turns, ahead-of, behind-of}
 use Rattle.tt_log.proofs.Walk.{stamping, running, Base, Walk, Doors, Moves, of-entries, of-frames, of-asks, of-enters, of-leaves}
 use Rattle.tt_log.proofs.Walk.{of-follows, of-still}
 use Rattle.tt_log.proofs.Lists.{last-among}
@@ -33,11 +34,14 @@ same-then t u v a b = record { frame = b.frame ∙ a.frame; top = b.top ∙ a.to
 abbrev pub KeepsClock : Table → List Step → Table → Type 0
 KeepsClock t steps u = SameClock t u
 
+pub same-turns : (o : Origin) (e : Event) → Turns o e KeepsClock
+same-turns o e c t m on may by = record { frame = refl; top = refl; over = refl; journal = refl }
+
 pub same-base : (o : Origin) (e : Event) → Base o e KeepsClock
 same-base o e = record {
   still = λ t. record { frame = refl; top = refl; over = refl; journal = refl };
   joins = λ t u v xs ys a b. same-then t u v a b;
-  turns = λ c t m on may by. record { frame = refl; top = refl; over = refl; journal = refl };
+  turns = ahead-of o e KeepsClock (same-turns o e);
   tells_one = λ t m msg on talk. record { frame = refl; top = refl; over = refl; journal = refl };
   tells_some = λ t to w there news. record { frame = refl; top = refl; over = refl; journal = refl };
   tells_admins = λ t to r may is. record { frame = refl; top = refl; over = refl; journal = refl };
@@ -90,7 +94,7 @@ event-same o e t other = of-still o e KeepsClock (same-walk o e) (same-doors o e
 pub stamped-same : (o : Origin) (t : Table) → SameClock (stamping t) (stamped t).table
 stamped-same o t = of-entries o Tick KeepsClock (same-base o Tick) (stamps t) (stamping t) (last-among t.journal (stamps t))
 
-runs-same : (o : Origin) (b : Bool) (t : Table) → SameClock (running b o t) (frame_runs_by b o t).table
+pub runs-same : (o : Origin) (b : Bool) (t : Table) → SameClock (running b o t) (frame_runs_by b o t).table
 runs-same o true t = of-frames o Tick KeepsClock (same-base o Tick) t.members (running true o t)
 runs-same o false t = record { frame = refl; top = refl; over = refl; journal = refl }
 
@@ -126,7 +130,7 @@ ticked-is o t =
     let b : Bool = nat_lt s.top (s.frame + 1) in
     let u : Table = (frame_runs_by b o s).table in
     ticked-by b o t s u (ticked o t).table (stamped-same o t) refl (runs-same o b s) (of-follows o Tick KeepsClock (same-walk o Tick)
-    (world_of o t) (left_of o t) u (world-places o t.journal t.frame))
+    (behind-of o Tick KeepsClock (same-turns o Tick)) (world_of o t) (left_of o t) u (world-places o t.journal t.frame))
 
 -- ---- what follows the rule of an event
 

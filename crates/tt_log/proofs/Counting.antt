@@ -14,6 +14,7 @@ use Rattle.tt_log.specs.Deed.{where_}
 use Rattle.tt_log.specs.Desk.{admin_arrives, counted_aside, most_admins}
 use Rattle.tt_log.specs.Events.{arrives, counted_in, by_event, charged, shut_down, stops, taken, takes, stepped, names_live, last_frame}
 use Rattle.tt_log.specs.History.{table_of, AllTaken, IsHistory}
+use Rattle.tt_log.proofs.Walk.{Turns, ahead-of, behind-of}
 use Rattle.tt_log.proofs.Walk.{Base, Walk, Moves, Ticks, running, of-asks, of-enters, of-leaves, of-event, of-ticked}
 use Rattle.tt_log.proofs.Clock.{ticked-is, event-same, taken-run, from-all}
 
@@ -27,6 +28,9 @@ pub record SameCounts (t u : Table) : Type 0 where
 abbrev KeepsCounts : Table → List Step → Table → Type 0
 KeepsCounts t steps u = SameCounts t u
 
+counts-turns : (o : Origin) (e : Event) → Turns o e KeepsCounts
+counts-turns o e k t m on may by = record { openings = refl; clients = refl; cost = refl }
+
 counts-base : (o : Origin) (e : Event) → Base o e KeepsCounts
 counts-base o e = record {
   still = λ t. record { openings = refl; clients = refl; cost = refl };
@@ -35,7 +39,7 @@ counts-base o e = record {
     clients = b.clients ∙ a.clients;
     cost = b.cost ∙ a.cost;
   };
-  turns = λ k t m on may by. record { openings = refl; clients = refl; cost = refl };
+  turns = ahead-of o e KeepsCounts (counts-turns o e);
   tells_one = λ t m msg on talk. record { openings = refl; clients = refl; cost = refl };
   tells_some = λ t to w there news. record { openings = refl; clients = refl; cost = refl };
   tells_admins = λ t to r may is. record { openings = refl; clients = refl; cost = refl };
@@ -70,7 +74,7 @@ run-counts true o t = record { openings = refl; clients = refl; cost = refl }
 run-counts false o t = record { openings = refl; clients = refl; cost = refl }
 
 counts-ticks : (o : Origin) (e : Event) → Ticks o e KeepsCounts
-counts-ticks o e = record { stamping = λ t. record { openings = refl; clients = refl; cost = refl }; running = λ t b is. run-counts b o t }
+counts-ticks o e = record { stamping = λ t. record { openings = refl; clients = refl; cost = refl }; behind = behind-of o e KeepsCounts (counts-turns o e); running = λ t b is. run-counts b o t }
 
 -- ---- an event
 

@@ -3,10 +3,10 @@ use Rattle.std.proofs.Common.{◌≡◌, inl, inr, ℕ, List, [], ◌∷◌, ref
 use Rattle.std.specs.Prelude.{◌==◌, map, find, filter, cond, not, ◌||◌, is_some}
 use Rattle.std.specs.List.{AllByRecursion, list_any}
 use Rattle.std.proofs.lemmas.Bool.{eqb-true, eq-eqb}
-use Rattle.tt_log.specs.Member.{Member}
+use Rattle.tt_log.specs.Member.{Member, is_playing}
 use Rattle.tt_log.specs.Admin.{Admin}
-use Rattle.tt_log.specs.Table.{Table, is_on, is_admin_on, member_of}
-use Rattle.tt_log.proofs.Lists.{Among, found-among, found-passes}
+use Rattle.tt_log.specs.Table.{Table, is_on, is_admin_on, member_of, playing, without_member}
+use Rattle.tt_log.proofs.Lists.{Among, NotIn, Within, found-among, found-passes}
 
 -- a member of the table
 abbrev pub On : Table → Member → Type 0
@@ -140,3 +140,20 @@ none-left-by false c x few is a = (is, a)
 pub none-left : (c : ℕ) (ms : List Member) → AllByRecursion (λ y. (y == c) ≡ false) (conns (others c ms))
 none-left c [] = tt
 none-left c (x ∷ xs) = none-left-by (x.conn == c) c x (others c xs) refl (none-left c xs)
+
+-- who plays without a member plays with it too
+pub still-playing : (conn : ℕ) (t : Table) → Within (playing (without_member conn t)) (playing t)
+still-playing conn t c h = by t.members h
+  where
+    one : (b d : Bool) (m : Member) (few all : List Member) → (NotIn c (conns (filter is_playing all))
+        → NotIn c (conns (filter is_playing few))) → is_playing m ≡ d
+        → NotIn c (conns (cond d (m ∷ filter is_playing all) (filter is_playing all)))
+        → NotIn c (conns (filter is_playing (cond b (m ∷ few) few)))
+    one true true m few all next is a = rw is (a.0, next a.1)
+    one true false m few all next is a = rw is (next a)
+    one false true m few all next is a = next a.1
+    one false false m few all next is a = next a
+
+    by : (ms : List Member) → NotIn c (conns (filter is_playing ms)) → NotIn c (conns (filter is_playing (others conn ms)))
+    by [] a = tt
+    by (m ∷ ms) a = one (not (is_on conn m)) (is_playing m) m (others conn ms) ms (λ b. by ms b) refl a

@@ -38,7 +38,7 @@ members-for f [] = tt
 members-for f (m ∷ ms) = for-append f (map (entry_of f m) (take 2 m.waiting)) (flat_map (λ m. map (entry_of f m) (take 2 m.waiting)) ms)
     (waiting-for f m (take 2 m.waiting)) (members-for f ms)
 
-stamps-for : (t : Table) → AreFor (t.top + 1) (stamps t)
+pub stamps-for : (t : Table) → AreFor (t.top + 1) (stamps t)
 stamps-for t = for-append (t.top + 1) (map (own_entry (t.top + 1)) t.own) (flat_map (λ m. map (entry_of (t.top + 1) m) (take 2 m.waiting))
     t.members) (own-for (t.top + 1) t.own) (members-for (t.top + 1) t.members)
 
@@ -98,7 +98,7 @@ step-adds o t e = taken-adds (takes t e) o e t
 
 -- ---- what events add
 
-for-above : (o : Origin) (n : ℕ) (es : List Entry) → AreFor (n + 1) es → AreAbove (game_of o) n es
+pub for-above : (o : Origin) (n : ℕ) (es : List Entry) → AreFor (n + 1) es → AreAbove (game_of o) n es
 for-above o n [] are = tt
 for-above o n (e ∷ es) are = (omega (arith, are.0), for-above o n es are.1)
 

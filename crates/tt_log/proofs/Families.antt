@@ -34,6 +34,7 @@ use Rattle.tt_log.proofs.Crew.{put, conns, admin_conns, put-conns, put-admin-con
 use Rattle.tt_log.proofs.Changes.{Change, wants_password, is_let_in, gets_token, gets_frame, answers, plays, commands, has_name, goes_to}
 use Rattle.tt_log.proofs.Changes.{founds, gets_pieces, has_all, Move, queues, begins_map, loads, IsNews, steps_with, told_with}
 use Rattle.tt_log.proofs.Changes.{turned, moved}
+use Rattle.tt_log.proofs.Walk.{Turns, ahead-of, behind-of}
 use Rattle.tt_log.proofs.Walk.{Base, Walk, Moves, Ticks, Closing, running, told_moved, of-asks, of-enters, of-leaves, of-event, of-ticked}
 use Rattle.tt_log.proofs.Walk.{of-deed-by}
 use Rattle.tt_log.proofs.Ordered.{map-same, all-more}
@@ -109,14 +110,17 @@ put-out c n t h = record { members = subst (λ (xs : List ℕ). NotIn c xs) (sym
 all-aside : (c : ℕ) (steps : List Step) → Misses c steps → AllByRecursion (Aside c) steps
 all-aside c steps a = all-so (λ (s : Step). NotIn c s.to) (Aside c) steps (λ s missed. inl missed) a
 
+out-turns : (c : ℕ) (o : Origin) (e : Event) → Turns o e (KeepsOut c)
+out-turns c o e k t m on may by h = (
+  put-out c (turned k t m) t h,
+  all-aside c (steps_with k o t m) (own-missed c m.conn (told_with k o t m) (among-not c m t.members on h.members)),
+)
+
 out-base : (c : ℕ) (o : Origin) (e : Event) → Base o e (KeepsOut c)
 out-base c o e = record {
   still = λ t h. (h, tt);
   joins = λ t u v xs ys a b h. let p = a h in let q = b p.0 in (q.0, all-append (Aside c) xs ys p.1 q.1);
-  turns = λ k t m on may by h. (
-    put-out c (turned k t m) t h,
-    all-aside c (steps_with k o t m) (own-missed c m.conn (told_with k o t m) (among-not c m t.members on h.members)),
-  );
+  turns = ahead-of o e (KeepsOut c) (out-turns c o e);
   tells_one = λ t m msg on talk h. (h, (inl (among-not c m t.members on h.members, tt), tt));
   tells_some = λ t to w there news h. (h, (inl (there c (all-of-filter (λ (m : Member). m.conn) is_playing c t.members h.members)), tt));
   tells_admins = λ t to r there is h. (h, (inr tt, tt));
@@ -182,6 +186,7 @@ out-ticks c o e = record {
     },
     tt,
   );
+  behind = behind-of o e (KeepsOut c) (out-turns c o e);
   running = λ t b is. run-out b c o t;
 }
 
@@ -275,11 +280,14 @@ moved-inside c queues m = tt
 moved-inside c begins_map m = (inr tt, tt)
 moved-inside c loads m = tt
 
+in-turns : (c : ℕ) (o : Origin) (e : Event) → Turns o e (KeepsIn c)
+in-turns c o e k t m on may by h = (h, with-inside k c o t m)
+
 in-base : (c : ℕ) (o : Origin) (e : Event) → Base o e (KeepsIn c)
 in-base c o e = record {
   still = λ t h. (h, tt);
   joins = λ t u v xs ys a b h. let p = a h in let q = b p.0 in (q.0, all-append (Inside c) xs ys p.1 q.1);
-  turns = λ k t m on may by h. (h, with-inside k c o t m);
+  turns = ahead-of o e (KeepsIn c) (in-turns c o e);
   tells_one = λ t m msg on talk h. (h, (inr tt, tt));
   tells_some = λ t to w there news h. (h, (inr (news-inside o e t w news), tt));
   tells_admins = λ t to r may is h. (h, (inl (may.within c h), tt));
@@ -314,7 +322,7 @@ run-in true c o t h = (h, tt)
 run-in false c o t h = (h, tt)
 
 in-ticks : (c : ℕ) (o : Origin) (e : Event) → Ticks o e (KeepsIn c)
-in-ticks c o e = record { stamping = λ t h. (h, tt); running = λ t b is. run-in b c o t }
+in-ticks c o e = record { stamping = λ t h. (h, tt); behind = behind-of o e (KeepsIn c) (in-turns c o e); running = λ t b is. run-in b c o t }
 
 in-closing : (c : ℕ) (o : Origin) (e : Event) → Closing o e (KeepsIn c)
 in-closing c o e = record { charges = λ t h. (h, tt); closes = λ t h. (tt, (inr tt, (inl h, (inr tt, tt)))) }

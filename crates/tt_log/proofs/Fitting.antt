@@ -21,7 +21,6 @@ use Rattle.tt_admin.specs.declared.message.AdminMsg.TheVariants as admins
 use Rattle.tt_world.specs.declared.command.Code.{Code}
 use Rattle.tt_world.specs.declared.command.Command.{Command}
 use Rattle.tt_rules.specs.Commands.{code_of, command_with}
-use Rattle.tt_rules.specs.Reasons.{◌⇒◌}
 use Rattle.tt_log.specs.declared.deed.Step.{Step}
 use Rattle.tt_log.specs.declared.deed.What.{What}
 use Rattle.tt_log.specs.declared.deed.What.TheVariants.{Msg, Stamp, Sync}
@@ -46,9 +45,10 @@ use Rattle.tt_log.proofs.Changes.{Allows, By, Change, wants_password, is_let_in,
 use Rattle.tt_log.proofs.Changes.{has_name, goes_to, founds, gets_pieces, has_all, Asks, May, turned, turned_in, steps_with, moved, Move}
 use Rattle.tt_log.proofs.Changes.{queues, begins_map, loads, IsClient, IsSeated, IsReason, IsEnd, IsChat, IsTalk, IsNews, IsNotice}
 use Rattle.tt_log.proofs.Changes.{IsAnswer, IsReport}
+use Rattle.tt_log.proofs.Walk.{Turns, ahead-of, behind-of}
 use Rattle.tt_log.proofs.Walk.{running, told_moved, IsOrdered, Base, Walk, Doors, Closing, Moves, Ticks, of-asks, of-enters}
 use Rattle.tt_log.proofs.Walk.{of-leaves, of-deed}
-use Rattle.tt_log.proofs.Marking.{fresh-low, none-first}
+use Rattle.tt_log.proofs.Marking.{fresh-low, last-none, none-first}
 use Rattle.tt_log.proofs.Reading.{join-fits, command-fits, chat-fits, name-fits, move-fits, error-fits, ping-fits, rcon-fits}
 use Rattle.tt_log.proofs.Reading.{aside-fits}
 use Rattle.tt_log.proofs.GivenNames.{given-fits, given-some}
@@ -61,10 +61,6 @@ use Rattle.tt_log.proofs.Ranges.{FitsTable, FitsReport, FitsSteps, FitsWhat}
 use Rattle.tt_log.proofs.Ranges.{code-small, low-code, low-scope, low-byte}
 
 -- ---- what was not refused
-
-last-none : (b : Bool) (code : ℕ) → (b ⇒ code) ≡ None → b ≡ false
-last-none true code is = absurd cc
-last-none false code is = refl
 
 join-short : (o : Origin) (e : Event) (t : Table) (m : Member) (revision : List ℕ) (grf : ℕ) (name : List ℕ) (company : ℕ)
     → Allows o e t m (ClientJoin revision grf name company) → is_too_long (given_name t m.conn name) ≡ false
@@ -380,6 +376,10 @@ module _ (o : Origin) (e : Event) (ok : IsOrigin o) (bytes : IsEvent e) where
     near = rw (top, frame) h.near;
   }
 
+  fitting-turns : Turns o e Fitting
+  fitting-turns c t m on may by = at-once t (turned_in c t m) _ refl refl (λ low h. let f = found-fits o t m on h in
+      (put-fits t o (turned c t m) _ (turned-fits c t m may by h f) h, with-fits c t m low h f))
+
   fitting-base : Base o e Fitting
   fitting-base = record {
     still = λ t. at-once t t [] refl refl (λ low h. (h, tt));
@@ -390,8 +390,7 @@ module _ (o : Origin) (e : Event) (ok : IsOrigin o) (bytes : IsEvent e) where
           let one = a.fits (let k = b.frame in omega (arith, k, low)) (let k = b.clients in omega (arith, k, few)) h in
           let two = b.fits low few one.0 in (two.0, all-append (λ (s : Step). FitsWhat s.what) xs ys one.1 two.1);
     };
-    turns = λ c t m on may by. at-once t (turned_in c t m) _ refl refl (λ low h. let f = found-fits o t m on h in
-        (put-fits t o (turned c t m) _ (turned-fits c t m may by h f) h, with-fits c t m low h f));
+    turns = ahead-of o e Fitting fitting-turns;
     tells_one = λ t m msg on talk. at-once t t _ refl refl (λ low h. (h, (talk-fits t msg talk low h, tt)));
     tells_some = λ t to w there news. at-once t t _ refl refl (λ low h. (h, (news-fits t w news low h, tt)));
     tells_admins = λ t to r there is. at-once t t _ refl refl (λ low h. (h, (report-fits t r is h, tt)));
@@ -563,6 +562,7 @@ module _ (o : Origin) (e : Event) (ok : IsOrigin o) (bytes : IsEvent e) where
       },
       tt,
     ));
+    behind = behind-of o e Fitting fitting-turns;
     running = λ t b is. running-fits b t;
   }
 

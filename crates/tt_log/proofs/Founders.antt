@@ -110,6 +110,9 @@ agree RenamePresident n company to text w =
 agree Pause n company to text w = record { founders = refl; lives = answered-lives (refusal_by Pause company n to text w) w _ refl }
 agree NewCompany n company to text w = founds-by (list_any is_none w.companies) n company to text w refl (free-is w.companies)
 
+pub applied-lives : (w : WorldState) (e : Entry) → living (applied w e).0 ≡ living_with (founding e.command.code (living w)) (living w)
+applied-lives w e = (agree e.command.code e.command.number e.company e.command.to e.command.text w).lives
+
 pub foundings-are : (w : WorldState) (es : List Entry) → foundings (living w) es ≡ foundings_in w es
 foundings-are w [] = refl
 foundings-are w (e ∷ es) =

@@ -31,6 +31,7 @@ use Rattle.tt_log.proofs.Lists.{IsOther, NotIn, all-append, any-not, all-of-filt
 use Rattle.tt_log.proofs.Crew.{On, put, put-conns, conns, admin_conns, live-conns, live-admins, found-on, on-found, find-put-here}
 use Rattle.tt_log.proofs.Crew.{find-put-other, find-others, none-left}
 use Rattle.tt_log.proofs.Changes.{step, turned, moved}
+use Rattle.tt_log.proofs.Walk.{Turns, ahead-of, behind-of}
 use Rattle.tt_log.proofs.Walk.{Base, Moves, of-leaves-queue}
 use Rattle.tt_log.proofs.Clock.{SameClock, KeepsClock, same-base, same-moves, over-is-empty}
 use Rattle.tt_log.proofs.Ordered.{is-ordered, no-admin}
@@ -101,6 +102,9 @@ KeepsRest c t steps u = Rest c t u
 rest-put : (c : ℕ) (n : Member) (t : Table) → NotIn c (conns t.members) → NotIn c (conns (put n t.members))
 rest-put c n t a = subst (λ (xs : List ℕ). NotIn c xs) (sym (put-conns n t.members)) a
 
+rest-turns : (c : ℕ) (o : Origin) (e : Event) → Turns o e (KeepsRest c)
+rest-turns c o e k t m on may by = record { admins = refl; own = refl; digests = refl; away = λ a. rest-put c (turned k t m) t a }
+
 rest-base : (c : ℕ) (o : Origin) (e : Event) → Base o e (KeepsRest c)
 rest-base c o e = record {
   still = λ t. record { admins = refl; own = refl; digests = refl; away = λ a. a };
@@ -111,7 +115,7 @@ rest-base c o e = record {
     away =
         λ h. b.away (a.away h);
   };
-  turns = λ k t m on may by. record { admins = refl; own = refl; digests = refl; away = λ a. rest-put c (turned k t m) t a };
+  turns = ahead-of o e (KeepsRest c) (rest-turns c o e);
   tells_one = λ t m msg on talk. record { admins = refl; own = refl; digests = refl; away = λ a. a };
   tells_some = λ t to w there news. record { admins = refl; own = refl; digests = refl; away = λ a. a };
   tells_admins = λ t to r may is. record { admins = refl; own = refl; digests = refl; away = λ a. a };

@@ -26,6 +26,7 @@ use Rattle.tt_log.proofs.Lists.{all-append, all-filter, all-map, all-so, among-a
 use Rattle.tt_log.proofs.Crew.{On, put-all}
 use Rattle.tt_log.proofs.Changes.{Change, wants_password, is_let_in, gets_token, gets_frame, answers, plays, commands, has_name, goes_to}
 use Rattle.tt_log.proofs.Changes.{founds, gets_pieces, has_all, Asks, May, turned, moved, Move, queues, begins_map, loads}
+use Rattle.tt_log.proofs.Walk.{Turns, ahead-of, behind-of}
 use Rattle.tt_log.proofs.Walk.{MayMove, Base, Walk, Doors, Closing, Moves, Ticks, running, of-asks, of-enters, of-leaves, of-deed}
 use Rattle.tt_log.proofs.Clock.{from-all}
 
@@ -34,6 +35,10 @@ use Rattle.tt_log.proofs.Clock.{from-all}
 pub none-first : (b : Bool) (code : ℕ) (later : Option ℕ) → ((b ⇒ code) or_else later) ≡ None → (b ≡ false) × (later ≡ None)
 none-first true code later is = absurd cc
 none-first false code later is = (refl, is)
+
+pub last-none : (b : Bool) (code : ℕ) → (b ⇒ code) ≡ None → b ≡ false
+last-none true code is = absurd cc
+last-none false code is = refl
 
 or-false : (x y : Bool) → (x || y) ≡ false → (x ≡ false) × (y ≡ false)
 or-false true y is = absurd cc
@@ -313,11 +318,14 @@ put-marks t n a h = (h.0, put-all (IsMarked t.frame t.top) n t.members a h.1)
 found-mark : (t : Table) (m : Member) → On t m → Marks t → IsMarked t.frame t.top m
 found-mark t m on h = among-all (IsMarked t.frame t.top) m t.members on h.1
 
+mark-turns : (o : Origin) (e : Event) → Turns o e KeepsMarks
+mark-turns o e c t m on may by h = put-marks t (turned c t m) (turned-mark c o e t m may h.0 (found-mark t m on h)) h
+
 mark-base : (o : Origin) (e : Event) → Base o e KeepsMarks
 mark-base o e = record {
   still = λ t h. h;
   joins = λ t u v xs ys a b h. b (a h);
-  turns = λ c t m on may by h. put-marks t (turned c t m) (turned-mark c o e t m may h.0 (found-mark t m on h)) h;
+  turns = ahead-of o e KeepsMarks (mark-turns o e);
   tells_one = λ t m msg on talk h. h;
   tells_some = λ t to w there news h. h;
   tells_admins = λ t to r may is h. h;
@@ -392,6 +400,7 @@ run-marks false o t is h =
 mark-ticks : (o : Origin) (e : Event) → Ticks o e KeepsMarks
 mark-ticks o e = record {
   stamping = λ t h. (h.0, all-map (IsMarked t.frame t.top) (IsMarked t.frame t.top) drawn t.members (drawn-mark t.frame t.top) h.1);
+  behind = behind-of o e KeepsMarks (mark-turns o e);
   running = λ t b is h. run-marks b o t is h;
 }
 

@@ -26,6 +26,7 @@ use Rattle.tt_log.proofs.Crew.{On, found-on, on-found}
 use Rattle.tt_log.proofs.Changes.{Change, wants_password, is_let_in, gets_token, gets_frame, answers, plays, commands, has_name, goes_to}
 use Rattle.tt_log.proofs.Changes.{founds, gets_pieces, has_all, Asks, May, turned, turned-conn, moved, moved-conn, Move, queues}
 use Rattle.tt_log.proofs.Changes.{begins_map, loads}
+use Rattle.tt_log.proofs.Walk.{Turns, ahead-of, behind-of}
 use Rattle.tt_log.proofs.Walk.{MayMove, running, Base, Walk, Doors, Closing, Moves, Ticks, of-asks, of-enters, of-leaves, of-deed}
 use Rattle.tt_log.proofs.Companies.{filter-short}
 use Rattle.tt_log.proofs.Stamping.{among-drawn, among-filter, among-last, among-put}
@@ -287,11 +288,14 @@ same-names t u members h = record {
       (ms : List Member). Among y ms) members b);
 }
 
+name-turns : (o : Origin) (e : Event) → Turns o e KeepsNames
+name-turns o e c t m on may by h = put-names t (turned c t m) m _ on (turned-conn c t m) (turned-name c o e t m on may h) h
+
 name-base : (o : Origin) (e : Event) → Base o e KeepsNames
 name-base o e = record {
   still = λ t h. h;
   joins = λ t u v xs ys a b h. b (a h);
-  turns = λ c t m on may by h. put-names t (turned c t m) m _ on (turned-conn c t m) (turned-name c o e t m on may h) h;
+  turns = ahead-of o e KeepsNames (name-turns o e);
   tells_one = λ t m msg on talk h. h;
   tells_some = λ t to w there news h. h;
   tells_admins = λ t to r there is h. h;
@@ -371,6 +375,7 @@ name-ticks o e = record {
         (ap (λ (z : Member). is_named z) (sym at) ∙ p) (ap (λ (z : Member). is_named z) (sym too) ∙ q)
         (ap (λ (z : Member). z.name) (sym at) ∙ same ∙ ap (λ (z : Member). z.name) too);
   };
+  behind = behind-of o e KeepsNames (name-turns o e);
   running = λ t b is h. run-names b o t h;
 }
 

@@ -17,6 +17,7 @@ use Rattle.tt_log.specs.History.{table_of, AreRising}
 use Rattle.tt_log.proofs.Lists.{Among, NotIn, IsOther, all-so, all-of-filter, among-all}
 use Rattle.tt_log.proofs.Crew.{On, put, conns, admin_conns, put-conns, put-admin-conns, on-found, found-on}
 use Rattle.tt_log.proofs.Changes.{turned-conn, turned-client, moved-conn, moved-client, turned, moved}
+use Rattle.tt_log.proofs.Walk.{Turns, ahead-of, behind-of}
 use Rattle.tt_log.proofs.Walk.{Base, Walk, Doors, Closing, Moves, Ticks, running, of-asks, of-enters, of-leaves, of-deed}
 use Rattle.tt_log.proofs.Clock.{from-all}
 
@@ -74,7 +75,7 @@ under-later n xs a = all-so (λ (x : ℕ). x ≤ n) (λ (x : ℕ). x ≤ n + 1) 
 abbrev pub clients : List Member → List ℕ
 clients ms = map (λ (m : Member). m.client) ms
 
-rising-above : (k : ℕ) (m : Member) (ms : List Member) → AreRising k (conns ms) → Among m ms → k < m.conn
+pub rising-above : (k : ℕ) (m : Member) (ms : List Member) → AreRising k (conns ms) → Among m ms → k < m.conn
 rising-above k m [] r there = absurd there
 rising-above k m (x ∷ xs) r (inl here) = subst (λ (y : Member). k < y.conn) here r.0
 rising-above k m (x ∷ xs) r (inr later) = let a : k < x.conn = r.0 in let b : x.conn < m.conn = rising-above x.conn m xs r.1 later in
@@ -169,11 +170,14 @@ none-ordered openings last some = record {
 
 -- ---- the walk
 
+pub order-turns : (o : Origin) (e : Event) → Turns o e KeepsOrder
+order-turns o e c t m on may by h = put-ordered t (turned c t m) m on (turned-conn c t m) (turned-client c t m) h
+
 pub order-base : (o : Origin) (e : Event) → Base o e KeepsOrder
 order-base o e = record {
   still = λ t h. h;
   joins = λ t u v xs ys a b h. b (a h);
-  turns = λ c t m on may by h. put-ordered t (turned c t m) m on (turned-conn c t m) (turned-client c t m) h;
+  turns = ahead-of o e KeepsOrder (order-turns o e);
   tells_one = λ t m msg on talk h. h;
   tells_some = λ t to w there news h. h;
   tells_admins = λ t to r may is h. h;
@@ -270,6 +274,7 @@ pub order-ticks : (o : Origin) (e : Event) → Ticks o e KeepsOrder
 order-ticks o e = record {
   stamping = λ t h. same-ordered t.openings t.clients _ _ _ _ _ (map-same (λ (m : Member). m.conn) drawn t.members (λ m. refl))
       (map-same (λ (m : Member). m.client) drawn t.members (λ m. refl)) h;
+  behind = behind-of o e KeepsOrder (order-turns o e);
   running = λ t b is. run-ordered b t;
 }
   where

@@ -16,6 +16,7 @@ use Rattle.tt_log.specs.Tick.{stamps, own_entry, stamped, frame_runs_by, left_of
 use Rattle.tt_log.specs.Events.{arrives, counted_in, by_event, charged, shut_down, stops, taken, takes, stepped, last_frame}
 use Rattle.tt_log.specs.History.{table_of, journal_of}
 use Rattle.tt_log.specs.Stamps.{ordered, ordered_by, ordered_from, owned, stamped_of}
+use Rattle.tt_log.proofs.Walk.{Turns, ahead-of, behind-of}
 use Rattle.tt_log.proofs.Walk.{Base, Walk, Doors, Moves, running, stamping, of-asks, of-enters, of-leaves, of-still, of-entries, of-frames}
 use Rattle.tt_log.proofs.Walk.{of-follows}
 use Rattle.tt_log.proofs.Lists.{last-among}
@@ -43,11 +44,14 @@ then-grows e t u v a b = record {
   still = λ tick. ap₂ (λ (xs ys : List Command). xs ++ ys) (a.still tick) (b.still tick);
 }
 
+own-turns : (o : Origin) (e : Event) → Turns o e (KeepsOwn e)
+own-turns o e k t m on may by = same e t _ refl
+
 own-base : (o : Origin) (e : Event) → Base o e (KeepsOwn e)
 own-base o e = record {
   still = λ t. same e t t refl;
   joins = λ t u v xs ys a b. then-grows e t u v a b;
-  turns = λ k t m on may by. same e t _ refl;
+  turns = ahead-of o e (KeepsOwn e) (own-turns o e);
   tells_one = λ t m msg on talk. same e t t refl;
   tells_some = λ t to w there news. same e t t refl;
   tells_admins = λ t to r may is. same e t t refl;
@@ -109,7 +113,8 @@ ticked-own o t =
     let s : Table = (stamped t).table in
     let b : Bool = nat_lt s.top (s.frame + 1) in
     let u : Table = (frame_runs_by b o s).table in
-    none-more u (ticked o t).table (of-follows o Tick (KeepsOwn Tick) (own-walk o Tick) (world_of o t) (left_of o t) u
+    none-more u (ticked o t).table (of-follows o Tick (KeepsOwn Tick) (own-walk o Tick)
+    (behind-of o Tick (KeepsOwn Tick) (own-turns o Tick)) (world_of o t) (left_of o t) u
     (world-places o t.journal t.frame))
     ∙ none-more (running b o s) u (runs-own o b s) ∙ running-own o b s
     ∙ none-more (stamping t) s (of-entries o Tick (KeepsOwn Tick) (own-base o Tick) (stamps t) (stamping t)

@@ -29,6 +29,7 @@ use Rattle.tt_log.proofs.Ordered.{map-same}
 use Rattle.tt_log.proofs.Phases.{Phase, Early, Queued, InGame, fits, Suits, Place, Holds, Has, is_command, Quiet, AllQuiet, Goes, GoesBy}
 use Rattle.tt_log.proofs.Phases.{later-self, later-then, while-all, while-then, then-goes, where-goes, place-live, put-holds, early-stays}
 use Rattle.tt_log.proofs.Phases.{queued-stays, playing-stays, later-end, asks-by, enters-by, leaves-by}
+use Rattle.tt_log.proofs.Walk.{Turns, ahead-of, behind-of}
 use Rattle.tt_log.proofs.Walk.{running, Base, Walk, Ticks, Closing, of-event, of-ticked}
 
 -- ---- what is told is quiet
@@ -162,13 +163,16 @@ further-then c t u v xs ys a b p h =
           while-then first.to next.to c xs ys next.later first.quiet next.quiet;
     }
 
+further-turns : (c : ℕ) (o : Origin) (e : Event) → Turns o e (Further c)
+further-turns c o e k t m on may by p h = goes-quiet c p _ _ _
+    (put-holds c p (turned k t m) t (turned-suits k c p o e t m may (among-all (Suits c p) m t.members on h.suits)) h)
+    (with-quiet k c o t m)
+
 further-base : (c : ℕ) (o : Origin) (e : Event) → Base o e (Further c)
 further-base c o e = record {
   still = λ t p h. goes-quiet c p t.members t.queue [] h tt;
   joins = λ t u v xs ys a b. further-then c t u v xs ys a b;
-  turns = λ k t m on may by p h. goes-quiet c p _ _ _
-      (put-holds c p (turned k t m) t (turned-suits k c p o e t m may (among-all (Suits c p) m t.members on h.suits)) h)
-      (with-quiet k c o t m);
+  turns = ahead-of o e (Further c) (further-turns c o e);
   tells_one = λ t m msg on talk p h. goes-quiet c p _ _ _ h (quiet-if c (m.conn ∷ []) (Msg msg) (talk-quiet o e t msg talk), tt);
   tells_some = λ t to w there news p h. news-goes p c t to w there h;
   tells_admins = λ t to r may is p h. goes-quiet c p _ _ _ h (refl, tt);
@@ -197,6 +201,7 @@ further-ticks c o e = record {
     place = place-live p c t.queue (conns t.members) (conns (map drawn t.members)) (ap (λ (xs : List ℕ). list_any (λ x. x == c) xs)
         (map-same (λ (m : Member). m.conn) drawn t.members (λ m. refl))) h.place;
   }) tt;
+  behind = behind-of o e (Further c) (further-turns c o e);
   running = λ t b is. run-goes b c o t;
 }
 

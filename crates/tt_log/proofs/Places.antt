@@ -72,7 +72,7 @@ founder-low : (n : ℕ) (x : Option ℕ) (client : ℕ) (live : List Bool) → (
 founder-low n None client live low = tt
 founder-low n (Some k) client live low = (low k refl, tt)
 
-founding-low : (code : Code) (n : ℕ) (live : List Bool) → length live ≡ n → (k : ℕ) → founding code live ≡ Some k → k < n
+pub founding-low : (code : Code) (n : ℕ) (live : List Bool) → length live ≡ n → (k : ℕ) → founding code live ≡ Some k → k < n
 founding-low NewCompany n live same k is = let found = position-Some not live k false is in omega (arith, found.0, same)
 founding-low IncreaseLoan n live same k is = absurd cc
 founding-low DecreaseLoan n live same k is = absurd cc

@@ -22,6 +22,7 @@ use Rattle.tt_log.specs.Stamps.{accepted, accepted_by, accepted_from, stamped_of
 use Rattle.tt_log.proofs.Lists.{Among, found-among, found-passes}
 use Rattle.tt_log.proofs.Crew.{On, on-found, found-on}
 use Rattle.tt_log.proofs.Changes.{turned, turned-conn, turned-client, moved, moved-conn, moved-client}
+use Rattle.tt_log.proofs.Walk.{Turns, ahead-of, behind-of}
 use Rattle.tt_log.proofs.Walk.{Base, Walk, Moves, running, of-asks, of-enters, of-leaves, of-deed}
 use Rattle.tt_log.proofs.Clock.{Ticked, ticked-is, event-same, taken-run}
 use Rattle.tt_log.proofs.Ordered.{Ordered, is-ordered, step-ordered}
@@ -67,15 +68,18 @@ put-only c k t n m on conn client h x there at = elim (among-put n x t.members t
   | inr other ↦ h.only x other.0 at
 ]
 
+only-turns : (c k : ℕ) (o : Origin) (e : Event) → Turns o e (KeepsOnly c k)
+only-turns c k o e d t m on may by h = record {
+  only = put-only c k t (turned d t m) m on (turned-conn d t m) (turned-client d t m) h;
+  known =
+      h.known;
+}
+
 only-base : (c k : ℕ) (o : Origin) (e : Event) → Base o e (KeepsOnly c k)
 only-base c k o e = record {
   still = λ t h. h;
   joins = λ t u v xs ys a b h. b (a h);
-  turns = λ d t m on may by h. record {
-    only = put-only c k t (turned d t m) m on (turned-conn d t m) (turned-client d t m) h;
-    known =
-        h.known;
-  };
+  turns = ahead-of o e (KeepsOnly c k) (only-turns c k o e);
   tells_one = λ t m msg on talk h. h;
   tells_some = λ t to w there news h. h;
   tells_admins = λ t to r may is h. h;
@@ -137,6 +141,7 @@ step-only c k o e t h = of-deed o e (KeepsOnly c k) (only-walk c k o e)
             ∙ h.only a.0 a.1 (ap (λ (y : Member). y.client) (sym a.2) ∙ at);
         known = h.known;
       };
+      behind = behind-of o e (KeepsOnly c k) (only-turns c k o e);
       running = λ t b is. run-only b c k o t;
     })
     (record {

@@ -29,10 +29,11 @@ use Rattle.tt_log.proofs.Lists.{Among, IsOther, NotIn, all-append, all-filter, a
 use Rattle.tt_log.proofs.Crew.{On, conns, find-others, find-put-here, found-on, live-conns, on-found, others, put, put-all, put-conns}
 use Rattle.tt_log.proofs.Changes.{Change, wants_password, is_let_in, gets_token, gets_frame, answers, plays, commands, has_name, goes_to}
 use Rattle.tt_log.proofs.Changes.{founds, gets_pieces, has_all, Asks, May, turned, turned-conn}
+use Rattle.tt_log.proofs.Walk.{Turns, ahead-of, behind-of}
 use Rattle.tt_log.proofs.Walk.{running, Base, Walk, Doors, Closing, Ticks, of-deed}
 use Rattle.tt_log.proofs.Phases.{OnceIn, none-removed, not-found, place_in, removed, removed-is}
 use Rattle.tt_log.proofs.Malformed.{later-stays}
-use Rattle.tt_log.proofs.Ordered.{Ordered, is-ordered, map-same, order-base, order-closing, order-doors, order-ticks, order-walk}
+use Rattle.tt_log.proofs.Ordered.{Ordered, is-ordered, map-same, order-closing, order-doors, order-ticks, order-turns, order-walk}
 use Rattle.tt_log.proofs.Clock.{from-all}
 
 -- ---- seats
@@ -432,18 +433,21 @@ KeepsQueue t steps u = Ordered t → Queued t → Ordered u × Queued u
 same-queue : (t u : Table) → u.members ≡ t.members → u.queue ≡ t.queue → Queued t → Queued u
 same-queue t u members queue h = record { shape = rw (members, queue) h.shape; once = rw queue h.once }
 
+queue-turns : (o : Origin) (e : Event) → Turns o e KeepsQueue
+queue-turns o e c t m on may by r h = (
+  order-turns o e c t m on may by r,
+  record {
+    shape = shape-turn (turned c t m) m t.members t.queue on (turned-conn c t m) (turned-down c o e t m may) (turned-wait c o e t m may)
+        h.shape;
+    once = h.once;
+  },
+)
+
 queue-base : (o : Origin) (e : Event) → Base o e KeepsQueue
 queue-base o e = record {
   still = λ t r h. (r, h);
   joins = λ t u v xs ys a b r h. let one = a r h in b one.0 one.1;
-  turns = λ c t m on may by r h. (
-    (order-base o e).turns c t m on may by r,
-    record {
-      shape = shape-turn (turned c t m) m t.members t.queue on (turned-conn c t m) (turned-down c o e t m may) (turned-wait c o e t m may)
-          h.shape;
-      once = h.once;
-    },
-  );
+  turns = ahead-of o e KeepsQueue (queue-turns o e);
   tells_one = λ t m msg on talk r h. (r, h);
   tells_some = λ t to w there news r h. (r, h);
   tells_admins = λ t to n there is r h. (r, h);
@@ -538,6 +542,7 @@ run-queue false o t h = same-queue t _ refl refl h
 queue-ticks : (o : Origin) (e : Event) → Ticks o e KeepsQueue
 queue-ticks o e = record {
   stamping = λ t r h. ((order-ticks o e).stamping t r, record { shape = drawn-shape t.members t.queue h.shape; once = h.once });
+  behind = behind-of o e KeepsQueue (queue-turns o e);
   running = λ t b is r h. ((order-ticks o e).running t b is r, run-queue b o t h);
 }
 

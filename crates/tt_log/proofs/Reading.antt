@@ -1,5 +1,5 @@
 -- What is read of a packet whose body is bytes is in the ranges of its row.
-use Rattle.std.proofs.Common.{◌≡◌, ℕ, ◌<◌, ◌≤◌, true, List, Option, Some, sym, subst}
+use Rattle.std.proofs.Common.{◌≡◌, ℕ, ◌<◌, ◌≤◌, true, List, Option, Some, sym, subst, ◌∙◌}
 use Rattle.std.specs.Prelude.{Result, Ok, Err, ◌^◌}
 use Rattle.std.specs.Result.{result_ok}
 use Rattle.tt_frame.specs.Text.{is_text}
@@ -9,6 +9,7 @@ use Rattle.tt_frame.specs.Tables.{Rule, SpelledBy, read_by, rule_of}
 use Rattle.tt_frame.specs.Unread.{whole}
 use Rattle.tt_frame.proofs.FamilyLaws.{Lawful, kind_is}
 use Rattle.tt_frame.proofs.RowLaws.{row_takes}
+use Rattle.tt_frame.proofs.TableLaws.{read_by_row}
 use Rattle.tt_game.specs.declared.message.GameMsg.{GameMsg}
 use Rattle.tt_game.specs.declared.message.GameMsg.TheVariants.{ClientJoin, ClientCommand, ClientChat, ClientSetName, ClientMove}
 use Rattle.tt_game.specs.declared.message.GameMsg.TheVariants.{ClientError}
@@ -35,7 +36,7 @@ spelled-as : (M : Type 0) (family : Family M) → Lawful family → (m : M) (kin
 spelled-as M family lawful m kind body bytes is =
     let l : Rule M = rule_of family.table kind in
     let read : SpelledBy family.table m kind body = row_takes l.fields l.make (whole body) m bytes
-    (ok-of (read_by family.table kind (whole body)) m is) in
+    (sym (read_by_row family.table kind (whole body)) ∙ ok-of (read_by family.table kind (whole body)) m is) in
     subst (λ (k : ℕ). SpelledBy family.table m k body) (sym (kind_is M family lawful m kind body read)) read
 
 -- what a member says is spelled by its packet, and so is what an admin says

@@ -23,6 +23,7 @@ use Rattle.tt_log.proofs.Lists.{all-append, all-drop, all-filter, all-map, all-t
 use Rattle.tt_log.proofs.Crew.{On, put-all}
 use Rattle.tt_log.proofs.Changes.{Change, wants_password, is_let_in, gets_token, gets_frame, answers, plays, commands, has_name, goes_to}
 use Rattle.tt_log.proofs.Changes.{founds, gets_pieces, has_all, May, turned, moved, Move, queues, begins_map, loads}
+use Rattle.tt_log.proofs.Walk.{Turns, ahead-of, behind-of}
 use Rattle.tt_log.proofs.Walk.{IsOrdered, running, Base, Walk, Doors, Closing, Moves, Ticks, of-asks, of-enters, of-leaves, of-deed}
 use Rattle.tt_log.proofs.Marking.{none-first}
 use Rattle.tt_log.proofs.Clock.{from-all}
@@ -138,11 +139,14 @@ same-senders : (t u : Table) → u.members ≡ t.members → u.own ≡ t.own →
 same-senders t u members own journal clients h =
     record { members = rw members h.members; own = rw own h.own; journal = rw journal h.journal; some = rw clients h.some }
 
+sender-turns : (o : Origin) (e : Event) → Turns o e KeepsSenders
+sender-turns o e c t m on may by h = put-sender t (turned c t m) _ (turned-sender c o e t m may (found-sender t m on h)) h
+
 sender-base : (o : Origin) (e : Event) → Base o e KeepsSenders
 sender-base o e = record {
   still = λ t h. h;
   joins = λ t u v xs ys a b h. b (a h);
-  turns = λ c t m on may by h. put-sender t (turned c t m) _ (turned-sender c o e t m may (found-sender t m on h)) h;
+  turns = ahead-of o e KeepsSenders (sender-turns o e);
   tells_one = λ t m msg on talk h. h;
   tells_some = λ t to w there news h. h;
   tells_admins = λ t to r there is h. h;
@@ -239,6 +243,7 @@ sender-ticks o e = record {
         (own-sent (t.top + 1) t.own h.own) (members-sent (t.top + 1) t.members h.members));
     some = h.some;
   };
+  behind = behind-of o e KeepsSenders (sender-turns o e);
   running = λ t b is h. run-senders b o t h;
 }
 

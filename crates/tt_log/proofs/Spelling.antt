@@ -3,8 +3,7 @@ use Rattle.std.proofs.Common.{ℕ, ◌+◌, ◌≤◌, ◌<◌, List, [], ◌∷
 use Rattle.std.specs.Prelude.{◌^◌, Result, fold}
 use Rattle.std.specs.Result.{result_ok}
 use Rattle.std.specs.List.{AllByRecursion}
-use Rattle.tt_frame.specs.Tables.{rule_of}
-use Rattle.tt_frame.proofs.RowLaws.{row_again}
+use Rattle.tt_frame.proofs.TableLaws.{again}
 use Rattle.tt_edge.specs.declared.event.Event.{Event}
 use Rattle.tt_game.specs.declared.message.GameMsg.{GameMsg}
 use Rattle.tt_game.specs.Apart as games
@@ -103,10 +102,10 @@ all-small o es c ok are = all-so IsSent IsSmall (heard o es c) (λ s a. a.1) (al
 -- ---- what follows
 
 pub spelled-again : (s : Said) → IsSpelled s → IsReadAgain s
-spelled-again (game m) is = ap (λ (r : Result GameMsg ℕ). result_ok r) (row_again (rule_of game_rows.messages (games.kind_of m)).fields
-    (rule_of game_rows.messages (games.kind_of m)).make m 0 (games.body_bytes m) is)
-spelled-again (admin m) is = ap (λ (r : Result AdminMsg ℕ). result_ok r) (row_again (rule_of admin_rows.messages (admins.kind_of m)).fields
-    (rule_of admin_rows.messages (admins.kind_of m)).make m 0 (admins.body_bytes m) is)
+spelled-again (game m) is =
+    ap (λ (r : Result GameMsg ℕ). result_ok r) (again game_rows.messages (games.kind_of m) (games.body_bytes m) m is)
+spelled-again (admin m) is =
+    ap (λ (r : Result AdminMsg ℕ). result_ok r) (again admin_rows.messages (admins.kind_of m) (admins.body_bytes m) m is)
 
 -- so it is read again
 pub all-read : (o : Origin) (es : List Event) (c : ℕ) → IsOrigin o → AreEvents es → AllByRecursion IsReadAgain (heard o es c)

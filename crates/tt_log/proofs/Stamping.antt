@@ -38,9 +38,10 @@ use Rattle.tt_log.proofs.Codes.{IsCodeOf, judged-code}
 use Rattle.tt_log.proofs.Changes.{Says, By, Change, wants_password, is_let_in, gets_token, gets_frame, answers, plays, commands, has_name}
 use Rattle.tt_log.proofs.Changes.{goes_to, founds, gets_pieces, has_all, turned, turned-conn, turned-client, moved, moved-conn}
 use Rattle.tt_log.proofs.Changes.{moved-client, Move, queues, begins_map, loads}
+use Rattle.tt_log.proofs.Walk.{Turns, ahead-of, behind-of}
 use Rattle.tt_log.proofs.Walk.{Base, Walk, Doors, Closing, Moves, Ticks, running, of-asks, of-enters, of-leaves, of-deed, of-ends}
 use Rattle.tt_log.proofs.Walk.{is-packet-aside, of-admin-hears}
-use Rattle.tt_log.proofs.Ordered.{Ordered, is-ordered, step-ordered, order-base, order-moves, order-walk, order-doors, order-ticks}
+use Rattle.tt_log.proofs.Ordered.{Ordered, is-ordered, step-ordered, order-turns, order-base, order-moves, order-walk, order-doors, order-ticks}
 use Rattle.tt_log.proofs.Ordered.{order-closing, rising-not}
 
 -- ---- entries of a sender
@@ -202,19 +203,22 @@ put-live c said t n m on conn client waiting h x there at = elim (among-put n x 
   | inr other ↦ h.live x other.0 at
 ]
 
+stamp-turns : (c : ℕ) (said : List (ℕ × Command)) (o : Origin) (e : Event) → IsQuiet e c → Turns o e (KeepsStamps c said)
+stamp-turns c said o e quiet k t m on may by r h = (
+  order-turns o e k t m on may by r,
+  record {
+    live = λ x there at. put-live c said t (turned k t m) m on (turned-conn k t m) (turned-client k t m)
+        (λ own. turned-waiting k c e t m quiet own by) h x there at;
+    early = h.early;
+    senders = h.senders;
+  },
+)
+
 stamp-base : (c : ℕ) (said : List (ℕ × Command)) (o : Origin) (e : Event) → IsQuiet e c → Base o e (KeepsStamps c said)
 stamp-base c said o e quiet = record {
   still = λ t r h. (r, h);
   joins = λ t u v xs ys a b r h. let first = a r h in b first.0 first.1;
-  turns = λ k t m on may by r h. (
-    (order-base o e).turns k t m on may by r,
-    record {
-      live = λ x there at. put-live c said t (turned k t m) m on (turned-conn k t m) (turned-client k t m)
-          (λ own. turned-waiting k c e t m quiet own by) h x there at;
-      early = h.early;
-      senders = h.senders;
-    },
-  );
+  turns = ahead-of o e (KeepsStamps c said) (stamp-turns c said o e quiet);
   tells_one = λ t m msg on talk r h. (r, h);
   tells_some = λ t to w there news r h. (r, h);
   tells_admins = λ t to report may is r h. (r, h);
@@ -363,8 +367,8 @@ run-kept : (b : Bool) (c : ℕ) (said : List (ℕ × Command)) (o : Origin) (t :
 run-kept true c said o t h = record { live = h.live; early = h.early; senders = h.senders }
 run-kept false c said o t h = record { live = h.live; early = h.early; senders = h.senders }
 
-stamp-ticks : (c : ℕ) (said : List (ℕ × Command)) (o : Origin) (e : Event) → Ticks o e (KeepsStamps c said)
-stamp-ticks c said o e = record {
+stamp-ticks : (c : ℕ) (said : List (ℕ × Command)) (o : Origin) (e : Event) → IsQuiet e c → Ticks o e (KeepsStamps c said)
+stamp-ticks c said o e quiet = record {
   stamping = λ t r h. (
     (order-ticks o e).stamping t r,
     record {
@@ -375,6 +379,7 @@ stamp-ticks c said o e = record {
           (own-senders (t.top + 1) t.clients t.own r.some) (drawing-senders (t.top + 1) t.clients t.members r.given));
     },
   );
+  behind = behind-of o e (KeepsStamps c said) (stamp-turns c said o e quiet);
   running = λ t b is r h. ((order-ticks o e).running t b is r, run-kept b c said o t h);
 }
 
@@ -386,7 +391,7 @@ stamp-closing c said o e = record {
 
 pub step-quiet : (c : ℕ) (said : List (ℕ × Command)) (o : Origin) (e : Event) (t : Table) → IsQuiet e c → Ordered t → Kept c said t
     → Kept c said (stepped o t e)
-step-quiet c said o e t quiet r h = (of-deed o e (KeepsStamps c said) (stamp-walk c said o e quiet) (stamp-ticks c said o e)
+step-quiet c said o e t quiet r h = (of-deed o e (KeepsStamps c said) (stamp-walk c said o e quiet) (stamp-ticks c said o e quiet)
     (stamp-doors c said o e) (stamp-closing c said o e) t r h).1
 
 -- ---- a COMMAND of the connection

@@ -34,6 +34,7 @@ use Rattle.tt_log.specs.Told.{told}
 use Rattle.tt_log.proofs.Lists.{Among, Within, NotIn, all-append, all-so, all-filter, found-among, any-not}
 use Rattle.tt_log.proofs.Crew.{conns, admin_conns, put_admin}
 use Rattle.tt_log.proofs.Changes.{steps_with}
+use Rattle.tt_log.proofs.Walk.{Turns, ahead-of, behind-of}
 use Rattle.tt_log.proofs.Walk.{Base, Walk, Closing, Moves, Ticks, running, told_moved, Names, joined_conns, IsOwn, MayTell, of-asks}
 use Rattle.tt_log.proofs.Walk.{of-enters, of-leaves, of-event, of-ticked, of-deed-by, of-deed}
 use Rattle.tt_log.proofs.Clock.{from-all}
@@ -57,11 +58,14 @@ fewer p (x ∷ xs) = by (p x) (fewer p xs)
     by true l = omega (arith, l)
     by false l = omega (arith, l)
 
+few-turns : (o : Origin) (e : Event) → Turns o e Few
+few-turns o e k t m on may by h = h
+
 few-base : (o : Origin) (e : Event) → Base o e Few
 few-base o e = record {
   still = λ t h. h;
   joins = λ t u v xs ys a b h. b (a h);
-  turns = λ k t m on may by h. h;
+  turns = ahead-of o e Few (few-turns o e);
   tells_one = λ t m msg on talk h. h;
   tells_some = λ t to w there news h. h;
   tells_admins = λ t to r may is h. h;
@@ -109,7 +113,8 @@ few-running true o t h = h
 few-running false o t h = h
 
 few-step : (o : Origin) (e : Event) (t : Table) → length t.admins ≤ 16 → length (stepped o t e).admins ≤ 16
-few-step o e t = of-deed o e Few (few-walk o e) (record { stamping = λ t h. h; running = λ t b is. few-running b o t })
+few-step o e t = of-deed o e Few (few-walk o e)
+    (record { stamping = λ t h. h; behind = behind-of o e Few (few-turns o e); running = λ t b is. few-running b o t })
     (record {
       comes = λ t. few-main (nat_le o.setup.max_clients (length t.members)) t;
       comes_aside = λ t. few-side (nat_le most_admins (length t.admins)) t refl;
@@ -214,11 +219,14 @@ other-conn c d e apart own = by (d == c) refl
     by true is = absurd (apart (subst (λ (x : ℕ). Names e x) (eqb-true d c is) own))
     by false is = is
 
+shy-turns : (joins : Bool) (c : ℕ) (o : Origin) (e : Event) → Turns o e (KeepsShy joins c e)
+shy-turns joins c o e k t m on may by apart h = (h, all-shy joins c (steps_with k o t m) (with-inside k c o t m))
+
 shy-base : (joins : Bool) (c : ℕ) (o : Origin) (e : Event) → Base o e (KeepsShy joins c e)
 shy-base joins c o e = record {
   still = λ t apart h. (h, tt);
   joins = λ t u v xs ys a b apart h. let p = a apart h in let q = b apart p.0 in (q.0, all-append (Shy joins c) xs ys p.1 q.1);
-  turns = λ k t m on may by apart h. (h, all-shy joins c (steps_with k o t m) (with-inside k c o t m));
+  turns = ahead-of o e (KeepsShy joins c e) (shy-turns joins c o e);
   tells_one = λ t m msg on talk apart h. (h, (λ aside. absurd aside, tt));
   tells_some = λ t to w there news apart h. (h, (inside-shy joins c to w (inr (news-inside o e t w news)), tt));
   tells_admins = λ t to r may is apart h. (h, (λ aside. told-shy joins c e t to r may apart h, tt));
@@ -259,7 +267,7 @@ shy-running true joins c o e t apart h = (h, tt)
 shy-running false joins c o e t apart h = (h, tt)
 
 shy-ticks : (joins : Bool) (c : ℕ) (o : Origin) (e : Event) → Ticks o e (KeepsShy joins c e)
-shy-ticks joins c o e = record { stamping = λ t apart h. (h, tt); running = λ t b is. shy-running b joins c o e t }
+shy-ticks joins c o e = record { stamping = λ t apart h. (h, tt); behind = behind-of o e (KeepsShy joins c e) (shy-turns joins c o e); running = λ t b is. shy-running b joins c o e t }
 
 shy-closing : (joins : Bool) (c : ℕ) (o : Origin) (e : Event) → Closing o e (KeepsShy joins c e)
 shy-closing joins c o e = record {

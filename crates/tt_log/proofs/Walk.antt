@@ -63,13 +63,13 @@ use Rattle.tt_log.specs.Events.{takes, deed, last_frame}
 use Rattle.tt_log.specs.History.{IsEvent}
 use Rattle.tt_log.proofs.Lists.{Among, Within, NotIn, IsOther, found-among, map-filter-not, all-of-filter, all-filter, all-among}
 use Rattle.tt_log.proofs.Lists.{last-among, all-append, found-passes}
-use Rattle.tt_log.proofs.Crew.{On, OnAdmin, conns, others, on-found, found-on, put-among, put-admin-among, admin_conns}
+use Rattle.tt_log.proofs.Crew.{On, OnAdmin, conns, others, on-found, found-on, put-among, put-admin-among, admin_conns, still-playing}
 use Rattle.tt_log.proofs.Codes.{IsCode, IsCodeOf, admin-judged-code, judged-code, late-code}
 use Rattle.tt_log.proofs.Places.{foundings-low, world-places}
 use Rattle.tt_log.proofs.Changes.{step, Allows, allows, Says, By, Change, wants_password, is_let_in, gets_token, gets_frame, answers, plays}
 use Rattle.tt_log.proofs.Changes.{commands, has_name, goes_to, founds, gets_pieces, has_all, Move, queues, begins_map, loads, Asks, May}
-use Rattle.tt_log.proofs.Changes.{turned, moved, turned_in, steps_with, IsSeated, IsChat, IsFarewell, IsTalk, IsNews, IsNotice, IsReport}
-use Rattle.tt_log.proofs.Changes.{SaysAside, turned-conn}
+use Rattle.tt_log.proofs.Changes.{is_behind, behind-by, turned, moved, turned_in, steps_with, IsSeated, IsChat, IsFarewell, IsTalk, IsNews}
+use Rattle.tt_log.proofs.Changes.{IsNotice, IsReport, SaysAside, turned-conn}
 use Rattle.tt_log.proofs.Reported.{due-known, lines-known, polls-known}
 
 -- ---- the tables of a tick
@@ -141,13 +141,31 @@ module _ (o : Origin) (e : Event) (P : Table → List Step → Table → Type 0)
   abbrev pub Of : Table → Deed → Type 0
   Of t d = P t d.told d.table
 
+  -- it holds of each change of a member; of those that come in ticks alone, behind the frame; and of all others
+  abbrev pub Turns : Type 0
+  Turns = (c : Change) (t : Table) (m : Member) → On t m → May o e t m c → By e m c → P t (steps_with c o t m) (turned_in c t m)
+
+  abbrev pub TurnsBehind : Type 0
+  TurnsBehind = (c : Change) (t : Table) (m : Member) → On t m → May o e t m c → is_behind c ≡ true
+      → P t (steps_with c o t m) (turned_in c t m)
+
+  abbrev pub TurnsAhead : Type 0
+  TurnsAhead = (c : Change) (t : Table) (m : Member) → On t m → May o e t m c → By e m c → is_behind c ≡ false
+      → P t (steps_with c o t m) (turned_in c t m)
+
+  pub behind-of : Turns → TurnsBehind
+  behind-of turns c t m on may is = turns c t m on may (behind-by e m c is)
+
+  pub ahead-of : Turns → TurnsAhead
+  ahead-of turns c t m on may by is = turns c t m on may by
+
   -- it holds of what nearly every rule is made of
   pub record Base : Type 0 where
     -- nothing is done; one thing is done, and then another
     pub still : (t : Table) → P t [] t
     pub joins : (t u v : Table) (xs ys : List Step) → P t xs u → P u ys v → P t (xs ++ ys) v
-    -- a member changes, and is told something with it
-    pub turns : (c : Change) (t : Table) (m : Member) → On t m → May o e t m c → By e m c → P t (steps_with c o t m) (turned_in c t m)
+    -- a member changes, and is told something with it; but for what comes in ticks alone
+    pub turns : TurnsAhead
     -- a member is told something, or some of those that play are, or some admins
     pub tells_one : (t : Table) (m : Member) (msg : GameMsg) → On t m → IsTalk o e t msg → P t (step (m.conn ∷ []) (Msg msg) ∷ []) t
     pub tells_some : (t : Table) (to : List ℕ) (w : What) → Within to (playing t) → IsNews o e t w → P t (step to w ∷ []) t
@@ -179,10 +197,11 @@ module _ (o : Origin) (e : Event) (P : Table → List Step → Table → Type 0)
     pub charges : (t : Table) → P t [] (record t { cost = t.cost + event_cost e })
     pub closes : (t : Table) → Of t (shut_down t)
 
-  -- it holds of what only ticks do: stamping, and running a frame
+  -- it holds of what only ticks do: stamping, running a frame, and the changes behind it
   pub record Ticks : Type 0 where
     pub stamping : (t : Table) → P t [] (stamping t)
     pub running : (t : Table) (b : Bool) → nat_lt t.top (t.frame + 1) ≡ b → P t [] (running b o t)
+    pub behind : TurnsBehind
 
   -- it holds also of each part of the moves of the queue
   pub record Moves : Type 0 where
@@ -271,23 +290,6 @@ module _ (o : Origin) (e : Event) (P : Table → List Step → Table → Type 0)
         of-where (not (day == before)) (day_told day) t (λ is. of-each-told day (filter (λ a. a.joined) t.admins) t
         (all-among (filter (λ a. a.joined) t.admins)))
 
-    -- who plays without a member plays with it too
-    still-playing : (conn : ℕ) (t : Table) → Within (playing (without_member conn t)) (playing t)
-    still-playing conn t c h = by t.members h
-      where
-        one : (b d : Bool) (m : Member) (few all : List Member) → (NotIn c (conns (filter is_playing all))
-            → NotIn c (conns (filter is_playing few))) → is_playing m ≡ d
-            → NotIn c (conns (cond d (m ∷ filter is_playing all) (filter is_playing all)))
-            → NotIn c (conns (filter is_playing (cond b (m ∷ few) few)))
-        one true true m few all next is a = rw is (a.0, next a.1)
-        one true false m few all next is a = rw is (next a)
-        one false true m few all next is a = next a.1
-        one false false m few all next is a = next a
-
-        by : (ms : List Member) → NotIn c (conns (filter is_playing ms)) → NotIn c (conns (filter is_playing (others conn ms)))
-        by [] a = tt
-        by (m ∷ ms) a = one (not (is_on conn m)) (is_playing m) m (others conn ms) ms (λ b. by ms b) refl a
-
     -- ---- stamps, and the frame
 
     pub of-entries : (es : List Entry) (t : Table) → AllByRecursion (λ x. Among x t.journal) es → Of t (tells_entries es t)
@@ -299,8 +301,8 @@ module _ (o : Origin) (e : Event) (P : Table → List Step → Table → Type 0)
         of-then t d (tells_entries es) told (of-entries es t there.1)
 
     pub of-frame-by : (b : Bool) (t : Table) (m : Member) → (m.token == 0) ≡ b → On t m → 8 ≤ rank m.status → Of t (tells_frame_by b m t)
-    of-frame-by true t m is on high = w.turns gets_token t m on (high, eqb-true m.token 0 is) tt
-    of-frame-by false t m is on high = w.turns gets_frame t m on high tt
+    of-frame-by true t m is on high = w.turns gets_token t m on (high, eqb-true m.token 0 is) tt refl
+    of-frame-by false t m is on high = w.turns gets_frame t m on high tt refl
 
     pub of-frame : (t : Table) (m : Member) → On t m → Of t (tells_frame m t)
     of-frame t m on = of-where (is_playing m) (tells_frame_by (m.token == 0) m) t (λ plays. of-frame-by (m.token == 0) t m refl on
@@ -404,19 +406,19 @@ module _ (o : Origin) (e : Event) (P : Table → List Step → Table → Type 0)
         let c : Change = is_let_in name asked in
         let u : Table = turned_in c t m in
         let known : IsSeated u m.client (turned c t m).company name = (turned c t m, on-turned w.base c t m on, refl, refl, refl) in
-        w.base.joins t u u _ _ (w.base.joins t u u _ _ (w.base.turns c t m on may tt)
+        w.base.joins t u u _ _ (w.base.joins t u u _ _ (w.base.turns c t m on may tt refl)
         (of-playing w.base u (client_info (turned c t m)) known))
         (of-watched w.base client_updates _ u known)
 
     of-company : (digest : Option (List ℕ)) (t : Table) (m : Member) (name : List ℕ) (asked : ℕ) → On t m → Asks o e t m name asked
         → Of t (company_step_by digest o (record m { name = name; asked = asked }) t)
     of-company None t m name asked on may = of-welcomes t m name asked on may
-    of-company (Some digest) t m name asked on may = w.base.turns (wants_password false name asked) t m on may tt
+    of-company (Some digest) t m name asked on may = w.base.turns (wants_password false name asked) t m on may tt refl
 
     of-password : (password : List ℕ) (t : Table) (m : Member) (name : List ℕ) (asked : ℕ) → On t m → Asks o e t m name asked
         → Of t (password_step_by password o (record m { name = name; asked = asked }) t)
     of-password [] t m name asked on may = of-company (digest_of t asked) t m name asked on may
-    of-password (b ∷ bs) t m name asked on may = w.base.turns (wants_password true name asked) t m on may tt
+    of-password (b ∷ bs) t m name asked on may = w.base.turns (wants_password true name asked) t m on may tt refl
 
     of-active : (t : Table) (m : Member) → On t m → rank m.status ≡ 8 → is_tick e ≡ false → Of t (becomes_active m t)
     of-active t m on at still =
@@ -425,7 +427,7 @@ module _ (o : Origin) (e : Event) (P : Table → List Step → Table → Type 0)
         let others : Within to (playing t) = λ c h. all-filter (IsOther c) (λ x. not (x == m.conn)) (playing t) h in
         let told : P t (step to (Msg (ServerJoin m.client)) ∷ []) u =
         w.base.joins t t u _ _ (w.base.tells_some t to (Msg (ServerJoin m.client)) others (m, on, refl))
-        (w.base.turns plays t m on at tt) in
+        (w.base.turns plays t m on at tt refl) in
         let news : Report = Message (admins.ServerClientJoin m.client) in
         let seen : P t (step to (Msg (ServerJoin m.client)) ∷ step (watching client_updates u) (ToAdmin news)
         ∷ []) u = w.base.joins t u u _ _ told (of-watched w.base client_updates _ u
@@ -450,7 +452,7 @@ module _ (o : Origin) (e : Event) (P : Table → List Step → Table → Type 0)
         let c : Change = answers frame token in
         let n : Member = turned c t m in
         let u : Table = turned_in c t m in
-        w.base.joins t u _ _ _ (w.base.turns c t m on allowed said) (of-where w.base (has_caught_up frame t m) (becomes_active n) u
+        w.base.joins t u _ _ _ (w.base.turns c t m on allowed said refl) (of-where w.base (has_caught_up frame t m) (becomes_active n) u
         (λ yes. of-active u n (on-turned w.base c t m on) (ap rank (acked-status frame token m)
         ∙ eqb-true (rank m.status) 8 (first-true (is_in PreActive m) (nat_le t.frame (frame + 74)) yes))
         (ap (λ (d : Event). is_tick d) said.2)))
@@ -466,15 +468,14 @@ module _ (o : Origin) (e : Event) (P : Table → List Step → Table → Type 0)
         let c : Change = has_name name in
         let u : Table = turned_in c t m in
         let known : IsSeated u m.client m.company (turned c t m).name = (turned c t m, on-turned w.base c t m on, refl, refl, refl) in
-        w.base.joins t u u _ _ (w.base.joins t u u _ _ (w.base.turns c t m on allowed tt) (of-playing w.base u _ known))
+        w.base.joins t u u _ _ (w.base.joins t u u _ _ (w.base.turns c t m on allowed tt refl) (of-playing w.base u _ known))
         (of-watched w.base client_updates _ u known)
 
-    of-moves : (c : Change) (t : Table) (m : Member) (company : ℕ) → On t m → May o e t m c → By e m c → turned_in c t m
-        ≡ with_member (record m { company = company }) t → steps_with c o t m ≡ [] → Of t (moves m company t)
-    of-moves c t m company on may by is quiet =
+    pub of-moves : (t : Table) (m : Member) (company : ℕ) → On t m → P t [] (with_member (record m { company = company }) t)
+        → Of t (moves m company t)
+    of-moves t m company on turn =
         let n : Member = record m { company = company } in
         let u : Table = with_member n t in
-        let turn : P t [] u = subst (λ v. P t [] v) is (subst (λ xs. P t xs (turned_in c t m)) quiet (w.base.turns c t m on may by)) in
         let here : On u n = put-among n m t.members refl on in
         w.base.joins t u u _ _ (w.base.joins t u u _ _ turn (of-playing w.base u _ (n, here, refl, refl)))
         (of-watched w.base client_updates _ u (n, here, refl, refl, refl))
@@ -497,11 +498,12 @@ module _ (o : Origin) (e : Event) (P : Table → List Step → Table → Type 0)
     of-does t m (ClientAck frame token) on a says = of-acknowledges t m frame token on a says
     of-does t m (ClientCommand company code number to text) on a says =
         of-some w.base (command_of code number to text) _ t (λ command is. w.base.turns (commands company code number to text command) t m
-        on (is, a) says)
+        on (is, a) says refl)
     of-does t m (ClientChat scope to text) on a says = of-chats t m.client scope to text (inl (m, on, refl, to, says))
     of-does t m (ClientSetName name) on a says = of-renames t m name on a
     of-does t m (ClientSetPassword digest) on a says = w.locks t m digest on a
-    of-does t m (ClientMove company digest) on a says = of-moves (goes_to company digest) t m company on a tt refl refl
+    of-does t m (ClientMove company digest) on a says = of-moves t m company on
+        (w.base.turns (goes_to company digest) t m on a tt refl)
     of-does t m (ClientError code) on a says = w.goes t m (Failing code) on (inr says)
     of-does t m ClientQuit on a says = w.goes t m Quitting on tt
     of-does t m other on a says = w.base.still t
@@ -612,18 +614,18 @@ module _ (o : Origin) (e : Event) (P : Table → List Step → Table → Type 0)
 
     -- ---- the steps of a tick behind the frame
 
-    of-all-moved : (fs : List (ℕ × ℕ)) (t : Table) → AllByRecursion (λ (f : ℕ × ℕ). f.1 < length o.start.companies) fs
+    of-all-moved : TurnsBehind → (fs : List (ℕ × ℕ)) (t : Table) → AllByRecursion (λ (f : ℕ × ℕ). f.1 < length o.start.companies) fs
         → Of t (all_moved fs t)
-    of-all-moved [] t low = w.base.still t
-    of-all-moved (f ∷ fs) t low =
+    of-all-moved behind [] t low = w.base.still t
+    of-all-moved behind (f ∷ fs) t low =
         let rule : Member → Table → Deed = λ m. moves m f.1 in
         let d : Deed = where_some (member_with f.0 t) rule t in
         of-then w.base t d (all_moved fs)
-        (of-some w.base (member_with f.0 t) rule t (λ m is. of-moves (founds f.1) t m f.1
-        (found-among (λ m. m.client == f.0) m t.members is) low.0 tt refl refl))
-        (of-all-moved fs d.table low.1)
+        (of-some w.base (member_with f.0 t) rule t (λ m is. let on = found-among (λ m. m.client == f.0) m t.members is in
+        of-moves t m f.1 on (behind (founds f.1) t m on low.0 refl)))
+        (of-all-moved behind fs d.table low.1)
 
-    loading-is : (x : Option Member) (m : Member) → if_loading x ≡ Some m → (x ≡ Some m) × (rank m.status ≡ 6)
+    pub loading-is : (x : Option Member) (m : Member) → if_loading x ≡ Some m → (x ≡ Some m) × (rank m.status ≡ 6)
     loading-is None m is = absurd cc
     loading-is (Some n) m is = by (rank n.status == 6) refl is
       where
@@ -638,13 +640,13 @@ module _ (o : Origin) (e : Event) (P : Table → List Step → Table → Type 0)
         by [] none = absurd cc
         by (conn ∷ conns) some = let found = loading-is (member_of t conn) m some in (on-found t conn m found.0, found.1)
 
-    of-pieces : (left : List ℕ) (t : Table) (m : Member) → On t m → rank m.status ≡ 6 → Of t (next_pieces left m t)
-    of-pieces left t m on at =
+    of-pieces : TurnsBehind → (left : List ℕ) (t : Table) (m : Member) → On t m → rank m.status ≡ 6 → Of t (next_pieces left m t)
+    of-pieces behind left t m on at =
         let c : Change = gets_pieces left in
         let n : Member = turned c t m in
         let u : Table = turned_in c t m in
-        w.base.joins t u _ _ _ (w.base.turns c t m on at tt) (of-where w.base (not (nat_lt (4 * 1400) (length left))) (finishes_map n) u
-        (λ all. w.base.turns has_all u n (on-turned w.base c t m on) at tt))
+        w.base.joins t u _ _ _ (behind c t m on at refl) (of-where w.base (not (nat_lt (4 * 1400) (length left))) (finishes_map n) u
+        (λ all. behind has_all u n (on-turned w.base c t m on) at refl))
 
     of-each-limited : (ms : List Member) (t : Table) → Of t (each_limited o ms t)
     of-each-limited [] t = w.base.still t
@@ -658,26 +660,43 @@ module _ (o : Origin) (e : Event) (P : Table → List Step → Table → Type 0)
     of-synced : (t : Table) → Of t (synced o t)
     of-synced t = of-where w.base (t.frame % o.setup.sync_freq == 0) _ t (λ is. w.base.tells_some t (playing t) Sync (λ c h. h) tt)
 
-    of-mapped : (left : List ℕ) (t : Table) → Of t (mapped left t)
-    of-mapped left t = of-some w.base (downloader t) (next_pieces left) t (λ m is. let found = loader-on t m is in
-        of-pieces left t m found.0 found.1)
+    pub of-mapped : TurnsBehind → (left : List ℕ) (t : Table) → Of t (mapped left t)
+    of-mapped behind left t = of-some w.base (downloader t) (next_pieces left) t (λ m is. let found = loader-on t m is in
+        of-pieces behind left t m found.0 found.1)
 
-    pub of-follows : (before : WorldState) (left : List ℕ) (t : Table) → length before.companies ≡ length o.start.companies
-        → Of t (frame_follows before left o t)
-    of-follows before left t places =
+    -- the companies that were founded: each goes to its founder
+    of-founders : TurnsBehind → (before : WorldState) (t : Table) → length before.companies ≡ length o.start.companies
+        → Of t (founders_moved o (living before) t)
+    of-founders behind before t places = of-all-moved behind (foundings (living before) (at_frame o t.frame t.journal)) t
+        (foundings-low (length o.start.companies) (living before) (at_frame o t.frame t.journal) (length-map before.companies is_some
+        ∙ places))
+
+    -- what ends a tick: time limits, and what admins are told
+    pub of-limits : (before : ℕ) (t : Table) → Of t (timed o t ▹ admins_limited o ▹ admins_told before o)
+    of-limits before t =
+        let d : Deed = timed o t in
+        let e : Deed = d ▹ admins_limited o in
+        let pe : Of t e = of-then w.base t d (admins_limited o) (of-each-limited t.members t)
+        (of-admins-limited d.table.admins d.table) in of-then w.base t e (admins_told before o) pe (of-admins-told w.base before e.table)
+
+    pub of-follows-by : (before : WorldState) (left : List ℕ) (t : Table) → Of t (founders_moved o (living before) t)
+        → ((u : Table) → Of u (mapped left u)) → Of t (frame_follows before left o t)
+    of-follows-by before left t pa pieces =
         let a : Deed = founders_moved o (living before) t in
         let b : Deed = a ▹ synced o in
         let c : Deed = b ▹ mapped left in
         let d : Deed = c ▹ timed o in
         let e : Deed = d ▹ admins_limited o in
-        let pa : Of t a = of-all-moved (foundings (living before) (at_frame o t.frame t.journal)) t
-        (foundings-low (length o.start.companies) (living before) (at_frame o t.frame t.journal) (length-map before.companies is_some
-        ∙ places)) in
         let pb : Of t b = of-then w.base t a (synced o) pa (of-synced a.table) in
-        let pc : Of t c = of-then w.base t b (mapped left) pb (of-mapped left b.table) in
+        let pc : Of t c = of-then w.base t b (mapped left) pb (pieces b.table) in
         let pd : Of t d = of-then w.base t c (timed o) pc (of-each-limited c.table.members c.table) in
         let pe : Of t e = of-then w.base t d (admins_limited o) pd (of-admins-limited d.table.admins d.table) in
         of-then w.base t e (admins_told before.day o) pe (of-admins-told w.base before.day e.table)
+
+    pub of-follows : TurnsBehind → (before : WorldState) (left : List ℕ) (t : Table)
+        → length before.companies ≡ length o.start.companies → Of t (frame_follows before left o t)
+    of-follows behind before left t places = of-follows-by before left t (of-founders behind before t places)
+        (of-mapped behind left)
 
     -- ---- events
 
@@ -764,7 +783,7 @@ module _ (o : Origin) (e : Event) (P : Table → List Step → Table → Type 0)
           let pb : Of t b = of-then w.base t a (frame_runs o) (of-stamped t) (of-runs a.table) in
           of-then w.base t c (frame_follows (world_of o t) (left_of o t) o)
           (of-then w.base t b sees_frame pb (of-seen w.base company_updates CompanyNews b.table tt))
-          (of-follows (world_of o t) (left_of o t) c.table (world-places o t.journal t.frame))
+          (of-follows ticks.behind (world_of o t) (left_of o t) c.table (world-places o t.journal t.frame))
 
       of-any-by : Doors → (d : Event) (t : Table) → e ≡ d → Of t (by_event o d t)
       of-any-by doors Tick t is = of-ticked t

@@ -41,9 +41,11 @@ pub mod Ranges
 pub mod Senders
 pub mod Downloads
 pub mod Stamps
+pub mod Answered
 pub mod Endings
 pub mod Doors
 pub mod Quiet
 pub mod Marks
+pub mod Seats
 pub mod Foundings
 pub mod Shown

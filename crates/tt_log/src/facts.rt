@@ -1,14 +1,16 @@
 //! Facts of the definitions that whoever stands on a stream or a table needs, for every origin and every list of events.
-ghost use Rattle.std.specs.Prelude.{◌≡◌, ◌≤◌, ◌<◌, ◌+◌, ◌==◌, true, false, Some, ◌^◌, ℕ, List};
+ghost use Rattle.std.specs.Prelude.{◌≡◌, ◌≤◌, ◌<◌, ◌+◌, ◌++◌, ◌==◌, true, false, Some, ◌^◌, ℕ, List, length};
 ghost use Rattle.std.specs.List.{AllByRecursion};
 ghost use Rattle.tt_edge.specs.declared.event.Event.{Event};
+ghost use Rattle.tt_log.specs.Answered.{open_token, tokens_answered, tokens_told};
 ghost use Rattle.tt_log.specs.Deed.{game};
-ghost use Rattle.tt_log.specs.Downloads.{IsQueue};
+ghost use Rattle.tt_log.specs.Downloads.{AreMapped, IsQueue};
 ghost use Rattle.tt_log.specs.History.{AreEvents, journal_of, table_of};
 ghost use Rattle.tt_log.specs.Member.{Member, is_named};
 ghost use Rattle.tt_log.specs.Origin.{IsOrigin, Origin};
 ghost use Rattle.tt_log.specs.PacketRules.{told_command};
 ghost use Rattle.tt_log.specs.Ranges.{FitsEntry, FitsMember};
+ghost use Rattle.tt_log.specs.Seats.{AreSeated, LockLive, WaitForLive};
 ghost use Rattle.tt_log.specs.Senders.{IsKnown, IsOfSender};
 ghost use Rattle.tt_log.specs.Spelled.{AreSpelled, IsReadAgain, IsSmall, IsSpelled};
 ghost use Rattle.tt_log.specs.Table.{member_of};
@@ -55,4 +57,31 @@ pub fn tables_are_in_range()
 pub fn names_differ()
     ensures { (o : Origin) (es : List Event) (x y : Member) (c d : ℕ) → IsOrigin o → member_of (table_of o es) c ≡ Some x
         → member_of (table_of o es) d ≡ Some y → (c == d) ≡ false → is_named x ≡ true → is_named y ≡ true → x.name ≡ y.name → ⊥ }
+{}
+
+/// At most one token of a member is open, and a token that was told and not given back is the open one.
+pub fn tokens_are_answered()
+    // What a member was told is, in order, what it gave back, and then its open token, if one is open.
+    ensures open { (o : Origin) (es : List Event) (conn : ℕ) (m : Member) → member_of (table_of o es) conn ≡ Some m
+        → tokens_told o es conn ≡ tokens_answered o es conn ++ open_token m }
+    // Whatever has come of a connection, also where its member has ended: what it gave back is a prefix of what it was told.
+    ensures ended { (o : Origin) (es : List Event) (conn : ℕ)
+        → (rest : List ℕ) × (tokens_told o es conn ≡ tokens_answered o es conn ++ rest) × (length rest ≤ 1) }
+    // At most one more was told than was given back.
+    ensures one { (o : Origin) (es : List Event) (conn : ℕ)
+        → length (tokens_told o es conn) ≤ length (tokens_answered o es conn) + 1 }
+{}
+
+/// Each company of which a table speaks lives: a member is in one that lives, or in none; commands wait for companies that live;
+/// and only companies that live have a password.
+pub fn companies_live()
+    ensures members { (o : Origin) (es : List Event) → AreSeated o (table_of o es) }
+    ensures waiting { (o : Origin) (es : List Event) → WaitForLive o (table_of o es) }
+    ensures digests { (o : Origin) (es : List Event) → LockLive o (table_of o es) }
+{}
+
+/// The map of a member is that of no later frame than the table's, and of an earlier one once it was told whole; and until then
+/// bytes of it are left: it has more than 1,400 for each piece that was told.
+pub fn downloads_are_on_their_way()
+    ensures { (o : Origin) (es : List Event) → AreMapped o (table_of o es) }
 {}

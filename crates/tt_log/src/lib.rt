@@ -24,7 +24,7 @@ pub mod script;
 
 pub use facts::{
     all_is_spelled, entries_are_of_senders, few_clients, first_in_queue_downloads, names_differ,
-    tables_are_in_range,
+    tables_are_in_range, tokens_are_answered,
 };
 pub use laws::{
     a_door_has_its_family, a_refused_admin_ends_alone, a_tick_is_a_frame, admins_are_unseen,

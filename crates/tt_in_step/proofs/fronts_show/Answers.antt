@@ -1,4 +1,4 @@
-use Rattle.tt_in_step.proofs.Promises.{tells, shows, never_wrong}
+use Rattle.tt_in_step.proofs.Promises.{tells, shows, never_wrong, phase-right}
 use Rattle.tt_in_step.proofs.Endings.{ends-stand}
 use Rattle.tt_in_step.proofs.fronts_show.Goals as goal
 
@@ -15,4 +15,8 @@ returns-clause-right c o es conn bytes later at h are player fits e wrong = neve
     es are conn player bytes later at fits e wrong
 
 pub returns-clause-ends : goal.returns-clause-ends
-returns-clause-ends c o bytes = ends-stand o bytes
+returns-clause-ends c o es conn bytes later h are player fits e = phase-right c.one_map.ensures.there o h
+    es are conn player bytes later fits e
+
+pub returns-clause-any_end : goal.returns-clause-any_end
+returns-clause-any_end c o bytes = ends-stand o bytes
