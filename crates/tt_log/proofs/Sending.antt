@@ -42,7 +42,7 @@ of-values : (M : Type 0) (family : Family M) → Lawful family → (m : M) → P
 of-values M family lawful m fits =
     let l = rule_of family.table (family_kind family m) in
     subst (λ (n : M). SpelledBy family.table n (family_kind family m) (family_body family m)) (lawful.same m)
-      (values_spell M l.fields l.make (family.apart m).values fits)
+    (values_spell M l.fields l.make (family.apart m).values fits)
 
 -- a message whose fields are in their ranges
 pub game-spelled : (m : GameMsg) → PartedFits game_rows.messages (games.apart m) → IsSent (game m)
