@@ -2,8 +2,8 @@
 use std::alloc::Global;
 use std::test::*;
 use tt_admin::AdminMsg;
-use tt_admin_desk::{ConsoleCommand, Desk, Heard, Question, console};
-use tt_frame::{Line, LongText, OutOfMemory, Text, UpTo};
+use tt_admin_desk::{ConsoleCommand, Desk, Heard, console};
+use tt_frame::{Line, OutOfMemory};
 use tt_world::Setup;
 
 /// What a desk hears of its first admin.
@@ -23,42 +23,6 @@ fn asked(bytes: &[u8]) -> Option<ConsoleCommand> {
 fn says(bytes: &[u8]) -> Option<ConsoleCommand> {
     let line = Line::new(bytes)?;
     Some(ConsoleCommand::Say(line))
-}
-
-#[test]
-fn words_of_the_console_are_parted_by_one_blank(rt: HostRuntime) -> Result<(), Fail> {
-    let words: [(&[u8], ConsoleCommand); 26] = [
-        (b"pause", ConsoleCommand::Pause),
-        (b"pause ", ConsoleCommand::Unknown),
-        (b"unpause", ConsoleCommand::Unpause),
-        (b"kick 7", ConsoleCommand::Kick(7)),
-        (b"kick 0", ConsoleCommand::Kick(0)),
-        (b"kick 4294967295", ConsoleCommand::Kick(4_294_967_295)),
-        (b"kick 4294967296", ConsoleCommand::Unknown),
-        (b"kick 007", ConsoleCommand::Unknown),
-        (b"kick +7", ConsoleCommand::Unknown),
-        (b"kick  7", ConsoleCommand::Unknown),
-        (b"kick 7 ", ConsoleCommand::Unknown),
-        (b"kick 7 8", ConsoleCommand::Unknown),
-        (b"kick ", ConsoleCommand::Unknown),
-        (b"kick", ConsoleCommand::Unknown),
-        (b"say", ConsoleCommand::Unknown),
-        (b"say ", ConsoleCommand::Unknown),
-        (b"sayhi", ConsoleCommand::Unknown),
-        (b"clients", ConsoleCommand::Clients),
-        (b"clients 1", ConsoleCommand::Unknown),
-        (b"companies", ConsoleCommand::Companies),
-        (b"quit", ConsoleCommand::Quit),
-        (b"quit ", ConsoleCommand::Unknown),
-        (b" quit", ConsoleCommand::Unknown),
-        (b"Quit", ConsoleCommand::Unknown),
-        (b"", ConsoleCommand::Unknown),
-        (b" ", ConsoleCommand::Unknown),
-    ];
-    for (line, command) in words {
-        assert_eq!(rt; asked(line), Some(command), "of {line:?}");
-    }
-    Ok(())
 }
 
 #[test]
@@ -106,27 +70,6 @@ fn bits_are_taken_by_type(rt: HostRuntime) -> Result<(), Fail> {
 }
 
 #[test]
-fn types_are_polled_where_they_may_be(rt: HostRuntime) -> Result<(), Fail> {
-    let setup = Setup::plain();
-    let desk = joined(rt.alloc())?;
-    let polled = [0, 1, 2, 3, 4, 7];
-    for kind in 0..=255_u8 {
-        let msg = AdminMsg::AdminPoll { kind, id: 9 };
-        let wanted = if polled.contains(&kind) {
-            Heard::Ask(Question { kind, id: 9 })
-        } else {
-            Heard::Ends(4)
-        };
-        assert_eq!(rt;
-            hears(&desk, &setup, Some(msg)),
-            Some(wanted),
-            "of type {kind}"
-        );
-    }
-    Ok(())
-}
-
-#[test]
 fn periods_divide_the_days(rt: HostRuntime) -> Result<(), Fail> {
     let mut desk = joined(rt.alloc())?;
     let _ = desk.open(2, 0)?;
@@ -146,92 +89,6 @@ fn periods_divide_the_days(rt: HostRuntime) -> Result<(), Fail> {
         let wanted = day % 7 == 0 || day % 30 == 0;
         assert_eq!(rt; desk.due(1, 3, day), wanted, "at day {day}");
     }
-    Ok(())
-}
-
-/// A JOIN with this password, name and version.
-fn join(password: &[u8], application: &[u8], version: &[u8]) -> Option<AdminMsg> {
-    Some(AdminMsg::AdminJoin {
-        password: Text::new(password)?,
-        application: Text::new(application)?,
-        version: Text::new(version)?,
-    })
-}
-
-#[test]
-fn an_admin_joins_once_with_the_password(rt: HostRuntime) -> Result<(), Fail> {
-    let mut setup = Setup::plain();
-    let mut desk = Desk::new(rt.alloc());
-    assert_eq!(rt; desk.open(1, 5), Ok(true));
-    assert_eq!(rt;
-        hears(&desk, &setup, join(b"", b"a", b"1")),
-        Some(Heard::Ends(10))
-    );
-    setup.admin_password = Line::new(b"pw").ok_or("a line")?;
-    assert_eq!(rt;
-        hears(&desk, &setup, join(b"p", b"a", b"1")),
-        Some(Heard::Ends(10))
-    );
-    assert_eq!(rt;
-        hears(&desk, &setup, join(b"p", b"", b"1")),
-        Some(Heard::Ends(4))
-    );
-    assert_eq!(rt;
-        hears(&desk, &setup, join(b"pw", b"a", b"")),
-        Some(Heard::Ends(4))
-    );
-    let early = Some(AdminMsg::AdminPing { id: 3 });
-    assert_eq!(rt; hears(&desk, &setup, early), Some(Heard::Ends(7)));
-    let poll = Some(AdminMsg::AdminPoll { kind: 5, id: 3 });
-    assert_eq!(rt; hears(&desk, &setup, poll), Some(Heard::Ends(7)));
-    assert_eq!(rt;
-        hears(&desk, &setup, Some(AdminMsg::AdminQuit)),
-        Some(Heard::Leave)
-    );
-    assert_eq!(rt;
-        hears(&desk, &setup, join(b"pw", b"a", b"1")),
-        Some(Heard::Joined)
-    );
-    desk.commit(1, &Heard::Joined);
-    assert_eq!(rt;
-        hears(&desk, &setup, join(b"pw", b"", b"1")),
-        Some(Heard::Ends(7))
-    );
-    let server = Some(AdminMsg::ServerShutdown);
-    assert_eq!(rt; hears(&desk, &setup, server), Some(Heard::Ends(7)));
-    Ok(())
-}
-
-#[test]
-fn what_is_allowed_is_heard_as_it_was_said(rt: HostRuntime) -> Result<(), Fail> {
-    let alloc = rt.alloc();
-    let setup = Setup::plain();
-    let desk = joined(alloc)?;
-    let ping = Some(AdminMsg::AdminPing { id: 3 });
-    assert_eq!(rt; hears(&desk, &setup, ping), Some(Heard::Pong(3)));
-    let script = Some(AdminMsg::AdminGamescript {
-        text: LongText::new(alloc, b"hi")?.ok_or("a text")?,
-    });
-    assert_eq!(rt; hears(&desk, &setup, script), Some(Heard::Nothing));
-    let chat = Some(AdminMsg::AdminChat {
-        scope: UpTo::new(2).ok_or("a scope")?,
-        to: 9,
-        text: LongText::new(alloc, b"hi")?.ok_or("a text")?,
-    });
-    let said = Heard::Say {
-        scope: 2,
-        to: 9,
-        text: Line::new(b"hi").ok_or("a line")?,
-    };
-    assert_eq!(rt; hears(&desk, &setup, chat), Some(said));
-    let rcon = Some(AdminMsg::AdminRcon {
-        text: LongText::new(alloc, b"kick 2")?.ok_or("a text")?,
-    });
-    let given = Heard::Console {
-        text: Line::new(b"kick 2").ok_or("a line")?,
-        command: ConsoleCommand::Kick(2),
-    };
-    assert_eq!(rt; hears(&desk, &setup, rcon), Some(given));
     Ok(())
 }
 
