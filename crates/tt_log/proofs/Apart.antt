@@ -111,10 +111,10 @@ PassesBy c t steps u = Passes c t steps u
 
 apart-turns : (c : ℕ) (o : Origin) (e : Event) → Turns o e (PassesBy c)
 apart-turns c o e k t m on may by = passes c t _ _ refl (λ a. record {
-    apart = put-apart c (turned k t m) t a;
-    misses =
-        own-missed c m.conn (told_with k o t m) (among-not c m t.members on a.members);
-  })
+  apart = put-apart c (turned k t m) t a;
+  misses =
+      own-missed c m.conn (told_with k o t m) (among-not c m t.members on a.members);
+})
 
 apart-base : (c : ℕ) (o : Origin) (e : Event) → Base o e (PassesBy c)
 apart-base c o e = record {

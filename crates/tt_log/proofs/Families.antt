@@ -112,9 +112,9 @@ all-aside c steps a = all-so (λ (s : Step). NotIn c s.to) (Aside c) steps (λ s
 
 out-turns : (c : ℕ) (o : Origin) (e : Event) → Turns o e (KeepsOut c)
 out-turns c o e k t m on may by h = (
-    put-out c (turned k t m) t h,
-    all-aside c (steps_with k o t m) (own-missed c m.conn (told_with k o t m) (among-not c m t.members on h.members)),
-  )
+  put-out c (turned k t m) t h,
+  all-aside c (steps_with k o t m) (own-missed c m.conn (told_with k o t m) (among-not c m t.members on h.members)),
+)
 
 out-base : (c : ℕ) (o : Origin) (e : Event) → Base o e (KeepsOut c)
 out-base c o e = record {
@@ -322,7 +322,11 @@ run-in true c o t h = (h, tt)
 run-in false c o t h = (h, tt)
 
 in-ticks : (c : ℕ) (o : Origin) (e : Event) → Ticks o e (KeepsIn c)
-in-ticks c o e = record { stamping = λ t h. (h, tt); behind = behind-of o e (KeepsIn c) (in-turns c o e); running = λ t b is. run-in b c o t }
+in-ticks c o e = record {
+  stamping = λ t h. (h, tt);
+  behind = behind-of o e (KeepsIn c) (in-turns c o e);
+  running = λ t b is. run-in b c o t;
+}
 
 in-closing : (c : ℕ) (o : Origin) (e : Event) → Closing o e (KeepsIn c)
 in-closing c o e = record { charges = λ t h. (h, tt); closes = λ t h. (tt, (inr tt, (inl h, (inr tt, tt)))) }

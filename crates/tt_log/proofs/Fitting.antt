@@ -378,7 +378,7 @@ module _ (o : Origin) (e : Event) (ok : IsOrigin o) (bytes : IsEvent e) where
 
   fitting-turns : Turns o e Fitting
   fitting-turns c t m on may by = at-once t (turned_in c t m) _ refl refl (λ low h. let f = found-fits o t m on h in
-        (put-fits t o (turned c t m) _ (turned-fits c t m may by h f) h, with-fits c t m low h f))
+      (put-fits t o (turned c t m) _ (turned-fits c t m may by h f) h, with-fits c t m low h f))
 
   fitting-base : Base o e Fitting
   fitting-base = record {

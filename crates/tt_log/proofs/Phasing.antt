@@ -165,8 +165,8 @@ further-then c t u v xs ys a b p h =
 
 further-turns : (c : ℕ) (o : Origin) (e : Event) → Turns o e (Further c)
 further-turns c o e k t m on may by p h = goes-quiet c p _ _ _
-      (put-holds c p (turned k t m) t (turned-suits k c p o e t m may (among-all (Suits c p) m t.members on h.suits)) h)
-      (with-quiet k c o t m)
+    (put-holds c p (turned k t m) t (turned-suits k c p o e t m may (among-all (Suits c p) m t.members on h.suits)) h)
+    (with-quiet k c o t m)
 
 further-base : (c : ℕ) (o : Origin) (e : Event) → Base o e (Further c)
 further-base c o e = record {

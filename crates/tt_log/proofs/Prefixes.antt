@@ -70,10 +70,10 @@ put-only c k t n m on conn client h x there at = elim (among-put n x t.members t
 
 only-turns : (c k : ℕ) (o : Origin) (e : Event) → Turns o e (KeepsOnly c k)
 only-turns c k o e d t m on may by h = record {
-    only = put-only c k t (turned d t m) m on (turned-conn d t m) (turned-client d t m) h;
-    known =
-        h.known;
-  }
+  only = put-only c k t (turned d t m) m on (turned-conn d t m) (turned-client d t m) h;
+  known =
+      h.known;
+}
 
 only-base : (c k : ℕ) (o : Origin) (e : Event) → Base o e (KeepsOnly c k)
 only-base c k o e = record {

@@ -435,13 +435,13 @@ same-queue t u members queue h = record { shape = rw (members, queue) h.shape; o
 
 queue-turns : (o : Origin) (e : Event) → Turns o e KeepsQueue
 queue-turns o e c t m on may by r h = (
-    order-turns o e c t m on may by r,
-    record {
-      shape = shape-turn (turned c t m) m t.members t.queue on (turned-conn c t m) (turned-down c o e t m may) (turned-wait c o e t m may)
-          h.shape;
-      once = h.once;
-    },
-  )
+  order-turns o e c t m on may by r,
+  record {
+    shape = shape-turn (turned c t m) m t.members t.queue on (turned-conn c t m) (turned-down c o e t m may) (turned-wait c o e t m may)
+        h.shape;
+    once = h.once;
+  },
+)
 
 queue-base : (o : Origin) (e : Event) → Base o e KeepsQueue
 queue-base o e = record {

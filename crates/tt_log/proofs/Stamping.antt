@@ -41,7 +41,7 @@ use Rattle.tt_log.proofs.Changes.{moved-client, Move, queues, begins_map, loads}
 use Rattle.tt_log.proofs.Walk.{Turns, ahead-of, behind-of}
 use Rattle.tt_log.proofs.Walk.{Base, Walk, Doors, Closing, Moves, Ticks, running, of-asks, of-enters, of-leaves, of-deed, of-ends}
 use Rattle.tt_log.proofs.Walk.{is-packet-aside, of-admin-hears}
-use Rattle.tt_log.proofs.Ordered.{Ordered, is-ordered, step-ordered, order-turns, order-base, order-moves, order-walk, order-doors, order-ticks}
+use Rattle.tt_log.proofs.Ordered.{Ordered, is-ordered, step-ordered, order-turns, order-moves, order-walk, order-doors, order-ticks}
 use Rattle.tt_log.proofs.Ordered.{order-closing, rising-not}
 
 -- ---- entries of a sender
@@ -205,14 +205,14 @@ put-live c said t n m on conn client waiting h x there at = elim (among-put n x 
 
 stamp-turns : (c : ℕ) (said : List (ℕ × Command)) (o : Origin) (e : Event) → IsQuiet e c → Turns o e (KeepsStamps c said)
 stamp-turns c said o e quiet k t m on may by r h = (
-    order-turns o e k t m on may by r,
-    record {
-      live = λ x there at. put-live c said t (turned k t m) m on (turned-conn k t m) (turned-client k t m)
-          (λ own. turned-waiting k c e t m quiet own by) h x there at;
-      early = h.early;
-      senders = h.senders;
-    },
-  )
+  order-turns o e k t m on may by r,
+  record {
+    live = λ x there at. put-live c said t (turned k t m) m on (turned-conn k t m) (turned-client k t m)
+        (λ own. turned-waiting k c e t m quiet own by) h x there at;
+    early = h.early;
+    senders = h.senders;
+  },
+)
 
 stamp-base : (c : ℕ) (said : List (ℕ × Command)) (o : Origin) (e : Event) → IsQuiet e c → Base o e (KeepsStamps c said)
 stamp-base c said o e quiet = record {
