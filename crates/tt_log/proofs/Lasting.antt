@@ -1,5 +1,5 @@
 -- Whatever comes behind, a company that lives goes on living.
-use Rattle.std.proofs.Common.{◌≡◌, ℕ, zero, suc, ◌+◌, ◌≤◌, Bool, true, false, List, ◌++◌, refl, ap, sym, ◌∙◌, subst, arith}
+use Rattle.std.proofs.Common.{◌≡◌, ℕ, zero, suc, ◌+◌, ◌≤◌, Bool, true, false, List, ◌++◌, refl, sym, subst, arith}
 use Rattle.std.specs.Prelude.{fold, ◌-◌}
 use Rattle.std.proofs.lemmas.List.Sums.{fold-append}
 use Rattle.tt_edge.specs.declared.event.Event.{Event}
@@ -11,7 +11,7 @@ use Rattle.tt_log.specs.Origin.{Origin, world_at}
 use Rattle.tt_log.specs.Table.{Table, first, living_in}
 use Rattle.tt_log.specs.Deed.{where_}
 use Rattle.tt_log.specs.Events.{by_event, stepped, taken, takes}
-use Rattle.tt_log.specs.History.{journal_of, table_of}
+use Rattle.tt_log.specs.History.{table_of}
 use Rattle.tt_log.specs.Seats.{Lives}
 use Rattle.tt_log.proofs.Clock.{event-same, from-all, is-near, taken-run, ticked-is}
 use Rattle.tt_log.proofs.Entries.{world-stays}
