@@ -74,7 +74,11 @@ run-counts true o t = record { openings = refl; clients = refl; cost = refl }
 run-counts false o t = record { openings = refl; clients = refl; cost = refl }
 
 counts-ticks : (o : Origin) (e : Event) → Ticks o e KeepsCounts
-counts-ticks o e = record { stamping = λ t. record { openings = refl; clients = refl; cost = refl }; behind = behind-of o e KeepsCounts (counts-turns o e); running = λ t b is. run-counts b o t }
+counts-ticks o e = record {
+  stamping = λ t. record { openings = refl; clients = refl; cost = refl };
+  behind = behind-of o e KeepsCounts (counts-turns o e);
+  running = λ t b is. run-counts b o t;
+}
 
 -- ---- an event
 

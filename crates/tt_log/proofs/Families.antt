@@ -322,7 +322,11 @@ run-in true c o t h = (h, tt)
 run-in false c o t h = (h, tt)
 
 in-ticks : (c : ℕ) (o : Origin) (e : Event) → Ticks o e (KeepsIn c)
-in-ticks c o e = record { stamping = λ t h. (h, tt); behind = behind-of o e (KeepsIn c) (in-turns c o e); running = λ t b is. run-in b c o t }
+in-ticks c o e = record {
+  stamping = λ t h. (h, tt);
+  behind = behind-of o e (KeepsIn c) (in-turns c o e);
+  running = λ t b is. run-in b c o t;
+}
 
 in-closing : (c : ℕ) (o : Origin) (e : Event) → Closing o e (KeepsIn c)
 in-closing c o e = record { charges = λ t h. (h, tt); closes = λ t h. (tt, (inr tt, (inl h, (inr tt, tt)))) }

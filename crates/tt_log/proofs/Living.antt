@@ -1,6 +1,6 @@
 -- A company that lives goes on living, whatever is done in its world; and what entries found lives behind them.
-use Rattle.std.proofs.Common.{◌≡◌, ℕ, zero, suc, ◌+◌, ◌≤◌, ◌<◌, Bool, true, false, List, [], ◌∷◌, ◌++◌, length, Option, Some, None, refl, ap, sym}
-use Rattle.std.proofs.Common.{◌∙◌, subst, arith}
+use Rattle.std.proofs.Common.{◌≡◌, ℕ, zero, suc, ◌+◌, ◌≤◌, ◌<◌, Bool, true, false, List, [], ◌∷◌, ◌++◌, length, Option, Some, None}
+use Rattle.std.proofs.Common.{refl, ap, sym, ◌∙◌, subst, arith}
 use Rattle.std.specs.Prelude.{is_some, map}
 use Rattle.std.specs.List.{AllByRecursion}
 use Rattle.std.proofs.lemmas.List.{get_or-set_same}
@@ -10,9 +10,9 @@ use Rattle.tt_world.specs.declared.command.Entry.{Entry}
 use Rattle.tt_world.specs.declared.company.Company.{Company}
 use Rattle.tt_world.specs.World.{WorldState}
 use Rattle.tt_world.specs.Commands.{applied}
-use Rattle.tt_world.specs.Economy.{earned, paid, paid_monthly, framed, framed_by, went_on}
+use Rattle.tt_world.specs.Economy.{earned, paid, paid_monthly, framed_by, went_on}
 use Rattle.tt_world.specs.Random.{next_random}
-use Rattle.tt_rules.specs.Companies.{founded, is_living, living}
+use Rattle.tt_rules.specs.Companies.{founded, living}
 use Rattle.tt_log.specs.Origin.{Origin, at_frame, game_of, world_at}
 use Rattle.tt_log.specs.Seats.{Lives}
 use Rattle.tt_log.specs.Table.{Table}

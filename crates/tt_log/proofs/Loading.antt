@@ -1,7 +1,7 @@
 -- How far a member's map has been told: bytes are left of one that is being told, and one that was told is of an earlier frame.
 use Rattle.std.proofs.Common.{◌≡◌, ℕ, ◌+◌, ◌≤◌, ◌<◌, List, [], ◌∷◌, ◌++◌, refl, ap, ap₂, sym, ◌∙◌, subst, true, false, Bool}
-use Rattle.std.proofs.Common.{Option, Some, None, arith, zero, suc, inl, inr, lit<}
-use Rattle.std.specs.Prelude.{◌==◌, ◌*◌, ◌-◌, codes, length, drop, find, map, nat_lt, nat_le, cond, not, ◌%◌}
+use Rattle.std.proofs.Common.{Option, Some, None, arith, zero, suc, inl, inr}
+use Rattle.std.specs.Prelude.{◌==◌, ◌*◌, ◌-◌, length, drop, find, nat_lt, nat_le, cond, not, ◌%◌}
 use Rattle.std.specs.List.{AllByRecursion}
 use Rattle.std.proofs.lemmas.Bool.{eq-eqb, eqb-true, ltb-true, ltb-false, ne_eqb}
 use Rattle.std.proofs.lemmas.List.{length-drop}
@@ -27,7 +27,7 @@ use Rattle.tt_log.specs.Tick.{frame_follows, frame_runs, left_by, map_left, piec
 use Rattle.tt_log.specs.Events.{arrives, by_event, counted_in, stepped}
 use Rattle.tt_log.specs.History.{AreRising, table_of}
 use Rattle.tt_log.specs.Downloads.{AreMapped, IsMapped}
-use Rattle.tt_log.proofs.Lists.{Among, all-among, all-append, all-filter, all-map, all-so, among-all, found-among, last-among}
+use Rattle.tt_log.proofs.Lists.{Among, all-among, all-append, all-filter, all-map, all-so, among-all, found-among}
 use Rattle.tt_log.proofs.Crew.{On, conns, found-on, put, put-all}
 use Rattle.tt_log.proofs.Changes.{Change, wants_password, is_let_in, gets_token, gets_frame, answers, plays, commands, has_name}
 use Rattle.tt_log.proofs.Changes.{goes_to, founds, gets_pieces, has_all, is_behind, May, turned, moved, Move, queues, begins_map, loads}

@@ -31,7 +31,7 @@ use Rattle.tt_log.proofs.Lists.{IsOther, NotIn, all-append, any-not, all-of-filt
 use Rattle.tt_log.proofs.Crew.{On, put, put-conns, conns, admin_conns, live-conns, live-admins, found-on, on-found, find-put-here}
 use Rattle.tt_log.proofs.Crew.{find-put-other, find-others, none-left}
 use Rattle.tt_log.proofs.Changes.{step, turned, moved}
-use Rattle.tt_log.proofs.Walk.{Turns, ahead-of, behind-of}
+use Rattle.tt_log.proofs.Walk.{Turns, ahead-of}
 use Rattle.tt_log.proofs.Walk.{Base, Moves, of-leaves-queue}
 use Rattle.tt_log.proofs.Clock.{SameClock, KeepsClock, same-base, same-moves, over-is-empty}
 use Rattle.tt_log.proofs.Ordered.{is-ordered, no-admin}

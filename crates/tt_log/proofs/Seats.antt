@@ -1,10 +1,10 @@
 -- The companies of a table live: those that members are in and have asked for, those of commands that wait, and those with a
 -- password.
-use Rattle.std.proofs.Common.{◌≡◌, ◌⊎◌, inl, inr, ℕ, ◌+◌, ◌≤◌, ◌<◌, List, [], ◌∷◌, ◌++◌, refl, ap, sym, ◌∙◌, subst, true, false, Bool}
+use Rattle.std.proofs.Common.{◌≡◌, ◌⊎◌, inl, inr, ℕ, ◌+◌, ◌≤◌, List, [], ◌∷◌, ◌++◌, refl, ap, sym, ◌∙◌, subst, true, false, Bool}
 use Rattle.std.proofs.Common.{Option, Some, None, arith}
 use Rattle.std.specs.Prelude.{◌*◌, ◌==◌, ◌||◌, ◌&&◌, length, nat_lt, nat_le, cond, not, option_map}
 use Rattle.std.specs.List.{AllByRecursion}
-use Rattle.std.proofs.lemmas.Bool.{eqb-true, ltb-true, ltb-false}
+use Rattle.std.proofs.lemmas.Bool.{eqb-true, ltb-false}
 use Rattle.tt_edge.specs.declared.event.Event.{Event}
 use Rattle.tt_edge.specs.declared.event.Event.TheVariants.{Open, Packet, Broken, Shut, Tick, Stop}
 use Rattle.tt_game.specs.declared.message.GameMsg.TheVariants.{ClientJoin, ClientSetPassword}
@@ -17,7 +17,7 @@ use Rattle.tt_rules.specs.Verdict.{spectator}
 use Rattle.tt_rules.specs.declared.status.Status.TheVariants.{DoneMap}
 use Rattle.tt_log.specs.declared.deed.Step.{Step}
 use Rattle.tt_log.specs.Origin.{Origin, at_frame, world_at}
-use Rattle.tt_log.specs.Member.{Member, new_member}
+use Rattle.tt_log.specs.Member.{Member}
 use Rattle.tt_log.specs.Table.{Table, downloader, first, is_on, living_in, member_with, option_list, with_digest, with_member, world_of}
 use Rattle.tt_log.specs.Deed.{Deed, where_, where_some}
 use Rattle.tt_log.specs.Judged.{founder, has_room, is_empty, is_same_game, may_ask_for}
@@ -31,7 +31,8 @@ use Rattle.tt_log.specs.Seats.{AreSeated, Lives, LivesIfAny, LockLive, WaitForLi
 use Rattle.tt_log.proofs.Lists.{all-append, all-drop, all-filter, all-map, all-so, among-all, found-among, last-among}
 use Rattle.tt_log.proofs.Crew.{On, put-all}
 use Rattle.tt_log.proofs.Changes.{Allows, Change, wants_password, is_let_in, gets_token, gets_frame, answers, plays, commands, has_name}
-use Rattle.tt_log.proofs.Changes.{goes_to, founds, gets_pieces, has_all, is_behind, Asks, May, turned, moved, Move, queues, begins_map, loads}
+use Rattle.tt_log.proofs.Changes.{goes_to, founds, gets_pieces, has_all, is_behind, Asks, May, turned, moved, Move, queues, begins_map}
+use Rattle.tt_log.proofs.Changes.{loads}
 use Rattle.tt_log.proofs.Walk.{Base, Walk, Doors, Closing, Moves, running, stamping, of-asks, of-enters, of-leaves, of-deed-by, of-entries}
 use Rattle.tt_log.proofs.Walk.{loader-on, of-follows-by, of-frames, of-moves, of-some, of-still}
 use Rattle.tt_log.proofs.Clock.{SameClock, from-all, runs-same, stamped-same}
@@ -350,7 +351,8 @@ ticked-home o t h =
     let first : SameClock (stamping t) s = stamped-same o t in
     let next : SameClock (running b o s) u = runs-same o b s in
     let step = running-frame b o s in
-    let founders = founders-at o t u h.0 (next.frame ∙ step.0 ∙ ap (λ (f : ℕ). f + 1) first.frame) (next.journal ∙ step.1 ∙ first.journal) in
+    let founders = founders-at o t u h.0 (next.frame ∙ step.0 ∙ ap (λ (f : ℕ). f + 1) first.frame)
+    (next.journal ∙ step.1 ∙ first.journal) in
     of-follows-by o Tick (KeepsHome o) (home-walk o Tick) (world_of o t) (left_of o t) u
     (all-moved-home o (foundings (living (world_of o t)) (at_frame o u.frame u.journal)) u founders) (mapped-home o (left_of o t)) run_home
 

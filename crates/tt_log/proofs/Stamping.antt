@@ -41,7 +41,7 @@ use Rattle.tt_log.proofs.Changes.{moved-client, Move, queues, begins_map, loads}
 use Rattle.tt_log.proofs.Walk.{Turns, ahead-of, behind-of}
 use Rattle.tt_log.proofs.Walk.{Base, Walk, Doors, Closing, Moves, Ticks, running, of-asks, of-enters, of-leaves, of-deed, of-ends}
 use Rattle.tt_log.proofs.Walk.{is-packet-aside, of-admin-hears}
-use Rattle.tt_log.proofs.Ordered.{Ordered, is-ordered, step-ordered, order-turns, order-base, order-moves, order-walk, order-doors, order-ticks}
+use Rattle.tt_log.proofs.Ordered.{Ordered, is-ordered, step-ordered, order-turns, order-moves, order-walk, order-doors, order-ticks}
 use Rattle.tt_log.proofs.Ordered.{order-closing, rising-not}
 
 -- ---- entries of a sender

@@ -267,7 +267,11 @@ shy-running true joins c o e t apart h = (h, tt)
 shy-running false joins c o e t apart h = (h, tt)
 
 shy-ticks : (joins : Bool) (c : ℕ) (o : Origin) (e : Event) → Ticks o e (KeepsShy joins c e)
-shy-ticks joins c o e = record { stamping = λ t apart h. (h, tt); behind = behind-of o e (KeepsShy joins c e) (shy-turns joins c o e); running = λ t b is. shy-running b joins c o e t }
+shy-ticks joins c o e = record {
+  stamping = λ t apart h. (h, tt);
+  behind = behind-of o e (KeepsShy joins c e) (shy-turns joins c o e);
+  running = λ t b is. shy-running b joins c o e t;
+}
 
 shy-closing : (joins : Bool) (c : ℕ) (o : Origin) (e : Event) → Closing o e (KeepsShy joins c e)
 shy-closing joins c o e = record {

@@ -41,7 +41,7 @@ use Rattle.tt_log.specs.Admin.{Admin, is_automatic, has_bit, automatic_bit, clie
 use Rattle.tt_log.specs.Admin.{command_updates}
 use Rattle.tt_log.specs.Member.{Member, is_in, is_playing, is_welcomed}
 use Rattle.tt_log.specs.Table.{Table, member_of, admin_of, is_admin_on, with_member, without_member, digest_of, with_digest, now_in}
-use Rattle.tt_log.specs.Table.{playing, welcomed, world_of, member_with, with_admin, is_on, downloader, first_loading, if_loading}
+use Rattle.tt_log.specs.Table.{playing, welcomed, world_of, member_with, with_admin, downloader, first_loading, if_loading}
 use Rattle.tt_log.specs.Deed.{Deed, ◌▹◌, where_, where_some, tells, tells_what, tells_each, tells_playing}
 use Rattle.tt_log.specs.Watching.{watching, sees_stamp, sees_console, sees_frame}
 use Rattle.tt_log.specs.Names.{given_name}
@@ -63,7 +63,7 @@ use Rattle.tt_log.specs.Events.{takes, deed, last_frame}
 use Rattle.tt_log.specs.History.{IsEvent}
 use Rattle.tt_log.proofs.Lists.{Among, Within, NotIn, IsOther, found-among, map-filter-not, all-of-filter, all-filter, all-among}
 use Rattle.tt_log.proofs.Lists.{last-among, all-append, found-passes}
-use Rattle.tt_log.proofs.Crew.{On, OnAdmin, conns, others, on-found, found-on, put-among, put-admin-among, admin_conns, still-playing}
+use Rattle.tt_log.proofs.Crew.{On, OnAdmin, conns, on-found, found-on, put-among, put-admin-among, admin_conns, still-playing}
 use Rattle.tt_log.proofs.Codes.{IsCode, IsCodeOf, admin-judged-code, judged-code, late-code}
 use Rattle.tt_log.proofs.Places.{foundings-low, world-places}
 use Rattle.tt_log.proofs.Changes.{step, Allows, allows, Says, By, Change, wants_password, is_let_in, gets_token, gets_frame, answers, plays}

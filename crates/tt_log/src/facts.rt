@@ -10,10 +10,10 @@ ghost use Rattle.tt_log.specs.Member.{Member, is_named};
 ghost use Rattle.tt_log.specs.Origin.{IsOrigin, Origin};
 ghost use Rattle.tt_log.specs.PacketRules.{told_command};
 ghost use Rattle.tt_log.specs.Ranges.{FitsEntry, FitsMember};
-ghost use Rattle.tt_log.specs.Seats.{AreSeated, LockLive, WaitForLive};
+ghost use Rattle.tt_log.specs.Seats.{AreSeated, Lives, LockLive, WaitForLive};
 ghost use Rattle.tt_log.specs.Senders.{IsKnown, IsOfSender};
 ghost use Rattle.tt_log.specs.Spelled.{AreSpelled, IsReadAgain, IsSmall, IsSpelled};
-ghost use Rattle.tt_log.specs.Table.{member_of};
+ghost use Rattle.tt_log.specs.Table.{living_in, member_of};
 ghost use Rattle.tt_log.specs.Told.{heard};
 ghost use Rattle.tt_world.specs.declared.command.Command.{Command};
 ghost use Rattle.tt_world.specs.declared.command.Entry.{Entry};
@@ -78,6 +78,9 @@ pub fn companies_live()
     ensures members { (o : Origin) (es : List Event) → AreSeated o (table_of o es) }
     ensures waiting { (o : Origin) (es : List Event) → WaitForLive o (table_of o es) }
     ensures digests { (o : Origin) (es : List Event) → LockLive o (table_of o es) }
+    // And whatever comes behind, a company that lives goes on living.
+    ensures lasts { (o : Origin) (es fs : List Event) (company : ℕ) → Lives (living_in o (table_of o es)) company
+        → Lives (living_in o (table_of o (es ++ fs))) company }
 {}
 
 /// The map of a member is that of no later frame than the table's, and of an earlier one once it was told whole; and until then

@@ -1,3 +1,4 @@
+use Rattle.tt_log.proofs.Lasting.{lives-on}
 use Rattle.tt_log.proofs.Seats as seats
 use Rattle.tt_log.proofs.facts.companies_live.Goals as goal
 
@@ -9,3 +10,6 @@ returns-clause-waiting c o es = seats.wait-for-live o es
 
 pub returns-clause-digests : goal.returns-clause-digests
 returns-clause-digests c o es = seats.lock-live o es
+
+pub returns-clause-lasts : goal.returns-clause-lasts
+returns-clause-lasts c o es fs company is = lives-on o es fs company is
