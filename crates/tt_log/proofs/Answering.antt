@@ -36,7 +36,8 @@ use Rattle.tt_log.proofs.Crew.{On, put, put-among, on-found}
 use Rattle.tt_log.proofs.Changes.{step, Says, By, May, Asks, Change, wants_password, is_let_in, gets_token, gets_frame, answers, plays}
 use Rattle.tt_log.proofs.Changes.{commands, has_name, goes_to, founds, gets_pieces, has_all, turned, turned_in, turned-conn, told_with}
 use Rattle.tt_log.proofs.Changes.{IsTalk, IsNews, Move, queues, begins_map, loads, moved, moved-conn}
-use Rattle.tt_log.proofs.Walk.{Turns, ahead-of, behind-of, Base, Walk, Doors, Closing, Ticks, Of, running, stamping, MayMove, of-then, of-where, of-some}
+use Rattle.tt_log.proofs.Walk.{Turns, ahead-of, behind-of, Base, Walk, Doors, Closing, Ticks, Of, running, stamping, MayMove, of-then}
+use Rattle.tt_log.proofs.Walk.{of-where, of-some}
 use Rattle.tt_log.proofs.Walk.{of-deed}
 use Rattle.tt_log.proofs.Stamping.{among-put, among-filter, among-drawn, among-last}
 
