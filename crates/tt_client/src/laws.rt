@@ -1,0 +1,39 @@
+//! What holds of every client, over all calls. These functions do nothing: their contracts are the laws.
+ghost use Rattle.std.specs.Prelude.{◌≡◌, ℕ, List, ◌++◌};
+ghost use Rattle.tt_frame.specs.Packet.{IsBytes};
+ghost use Rattle.tt_frame.specs.Stream.{rest_of};
+ghost use Rattle.tt_frame.specs.StreamReading.{reading};
+ghost use Rattle.tt_lockstep.specs.Client as lockstep;
+ghost use Rattle.tt_lockstep.specs.Runner.{Runner, runner_run};
+ghost use Rattle.tt_world.specs.World.{WorldState};
+ghost use Rattle.tt_world.specs.declared.command.Entry.{Entry};
+ghost use Rattle.tt_log.specs.Origin.{Origin, game_of};
+ghost use Rattle.tt_client.specs.Known.{known};
+ghost use Rattle.tt_client.specs.Cutting.{cut_off, items_on};
+ghost use Rattle.tt_client.specs.declared.login.Login.{Login};
+ghost use Rattle.tt_client.specs.Calls.{Call, fed, new_items};
+ghost use Rattle.tt_client.specs.Held.{held};
+ghost use Rattle.tt_client.specs.Runs.{as_running, client, client_run};
+
+/// A client with one world does what the client from scratch does, call for call.
+pub fn same_run()
+    ensures same { (login : Login) (calls : List Call) → as_running (client login calls) ≡ client_run login calls }
+{}
+
+/// What the calls of a client make of it, one after the other, is what it is from scratch: its frame, its world folded from its
+/// map, its state, its number and company, and what it has to say, whatever bytes it was fed, in whatever pieces.
+pub fn in_steps()
+    ensures same { (login : Login) (calls : List Call) → IsBytes (fed calls)
+        → (held login calls).player ≡ as_running (client login calls) }
+{}
+
+/// What a piece adds is known by the unread rest of what was fed before, and by its place.
+pub fn cut_on()
+    ensures adds { (before piece rest : List ℕ) → IsBytes before → IsBytes (before ++ piece) → IsBytes (rest ++ piece) → (reading 32767 before).1 ≡ rest_of rest
+        → new_items before piece ≡ items_on (cut_off before) rest piece }
+{}
+
+/// A client depends neither on the game's start nor on how far its permitted frame runs ahead.
+pub fn any_game()
+    ensures same { (o : Origin) (r : Runner WorldState Entry) (calls : List (lockstep.Call WorldState Entry)) → runner_run (game_of o) r calls ≡ runner_run known r calls }
+{}
