@@ -11,7 +11,7 @@ mod attempt;
 mod code;
 mod laws;
 
-pub use attempt::{Attempt, Heard, Told, Ways};
+pub use attempt::{Attempt, Heard, Stage, Told, Ways};
 pub use code::InviteCode;
 pub use laws::{
     addresses_after_both_results, next_only_after_failure, other_events_change_nothing,

@@ -12,3 +12,4 @@ pub mod Listing
 pub mod Walk
 pub mod Laws
 pub mod Registry
+pub mod Lines

@@ -7,6 +7,7 @@
 #![tactic(auto)]
 
 mod laws;
+mod lines;
 mod registry;
 mod setup;
 
