@@ -13,3 +13,4 @@ pub mod Walk
 pub mod Laws
 pub mod Registry
 pub mod Lines
+pub mod OpenAttempts

@@ -8,6 +8,7 @@
 
 mod laws;
 mod lines;
+mod meetings;
 mod registry;
 mod setup;
 
