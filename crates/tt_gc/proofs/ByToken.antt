@@ -1,5 +1,6 @@
 -- What is done to an open attempt by its number is done to the one that has the token.
-use Rattle.std.proofs.Common.{◌≡◌, ◌≢◌, ℕ, ◌<◌, ◌^◌, Bool, true, false, not, cond, List, [], ◌∷◌, ◌++◌, map, Option, Some, None, refl, sym}
+use Rattle.std.proofs.Common.{◌≡◌, ◌≢◌, ℕ, ◌+◌, ◌<◌, ◌^◌, Bool, true, false, not, cond, List, [], ◌∷◌, ◌++◌, map, Option, Some, None, refl}
+use Rattle.std.proofs.Common.{sym}
 use Rattle.std.proofs.Common.{ap, ◌∙◌, arith, subst}
 use Rattle.std.specs.Prelude.{drop, find, filter, is_some, eqb}
 use Rattle.std.specs.Ordering.{nat_cmp, eq_by_cmp}
@@ -16,6 +17,7 @@ use Rattle.std.proofs.lemmas.Bool.{true≢false}
 use Rattle.tt_gc.specs.Table.{Meeting, is_for}
 use Rattle.tt_edge.specs.declared.event.Peer.{Peer}
 use Rattle.tt_gc.specs.Desk.{with_note}
+use Rattle.tt_gc.specs.Parts.{IsBegun}
 use Rattle.tt_gc.specs.OpenAttempts.{meetings_of, IsToken, IsNumbered}
 use Rattle.tt_gc.proofs.Keyed.{none_found, one_found, other_found, changed, taken_out}
 use Rattle.tt_gc.proofs.Numbers.{one_number, within}
@@ -144,3 +146,39 @@ same_token side peer m = by (eqb side 0)
     })).token ≡ m.token
     by true = refl
     by false = refl
+
+-- ---- numbers
+
+begun_set_by : (test : ℕ → Bool) (last : ℕ) (es : List (ℕ × Meeting)) (w : Meeting) → IsBegun last es → IsBegun last (set_value test es w)
+begun_set_by test last [] w begun = begun
+begun_set_by test last (e ∷ es) w begun = by (test e.0) (begun_set_by test last es w begun.1)
+  where
+    by : (b : Bool) → IsBegun last (set_value test es w) → IsBegun last (cond b ((e.0, w) ∷ es) (e ∷ set_value test es w))
+    by true rest = begun
+    by false rest = (begun.0, rest)
+
+pub begun_set : (n last : ℕ) (es : List (ℕ × Meeting)) (w : Meeting) → IsBegun last es → IsBegun last (set_value (at_number n) es w)
+begun_set n last es w begun = begun_set_by (at_number n) last es w begun
+
+begun_remove_by : (test : ℕ → Bool) (last : ℕ) (es : List (ℕ × Meeting)) → IsBegun last es → IsBegun last (remove_entry test es)
+begun_remove_by test last [] begun = begun
+begun_remove_by test last (e ∷ es) begun = by (test e.0) (begun_remove_by test last es begun.1)
+  where
+    by : (b : Bool) → IsBegun last (remove_entry test es) → IsBegun last (cond b es (e ∷ remove_entry test es))
+    by true rest = begun.1
+    by false rest = (begun.0, rest)
+
+pub begun_remove : (n last : ℕ) (es : List (ℕ × Meeting)) → IsBegun last es → IsBegun last (remove_entry (at_number n) es)
+begun_remove n last es begun = begun_remove_by (at_number n) last es begun
+
+pub begun_last : (n : ℕ) (m : Meeting) (es : List (ℕ × Meeting)) → IsBegun n es → IsBegun (n + 1) (es ++ (n + 1, m) ∷ [])
+begun_last n m [] begun = (omega arith, tt)
+begun_last n m (e ∷ es) begun = (omega (arith, begun.0), begun_last n m es begun.1)
+
+pub begun_more : (n : ℕ) (es : List (ℕ × Meeting)) → IsBegun n es → IsBegun (n + 1) es
+begun_more n [] begun = begun
+begun_more n (e ∷ es) begun = (omega (arith, begun.0), begun_more n es begun.1)
+
+pub begun_below : (n : ℕ) (es : List (ℕ × Meeting)) → IsBegun n es → AllByRecursion (λ (e : ℕ × Meeting). e.0 < n + 1) es
+begun_below n [] begun = begun
+begun_below n (e ∷ es) begun = (omega (arith, begun.0), begun_below n es begun.1)

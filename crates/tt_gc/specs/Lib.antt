@@ -14,3 +14,4 @@ pub mod Laws
 pub mod Registry
 pub mod Lines
 pub mod OpenAttempts
+pub mod Parts

@@ -9,6 +9,7 @@
 mod laws;
 mod lines;
 mod meetings;
+mod parts;
 mod registry;
 mod setup;
 

@@ -1,7 +1,7 @@
 //! The connections, by their numbers: who is there, and by which code.
 ghost use Rattle.std.specs.Prelude.{◌≡◌, ◌≤◌, ◌<◌, ◌+◌, ◌-◌, ◌^◌, ◌⊎◌, true, false, None, [], ◌∷◌, ◌++◌, length, slice_set};
 ghost use Rattle.std.specs.Prelude.{OnOk, OnErr, IfSome, IfNone};
-ghost use Rattle.tt_gc.specs.Lines.{line_of, live_line, arrived, refused, gone, coded, sides_in, live_side};
+ghost use Rattle.tt_gc.specs.Lines.{line_of, live_line, arrived, refused, gone, coded, code_at, sides_in};
 
 use std::alloc::Global;
 use std::marker::Model;
@@ -87,6 +87,14 @@ impl Lines {
         let at = self.place(conn)?;
         let line = self.lines[at];
         if line.live { Some(line) } else { None }
+    }
+
+    /// The code by which it is registered.
+    pub(crate) fn code(&self, conn: u32) -> Option<InviteCode>
+        ensures { result ≡ code_at self.now.lines conn }
+    {
+        let at = self.place(conn)?;
+        self.lines[at].code
     }
 
     /// Makes room for one more.

@@ -6,6 +6,7 @@ ghost use Rattle.std.specs.List.{AllByRecursion};
 ghost use Rattle.tt_attempts.specs.Attempts.{stepped};
 ghost use Rattle.tt_gc.specs.Table.{Meeting, is_for};
 ghost use Rattle.tt_gc.specs.Desk.{with_note};
+ghost use Rattle.tt_gc.specs.Parts.{IsBegun};
 ghost use Rattle.tt_gc.specs.OpenAttempts.{meetings_of, with_stage, IsToken};
 
 use std::alloc::Global;
@@ -155,9 +156,10 @@ impl Meetings {
 
     /// The open attempt with this token hears something by which it isn't over.
     pub(crate) fn hear(&mut self, token: &[u8], heard: Heard)
-        ensures { (m : Meeting) → find (is_for token.now) (meetings_of self.old) ≡ Some m
+        ensures meetings { (m : Meeting) → find (is_for token.now) (meetings_of self.old) ≡ Some m
             → meetings_of self.new ≡ map (λ x. cond (is_for token.now x) (with_stage (stepped m.state.ways m.state.stage heard).stage x) x)
             (meetings_of self.old) }
+        ensures begun { (last : ℕ) → IsBegun last self.old → IsBegun last self.new }
     {
         let by_number = &mut self.by_number;
         let Some(number) = number_in(token) else {
@@ -171,8 +173,9 @@ impl Meetings {
 
     /// The open attempt with this token notes the address of a side.
     pub(crate) fn note(&mut self, token: &[u8], side: u8, peer: Peer)
-        ensures { (m : Meeting) → find (is_for token.now) (meetings_of self.old) ≡ Some m
+        ensures meetings { (m : Meeting) → find (is_for token.now) (meetings_of self.old) ≡ Some m
             → meetings_of self.new ≡ map (λ x. cond (is_for token.now x) (with_note side peer x) x) (meetings_of self.old) }
+        ensures begun { (last : ℕ) → IsBegun last self.old → IsBegun last self.new }
     {
         let by_number = &mut self.by_number;
         let Some(number) = number_in(token) else {
@@ -186,8 +189,9 @@ impl Meetings {
 
     /// The open attempt with this token is over.
     pub(crate) fn close(&mut self, token: &[u8])
-        ensures { (m : Meeting) → find (is_for token.now) (meetings_of self.old) ≡ Some m
+        ensures meetings { (m : Meeting) → find (is_for token.now) (meetings_of self.old) ≡ Some m
             → meetings_of self.new ≡ filter (λ x. not (is_for token.now x)) (meetings_of self.old) }
+        ensures begun { (last : ℕ) → IsBegun last self.old → IsBegun last self.new }
     {
         let by_number = &mut self.by_number;
         let Some(number) = number_in(token) else {

@@ -1,20 +1,21 @@
 use Rattle.std.proofs.Common.{◌≡◌, ℕ, map, cond, List, Option, Some, sym, subst, ap, ◌∙◌}
 use Rattle.std.specs.Prelude.{find}
 use Rattle.tt_gc.specs.Table.{Meeting, is_for}
+use Rattle.tt_gc.specs.Parts.{IsBegun}
 use Rattle.tt_gc.specs.OpenAttempts.{meetings_of, IsNumbered}
 use Rattle.tt_gc.specs.Desk.{with_note}
 use Rattle.tt_gc.proofs.Numbers.{nowhere}
-use Rattle.tt_gc.proofs.ByToken.{Looked, missing, nobody, changed_here, numbered_set, same_token}
+use Rattle.tt_gc.proofs.ByToken.{Looked, missing, nobody, changed_here, begun_set, numbered_set, same_token}
 use Rattle.tt_gc.proofs.meetings.Meetings.note.Goals as goal
 
-pub returns-in_default : goal.returns-in_default
-returns-in_default c = λ m some.
+pub returns-in_default-clause-meetings : goal.returns-in_default-clause-meetings
+returns-in_default-clause-meetings c = λ m some.
     nobody (find (is_for c.args.token.now) (meetings_of c.args.self.now)) m (subst (λ (es : List (ℕ × Meeting)).
     find (is_for c.args.token.now) (meetings_of es) ≡ Option.None) c.self.view_is (nowhere c.args.token.now c.in_default.ensures.none
     c.self.inside.by_number.entries c.self.invariant.0)) some
 
-pub returns-in_default-get_mut : goal.returns-in_default-get_mut
-returns-in_default-get_mut c = λ m some.
+pub returns-in_default-get_mut-clause-meetings : goal.returns-in_default-get_mut-clause-meetings
+returns-in_default-get_mut-clause-meetings c = λ m some.
     let l : Looked c.args.token.now c.in-Some.number c.self.inside.by_number.entries =
     record {
       small = c.in-Some.ensures.small;
@@ -36,8 +37,8 @@ invariant_of-self-2 c =
       (c.get_mut.follows.holds w).4,
     )
 
-pub returns : goal.returns
-returns c =
+pub returns-clause-meetings : goal.returns-clause-meetings
+returns-clause-meetings c =
     let l : Looked c.args.token.now c.in-Some.number c.self.inside.by_number.entries =
     record {
       small = c.in-Some.ensures.small;
@@ -53,3 +54,16 @@ returns c =
     (λ m some. ap meetings_of (c.get_mut.follows.holds w).0
     ∙ changed_here c.args.token.now c.in-Some.number c.self.inside.by_number.entries v w m (with_note c.args.side c.args.peer) l
     (sym c.in-Some-get_mut.ensures.value) some c.note.ensures)
+
+pub returns-in_default-clause-begun : goal.returns-in_default-clause-begun
+returns-in_default-clause-begun c = λ last begun. subst (IsBegun last) (sym c.self.view_is) begun
+
+pub returns-in_default-get_mut-clause-begun : goal.returns-in_default-get_mut-clause-begun
+returns-in_default-get_mut-clause-begun c = λ last begun.
+    subst (λ m. IsBegun last m.entries) (sym c.get_mut.follows.holds-at-none) (subst (IsBegun last) (sym c.self.view_is) begun)
+
+pub returns-clause-begun : goal.returns-clause-begun
+returns-clause-begun c = λ last begun.
+    let w : Meeting = c.note.new.self in
+    subst (IsBegun last) (sym (c.get_mut.follows.holds w).0) (begun_set c.in-Some.number last c.self.inside.by_number.entries w
+    (subst (IsBegun last) (sym c.self.view_is) begun))
