@@ -182,3 +182,41 @@ begun_more n (e ∷ es) begun = (omega (arith, begun.0), begun_more n es begun.1
 pub begun_below : (n : ℕ) (es : List (ℕ × Meeting)) → IsBegun n es → AllByRecursion (λ (e : ℕ × Meeting). e.0 < n + 1) es
 begun_below n [] begun = begun
 begun_below n (e ∷ es) begun = (omega (arith, begun.0), begun_below n es begun.1)
+
+-- ---- kept
+
+pub filtered : (p : Meeting → Bool) (es : List (ℕ × Meeting))
+    → meetings_of (filter (λ (e : ℕ × Meeting). p e.1) es) ≡ filter p (meetings_of es)
+filtered p [] = refl
+filtered p (e ∷ es) = by (p e.1) (filtered p es)
+  where
+    rest : List (ℕ × Meeting)
+    rest = filter (λ (e : ℕ × Meeting). p e.1) es
+
+    by : (b : Bool) → meetings_of rest ≡ filter p (meetings_of es)
+        → meetings_of (cond b (e ∷ rest) rest) ≡ cond b (e.1 ∷ filter p (meetings_of es)) (filter p (meetings_of es))
+    by true more = ap (λ (ms : List Meeting). e.1 ∷ ms) more
+    by false more = more
+
+pub numbered_filter : (p : Meeting → Bool) (es : List (ℕ × Meeting)) → IsNumbered es → IsNumbered (filter (λ (e : ℕ × Meeting). p e.1) es)
+numbered_filter p [] all = all
+numbered_filter p (e ∷ es) all = by (p e.1) (numbered_filter p es all.1)
+  where
+    rest : List (ℕ × Meeting)
+    rest = filter (λ (e : ℕ × Meeting). p e.1) es
+
+    by : (b : Bool) → IsNumbered rest → IsNumbered (cond b (e ∷ rest) rest)
+    by true more = (all.0, more)
+    by false more = more
+
+pub begun_filter : (p : Meeting → Bool) (last : ℕ) (es : List (ℕ × Meeting)) → IsBegun last es
+    → IsBegun last (filter (λ (e : ℕ × Meeting). p e.1) es)
+begun_filter p last [] all = all
+begun_filter p last (e ∷ es) all = by (p e.1) (begun_filter p last es all.1)
+  where
+    rest : List (ℕ × Meeting)
+    rest = filter (λ (e : ℕ × Meeting). p e.1) es
+
+    by : (b : Bool) → IsBegun last rest → IsBegun last (cond b (e ∷ rest) rest)
+    by true more = (all.0, more)
+    by false more = more

@@ -135,7 +135,7 @@ find_front p (v ∷ vs) ws conn is = by (p v) is (find_front p vs ws conn)
   where
     by : (b : Bool) → option_map (λ (v : Server). v.conn) (cond b (Some v) (find p vs)) ≡ Some conn
         → (option_map (λ (v : Server). v.conn) (find p vs) ≡ Some conn → option_map (λ (v : Server). v.conn) (find p (vs ++ ws)) ≡ Some
-            conn)
+        conn)
         → option_map (λ (v : Server). v.conn) (cond b (Some v) (find p (vs ++ ws))) ≡ Some conn
     by true is rest = is
     by false is rest = rest is
@@ -179,7 +179,7 @@ serving_more ls vs k l w s within fresh none own is = record { coded = each vs s
         by true same has =
             let code_is : w.code ≡ code = ap (unwrap w.code) (sym is ∙ has) in
             subst (λ (x : List ℕ). option_map (λ (v : Server). v.conn) (find (λ (v : Server). bytes_eq x v.code) (vs ++ w ∷ [])) ≡ Some
-                conn)
+            conn)
             code_is (ap (option_map (λ (v : Server). v.conn)) (find_last (λ (v : Server). bytes_eq w.code v.code) vs w none
             (same_code w.code)) ∙ ap (λ (n : ℕ). Some n) (own ∙ sym (eqb-true conn (suc k) same)))
         by false differ has = find_front (λ (v : Server). bytes_eq code v.code) vs (w ∷ []) conn (s.served conn code has)

@@ -1,13 +1,12 @@
 -- What the parts of the code hold of each other.
-use Rattle.std.specs.Prelude.{◌≡◌, ℕ, ◌+◌, ◌≤◌, Bool, not, List, [], ◌∷◌, ◌++◌, Option, Some, None, filter, find, option_map}
+use Rattle.std.specs.Prelude.{◌≡◌, ℕ, ◌+◌, ◌≤◌, Bool, not, ◌||◌, ◌==◌, List, [], ◌∷◌, ◌++◌, Option, Some, None, filter, find, option_map}
 use Rattle.std.specs.List.{AllByRecursion}
 use Rattle.std.specs.Str.{bytes_eq}
-use Rattle.tt_attempts.specs.Codes.{IsCode}
 use Rattle.tt_gc.specs.declared.lines.Line.{Line}
 use Rattle.tt_edge.specs.declared.event.Peer.{Peer}
 use Rattle.tt_attempts.specs.declared.attempt.Stage.{Stage}
 use Rattle.tt_gc.specs.OpenAttempts.{with_stage}
-use Rattle.tt_gc.specs.Table.{Table, Server, Drawn, Meeting, is_on, is_servers, with_meeting}
+use Rattle.tt_gc.specs.Table.{Table, Server, Meeting, is_on, is_servers, with_meeting}
 use Rattle.tt_gc.specs.Lines.{code_at}
 
 -- each server's connection is registered by its code, and whatever is registered by a code is its server's connection
@@ -15,13 +14,6 @@ pub record IsServing (ls : List Line) (vs : List Server) : Type 0 where
   pub coded : AllByRecursion (λ (v : Server). code_at ls v.conn ≡ Some v.code) vs
   pub served : (conn : ℕ) (code : List ℕ) → code_at ls conn ≡ Some code
       → option_map (λ (v : Server). v.conn) (find (λ (v : Server). bytes_eq code v.code) vs) ≡ Some conn
-
--- what is registered, and what was drawn, are codes
-abbrev pub AreCodes : List Server → Type 0
-AreCodes vs = AllByRecursion (λ (v : Server). IsCode v.code) vs
-
-abbrev pub AreDrawn : List Drawn → Type 0
-AreDrawn ds = AllByRecursion (λ (d : Drawn). IsCode d.code) ds
 
 -- no open attempt has a number above the last one's
 abbrev pub IsBegun : ℕ → List (ℕ × Meeting) → Type 0
@@ -52,3 +44,11 @@ at_stage stage token t = with_meeting token (with_stage stage) t
 abbrev pub registered : ℕ → List ℕ → ℕ → ℕ → Table → Table
 registered conn code kind port t =
     record t { servers = t.servers ++ record { conn = conn; code = code; kind = kind; port = port; info = None } ∷ [] }
+
+-- the attempt has its server or its client on this connection
+abbrev pub is_of : ℕ → Meeting → Bool
+is_of conn m = (m.server.conn == conn) || (m.client.conn == conn)
+
+-- the table in which none such is open
+abbrev pub without_meetings_of : ℕ → Table → Table
+without_meetings_of conn t = record t { meetings = filter (λ m. not (is_of conn m)) t.meetings }

@@ -6,7 +6,7 @@ ghost use Rattle.std.specs.List.{AllByRecursion};
 ghost use Rattle.tt_attempts.specs.Attempts.{stepped};
 ghost use Rattle.tt_gc.specs.Table.{Meeting, is_for};
 ghost use Rattle.tt_gc.specs.Desk.{with_note};
-ghost use Rattle.tt_gc.specs.Parts.{IsBegun};
+ghost use Rattle.tt_gc.specs.Parts.{IsBegun, is_of};
 ghost use Rattle.tt_gc.specs.OpenAttempts.{meetings_of, with_stage, IsToken};
 
 use std::alloc::Global;
@@ -75,6 +75,13 @@ impl End {
 }
 
 impl Meeting {
+    /// Whether its server or its client is on this connection.
+    pub(crate) fn is_of(&self, conn: u32) -> bool
+        ensures { result ≡ is_of conn self.now }
+    {
+        self.server.conn == conn || self.client.conn == conn
+    }
+
     /// The address of a side is noted.
     fn note(&mut self, side: u8, peer: Peer)
         ensures { self.new ≡ with_note side peer self.old }
@@ -209,5 +216,13 @@ impl Meetings {
     {
         self.by_number.insert(number, meeting)?;
         Ok(())
+    }
+
+    /// None is open any more whose server or client is on this connection. It looks at each that is open.
+    pub(crate) fn leave(&mut self, conn: u32)
+        ensures meetings { meetings_of self.new ≡ filter (λ m. not (is_of conn m)) (meetings_of self.old) }
+        ensures begun { (last : ℕ) → IsBegun last self.old → IsBegun last self.new }
+    {
+        self.by_number.retain(|_, meeting| !meeting.is_of(conn));
     }
 }

@@ -3,11 +3,14 @@
 //! Contracts see it as the table that the rules speak of.
 ghost use Rattle.std.specs.Prelude.{◌≡◌, ◌<◌, ◌+◌, ◌-◌, ◌^◌, Some, true, false, is_some, length, map, filter, cond, not, OnOk, OnErr};
 ghost use Rattle.std.specs.Option.{option_copied};
-ghost use Rattle.tt_gc.specs.Table.{Meeting, first, connection_of, is_live, live_sides, server_on, server_by, meeting_of};
+ghost use Rattle.tt_gc.specs.Table.{Meeting, first, connection_of, is_live, live_sides, server_on, server_by, drawn_by, meeting_of};
 ghost use Rattle.tt_gc.specs.Table.{with_info, with_meeting, without_meeting};
 ghost use Rattle.tt_attempts.specs.Attempts.{stepped};
+ghost use Rattle.std.specs.Prelude.{option_map};
+ghost use Rattle.tt_gc.specs.PacketRules.{is_known};
+ghost use Rattle.tt_gc.specs.Registry.{server_at};
 ghost use Rattle.tt_gc.specs.Desk.{with_note};
-ghost use Rattle.tt_gc.specs.Parts.{opened, passed_over, without_connection, registered, at_stage};
+ghost use Rattle.tt_gc.specs.Parts.{opened, passed_over, without_connection, without_meetings_of, registered, at_stage};
 
 use crate::lines::Lines;
 use crate::meetings::{Meeting, Meetings};
@@ -161,6 +164,23 @@ impl Parts {
         self.lines.code(conn).is_some()
     }
 
+    /// The live server whose code these bytes are.
+    pub(crate) fn server_by(&self, code: &[u8]) -> Option<&Served>
+        ensures { option_map (λ v. server_at (code.now, v)) (option_copied result) ≡ server_by self.now code.now }
+    {
+        self.registry.server_named(code)
+    }
+
+    /// Whether these bytes are a code that was drawn with this secret.
+    pub(crate) fn is_known(&self, code: &[u8], secret: &[u8]) -> bool
+        ensures { result ≡ is_known secret.now (drawn_by self.now code.now) }
+    {
+        match self.registry.secret_named(code) {
+            Some(kept) => kept.is(secret),
+            None => false,
+        }
+    }
+
     /// The open attempt with this token.
     pub(crate) fn meeting(&self, token: &[u8]) -> Option<&Meeting>
         ensures { option_copied result ≡ meeting_of self.now token.now }
@@ -233,6 +253,13 @@ impl Parts {
         ensures { (m : Meeting) → meeting_of self.old token.now ≡ Some m → self.new ≡ without_meeting token.now self.old }
     {
         self.meetings.close(token);
+    }
+
+    /// No attempt is open any more whose server or client is on this connection.
+    pub(crate) fn leave(&mut self, conn: u32)
+        ensures { self.new ≡ without_meetings_of conn self.old }
+    {
+        self.meetings.leave(conn);
     }
 
     /// So much more was paid.

@@ -84,7 +84,13 @@ returns-in_default-get_mut-clause-begun c = λ last begun.
 
 pub returns-clause-begun : goal.returns-clause-begun
 returns-clause-begun c = λ last begun.
-    let w : Meeting = record { token = c.meeting.inside.token; server = c.meeting.inside.server; client = c.meeting.inside.client; port =
-        c.meeting.inside.port; state = c.step-told.new.self } in
+    let w : Meeting = record {
+      token = c.meeting.inside.token;
+      server = c.meeting.inside.server;
+      client = c.meeting.inside.client;
+      port =
+          c.meeting.inside.port;
+      state = c.step-told.new.self;
+    } in
     subst (IsBegun last) (sym (c.get_mut.follows.holds w).0) (begun_set c.in-Some.number last c.self.inside.by_number.entries w
     (subst (IsBegun last) (sym c.self.view_is) begun))

@@ -15,5 +15,5 @@ returns c =
     let t : Table = the_view c.self.inside in
     let now : Table = record t { meetings = meetings_of c.hear.new.self } in
     subst (λ (t : Table). (m : Meeting) → meeting_of t c.args.token.now ≡ Some m → now ≡ at_stage (stepped m.state.ways m.state.stage
-        c.args.heard).stage c.args.token.now t)
+    c.args.heard).stage c.args.token.now t)
     c.self.view_is (λ m some. ap (λ (ms : List Meeting). record t { meetings = ms }) (c.hear.ensures.meetings m some))

@@ -15,5 +15,5 @@ returns c =
     let t : Table = the_view c.self.inside in
     let now : Table = record t { meetings = meetings_of c.note.new.self } in
     subst (λ (t : Table). (m : Meeting) → meeting_of t c.args.token.now ≡ Some m → now ≡ with_meeting c.args.token.now (with_note
-        c.args.side c.args.peer) t)
+    c.args.side c.args.peer) t)
     c.self.view_is (λ m some. ap (λ (ms : List Meeting). record t { meetings = ms }) (c.note.ensures.meetings m some))

@@ -20,8 +20,14 @@ invariant_of-self-2 c =
       subst (λ (l : List Line). IsServing l (servers_of c.self.inside.registry)) (sym now) (serving_pushed ls
           (servers_of c.self.inside.registry) (arrived c.args.side c.args.peer) c.self.invariant.0 refl),
       c.self.invariant.1,
-      omega (arith, c.requires.few, ap (λ (t : Table). t.openings) c.self.view_is, ap length now, length_push ls (arrived c.args.side
-          c.args.peer)),
+      omega (
+        arith,
+        c.requires.few,
+        ap (λ (t : Table). t.openings) c.self.view_is,
+        ap length now,
+        length_push ls (arrived c.args.side
+            c.args.peer),
+      ),
     )
 
 pub returns-clause-ok : goal.returns-clause-ok

@@ -6,6 +6,9 @@ use Rattle.tt_gc.specs.Registry.{RegistryState, servers_of, server_at}
 use Rattle.std.proofs.lemmas.Slice.Eq.{bytes_eq-Decides}
 use Rattle.tt_gc.proofs.Keyed.{none_changed, changed}
 use Rattle.tt_gc.proofs.Numbers.{within_code, one_code}
+use Rattle.std.proofs.Common.{subst}
+use Rattle.tt_gc.specs.Registry.{AreCodes}
+use Rattle.tt_gc.proofs.AllCodes.{codes_set}
 use Rattle.tt_gc.proofs.registry.Registry.update.Goals as goal
 
 pub returns-in_default-clause-servers : goal.returns-in_default-clause-servers
@@ -30,3 +33,10 @@ returns-clause-servers c =
     (within_code server_at code (λ (v : Server). bytes_eq code v.code) (λ e. refl) es) (one_code code es c.get_mut.ensures.unique)
     (sym c.in-Some.ensures.value) (λ k own. own) (λ k. refl)
     ∙ ap (λ (r : RegistryState). map (λ v. cond (bytes_eq code v.code) (change v) v) (servers_of r)) c.self.view_is
+
+pub invariant_of-self-2 : goal.invariant_of-self-2
+invariant_of-self-2 c =
+    let w : Served = record c.in-Some.served.now { info = Some c.args.info } in (
+      subst AreCodes (sym (c.get_mut.follows.holds w).0) (codes_set c.args.code.now w c.self.inside.servers.entries c.self.invariant.0),
+      c.self.invariant.1,
+    )
