@@ -5,6 +5,7 @@ use Rattle.std.specs.Str.{bytes_eq}
 use Rattle.tt_gc.specs.declared.lines.Line.{Line}
 use Rattle.tt_edge.specs.declared.event.Peer.{Peer}
 use Rattle.tt_attempts.specs.declared.attempt.Stage.{Stage}
+use Rattle.tt_gc.specs.Codes.{behind_token}
 use Rattle.tt_gc.specs.OpenAttempts.{with_stage}
 use Rattle.tt_gc.specs.Table.{Table, Server, Meeting, is_on, is_servers, with_meeting}
 use Rattle.tt_gc.specs.Lines.{code_at}
@@ -52,3 +53,7 @@ is_of conn m = (m.server.conn == conn) || (m.client.conn == conn)
 -- the table in which none such is open
 abbrev pub without_meetings_of : ℕ → Table → Table
 without_meetings_of conn t = record t { meetings = filter (λ m. not (is_of conn m)) t.meetings }
+
+-- the table in which this attempt has begun, and is open
+abbrev pub begun : Meeting → Table → Table
+begun m t = record (behind_token t) { meetings = t.meetings ++ m ∷ [] }

@@ -10,18 +10,22 @@ ghost use Rattle.std.specs.Prelude.{option_map};
 ghost use Rattle.tt_gc.specs.PacketRules.{is_known};
 ghost use Rattle.tt_gc.specs.Registry.{server_at};
 ghost use Rattle.tt_gc.specs.Desk.{with_note};
-ghost use Rattle.tt_gc.specs.Parts.{opened, passed_over, without_connection, without_meetings_of, registered, at_stage};
+ghost use Rattle.tt_gc.specs.Parts.{opened, passed_over, without_connection, without_meetings_of, registered, begun, at_stage};
+ghost use Rattle.std.specs.Prelude.{IfOk};
+ghost use Rattle.tt_gc.specs.Codes.{new_token, behind_token};
+ghost use Rattle.tt_attempts.specs.Codes.{words_behind};
 
 use crate::lines::Lines;
 use crate::meetings::{Meeting, Meetings};
 use crate::registry::{Registry, Served};
 use crate::setup::GcSetup;
+use crate::tokens::token;
 use std::alloc::Global;
 use std::marker::Model;
 use tt_attempts::{Heard, InviteCode};
 use tt_coord::Info;
 use tt_edge::Peer;
-use tt_frame::OutOfMemory;
+use tt_frame::{OutOfMemory, Text};
 use tt_world::Random;
 
 /// A connection that is there, as the coordinator sees it.
@@ -260,6 +264,42 @@ impl Parts {
         ensures { self.new ≡ without_meetings_of conn self.old }
     {
         self.meetings.leave(conn);
+    }
+
+    /// The token of the next attempt, and the random words behind it.
+    pub(crate) fn next_token(&self, alloc: Global) -> Result<(Text<31>, Random), OutOfMemory>
+        requires few { self.now.attempts < 2 ^ 32 - 1 }
+        ensures token { IfOk result (λ next. next.0 ≡ new_token self.now) }
+        ensures words { IfOk result (λ next. next.1 ≡ words_behind 8 self.now.words) }
+    {
+        let mut random = self.random;
+        let text = token(alloc, &mut random, self.begun + 1)?;
+        Ok((text, random))
+    }
+
+    /// An attempt begins that is over at once, as no way applies.
+    pub(crate) fn pass(&mut self, random: Random)
+        requires few { self.old.attempts < 2 ^ 32 - 1 }
+        requires words { random ≡ words_behind 8 self.old.words }
+        ensures { self.new ≡ behind_token self.old }
+    {
+        self.random = random;
+        self.begun += 1;
+    }
+
+    /// An attempt begins. Where memory runs out, nothing was changed.
+    pub(crate) fn begin(&mut self, random: Random, meeting: Meeting) -> Result<(), OutOfMemory>
+        requires few { self.old.attempts < 2 ^ 32 - 1 }
+        requires words { random ≡ words_behind 8 self.old.words }
+        requires token { meeting.token ≡ new_token self.old }
+        ensures ok { OnOk result (self.new ≡ begun meeting self.old) }
+        ensures err { OnErr result (self.new ≡ self.old) }
+    {
+        let number = self.begun + 1;
+        self.meetings.open(number, meeting)?;
+        self.random = random;
+        self.begun = number;
+        Ok(())
     }
 
     /// So much more was paid.
