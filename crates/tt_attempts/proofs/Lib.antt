@@ -5,3 +5,4 @@ pub mod AdvanceLaws
 pub mod ForeignLaws
 pub mod StunLaws
 pub mod BegunLaws
+pub mod DrawLaws

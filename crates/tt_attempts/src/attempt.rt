@@ -61,7 +61,7 @@ pub enum Told {
 ///                                             AwaitingStun ──both ok──> TryingStun ──Failed 2──> TryingTurn
 /// ```
 #[derive(Clone, Copy, Debug, PartialEq, Eq)]
-pub(crate) enum Stage {
+pub enum Stage {
     /// Nothing was told yet.
     Fresh,
     /// The client tries the server's address.
@@ -124,6 +124,26 @@ impl Attempt {
         ensures begun { HasBegun self.new.stage }
     {
         self.hear(heard)
+    }
+
+    /// How far it is.
+    pub fn stage(&self) -> Stage
+        ensures { result ≡ self.now.stage }
+    {
+        self.stage
+    }
+
+    /// What `step` would tell for an event, and how far the attempt would be then. It stays as it is.
+    pub fn ahead(&self, heard: Heard) -> (Told, Stage)
+        ensures told { result.0 ≡ (stepped self.now.ways self.now.stage heard).told }
+        ensures stage { result.1 ≡ (stepped self.now.ways self.now.stage heard).stage }
+    {
+        let mut next = Attempt {
+            ways: self.ways,
+            stage: self.stage,
+        };
+        let told = next.hear(heard);
+        (told, next.stage)
     }
 
     fn direct_or_later(&mut self) -> Told

@@ -1,8 +1,8 @@
 //! Invite codes, by which a server is found.
-ghost use Rattle.std.specs.Prelude.{◌≡◌, ℕ, ◌↔◌, List, true, IsSome, IfSome};
+ghost use Rattle.std.specs.Prelude.{◌≡◌, ℕ, ◌↔◌, List, length, true, IsSome, IfSome};
 ghost use Rattle.std.specs.List.{list_all};
 ghost use Rattle.tt_world.specs.Random.{next_random};
-ghost use Rattle.tt_attempts.specs.Codes.{IsCode, is_character, words_behind, drawn_character, drawn_code};
+ghost use Rattle.tt_attempts.specs.Codes.{IsCode, is_character, words_behind, drawn_character, drawn_characters, drawn_code};
 
 use std::marker::Model;
 use tt_world::Random;
@@ -50,6 +50,19 @@ fn draw_character(random: &mut Random) -> u8
 {
     let place = random.next_below(32) as usize;
     ALPHABET[place]
+}
+
+/// Draws a character of the alphabet into each place, one after another.
+pub fn draw_characters(random: &mut Random, to: &mut [u8])
+    ensures words { random.new ≡ words_behind (length to.old) random.old }
+    ensures drawn { to.new ≡ drawn_characters (length to.old) random.old }
+    ensures characters { list_all is_character to.new ≡ true }
+{
+    let mut at = 0;
+    while at < to.len() {
+        to[at] = draw_character(random);
+        at += 1;
+    }
 }
 
 impl InviteCode {

@@ -11,8 +11,8 @@ mod attempt;
 mod code;
 mod laws;
 
-pub use attempt::{Attempt, Heard, Told, Ways};
-pub use code::InviteCode;
+pub use attempt::{Attempt, Heard, Stage, Told, Ways};
+pub use code::{InviteCode, draw_characters};
 pub use laws::{
     addresses_after_both_results, next_only_after_failure, other_events_change_nothing,
     silent_at_the_end, ways_in_order,

@@ -12,3 +12,6 @@ pub mod Listing
 pub mod Walk
 pub mod Laws
 pub mod Registry
+pub mod Lines
+pub mod OpenAttempts
+pub mod Parts

@@ -7,8 +7,12 @@
 #![tactic(auto)]
 
 mod laws;
+mod lines;
+mod meetings;
+mod parts;
 mod registry;
 mod setup;
+mod tokens;
 
 pub use laws::{
     a_bad_packet_ends_its_own_connection, a_code_has_one_server, a_code_is_its_owners,

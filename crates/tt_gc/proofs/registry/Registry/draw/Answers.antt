@@ -5,6 +5,9 @@ use Rattle.indexmap.specs.IndexMap.{insert_entry}
 use Rattle.tt_gc.specs.Table.{Drawn}
 use Rattle.tt_gc.specs.Registry.{RegistryState, drawn_of, drawn_at}
 use Rattle.tt_gc.proofs.RegistryLaws.{put}
+use Rattle.std.proofs.Common.{sym, subst}
+use Rattle.tt_gc.specs.Registry.{AreCodes}
+use Rattle.tt_gc.proofs.AllCodes.{codes_insert}
 use Rattle.tt_gc.proofs.registry.Registry.draw.Goals as goal
 
 pub returns-clause-drawn : goal.returns-clause-drawn
@@ -17,3 +20,12 @@ returns-clause-drawn c =
     ap (map drawn_at) entries
     ∙ put drawn_at c.args.code (λ (d : Drawn). bytes_eq c.args.code d.code) (λ e. refl) c.args.secret c.self.inside.drawn.entries none
     ∙ ap (λ (r : RegistryState). drawn_of r ++ drawn_at (c.args.code, c.args.secret) ∷ []) c.self.view_is
+
+pub invariant_of-self : goal.invariant_of-self
+invariant_of-self c =
+    let entries : c.insert.new.self.entries ≡ insert_entry bytes_eq c.self.inside.drawn.entries c.args.code c.args.secret =
+    search rules in (
+      c.self.invariant.0,
+      subst AreCodes (sym entries) (codes_insert c.args.code c.args.secret c.self.inside.drawn.entries c.text-text.ensures.code
+          c.self.invariant.1),
+    )

@@ -5,6 +5,9 @@ use Rattle.indexmap.specs.IndexMap.{insert_entry}
 use Rattle.tt_gc.specs.Table.{Server}
 use Rattle.tt_gc.specs.Registry.{RegistryState, servers_of, server_at}
 use Rattle.tt_gc.proofs.RegistryLaws.{put}
+use Rattle.std.proofs.Common.{sym, subst}
+use Rattle.tt_gc.specs.Registry.{AreCodes}
+use Rattle.tt_gc.proofs.AllCodes.{codes_insert}
 use Rattle.tt_gc.proofs.registry.Registry.register.Goals as goal
 
 pub returns-clause-servers : goal.returns-clause-servers
@@ -17,3 +20,12 @@ returns-clause-servers c =
     ap (map server_at) entries
     ∙ put server_at c.args.code (λ (v : Server). bytes_eq c.args.code v.code) (λ e. refl) c.args.served c.self.inside.servers.entries none
     ∙ ap (λ (r : RegistryState). servers_of r ++ server_at (c.args.code, c.args.served) ∷ []) c.self.view_is
+
+pub invariant_of-self : goal.invariant_of-self
+invariant_of-self c =
+    let entries : c.insert.new.self.entries ≡ insert_entry bytes_eq c.self.inside.servers.entries c.args.code c.args.served =
+    search rules in (
+      subst AreCodes (sym entries) (codes_insert c.args.code c.args.served c.self.inside.servers.entries c.text-text.ensures.code
+          c.self.invariant.0),
+      c.self.invariant.1,
+    )
