@@ -1,0 +1,36 @@
+-- The order of downloads: what those are told that stand behind a place that is free.
+use Rattle.std.specs.Prelude.{ℕ, zero, suc, ◌+◌, min, List, [], ◌∷◌, ◌++◌, drop, Option, Some, None}
+use Rattle.tt_game.specs.declared.message.GameMsg.TheVariants.{ServerWait}
+use Rattle.tt_log.specs.declared.deed.What.{What}
+use Rattle.tt_log.specs.declared.deed.What.TheVariants.{Msg, MapBegin}
+use Rattle.tt_members.specs.declared.edit.Edit.{Edit}
+use Rattle.tt_members.specs.declared.edit.Edit.TheVariants.{Begin, Unask}
+use Rattle.tt_members.specs.declared.step.Audience.TheVariants.{One}
+use Rattle.tt_members.specs.declared.step.Step.{Step}
+use Rattle.tt_members.specs.Steps.{says}
+use Rattle.tt_members.specs.Edits.{place_of}
+
+-- what one is told that has come to a place
+abbrev pub news_at : ℕ → What
+news_at zero = MapBegin
+news_at (suc before) = Msg (ServerWait (min (suc before) 255))
+
+-- those that stand from a place on are told what they have become
+abbrev pub moving : ℕ → List ℕ → List Step
+moving place [] = []
+moving place (c ∷ cs) = says (One c) (news_at place) ∷ moving (place + 1) cs
+
+-- the one that has come to place 0 downloads
+abbrev pub beginning : ℕ → ℕ → List ℕ → List Edit
+beginning frame place [] = []
+beginning frame zero (c ∷ cs) = Begin c frame ∷ []
+beginning frame (suc before) (c ∷ cs) = []
+
+-- one leaves the queue, if it stands there
+abbrev pub unasking : Option ℕ → List ℕ → List Step
+unasking None queue = []
+unasking (Some place) queue = moving place (drop (place + 1) queue)
+
+abbrev pub unasked : ℕ → ℕ → Option ℕ → List ℕ → List Edit
+unasked conn frame None queue = []
+unasked conn frame (Some place) queue = Unask conn ∷ beginning frame place (drop (place + 1) queue)

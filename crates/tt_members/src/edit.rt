@@ -1,0 +1,24 @@
+//! One change of the members or of the queue of downloads. Each takes no memory.
+use crate::marks::Marks;
+
+/// One change of the members or of the queue.
+#[derive(Clone, Copy, Debug, PartialEq, Eq)]
+pub enum Edit {
+    /// A member has these marks from now on.
+    Mark { conn: u32, marks: Marks },
+    /// The download of a member begins at this frame.
+    Begin { conn: u32, frame: u32 },
+    /// Each member's two oldest commands wait no longer: they are stamped.
+    Draw,
+    /// Those that play are told, at a frame, how far they may run, each with a fresh token where none is open. These are
+    /// the random words of the tokens before.
+    Permit {
+        frame: u32,
+        top: u32,
+        words: (u32, u32),
+    },
+    /// A connection is a member no longer.
+    Leave { conn: u32 },
+    /// A connection waits in the queue no longer.
+    Unask { conn: u32 },
+}
