@@ -1,2 +1,5 @@
 pub mod Found
 pub mod Places
+pub mod Behind
+pub mod Left
+pub mod Marked
