@@ -1,0 +1,6 @@
+pub mod Behind
+pub mod Stamped
+pub mod Like
+pub mod Permitted
+pub mod Founding
+pub mod Loading
