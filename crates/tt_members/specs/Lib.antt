@@ -5,4 +5,5 @@ pub mod Planned
 pub mod Done
 pub mod Queues
 pub mod Leaving
+pub mod Places
 pub mod Rules

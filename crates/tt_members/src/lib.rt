@@ -8,9 +8,15 @@
 
 mod edit;
 mod marks;
+mod member;
+mod queue;
 mod step;
+mod waiting;
 
 pub use edit::Edit;
 pub use marks::Marks;
+pub use member::Member;
+pub use queue::{Place, Queue};
 pub use step::{Audience, Step, Steps};
 pub use tt_log::deed::{Conns, What};
+pub use waiting::Waiting;
