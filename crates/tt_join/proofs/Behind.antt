@@ -55,22 +55,18 @@ silent : (es : List Entry) (ss us : List Step) → stamped_in us ≡ [] → es +
 silent es ss us none = ap (λ (xs : List Entry). es ++ xs)
     (stamped_append ss us ∙ ap (λ (xs : List Entry). stamped_in ss ++ xs) none ∙ append-nil (stamped_in ss))
 
-done_more : (p : Planned) (es : List Edit) (ss : List Step) (t : Table) → p.asks ≡ None → p.arrives ≡ None → stamped_in ss ≡ []
+pub done_more : (p : Planned) (es : List Edit) (ss : List Step) (t : Table) → p.asks ≡ None → p.arrives ≡ None → stamped_in ss ≡ []
     → done (adds es ss p) t ≡ edited es (done p t)
 done_more p es ss t asks arrives none = rw (asks, arrives, members_append p.edits es (offered p.offers (renamed p.names t.members)),
     queue_append p.edits es t.queue, silent t.journal p.steps ss none) refl
 
-same_admins : (t : Table) (p : Planned) (d : Deed) → done p t ≡ d.table → t.admins ≡ d.table.admins
-same_admins t p d same = ap (λ (u : Table). u.admins) same
-
 -- a rule behind a plan
 pub more : (t : Table) (p : Planned) (d : Deed) (rule : Table → Deed) (es : List Edit) (ss : List Step) → p.asks ≡ None → p.arrives ≡ None
-    → stamped_in ss ≡ [] → IsDoing t p d → Tells rule es ss d.table → IsDoing t (adds es ss p) (d ▹ rule)
+    → stamped_in ss ≡ [] → IsDoing t p d → Tells rule es ss (done p t) → IsDoing t (adds es ss p) (d ▹ rule)
 more t p d rule es ss asks arrives none doing tells = record {
   told = map-append (step_in t.admins) p.steps ss
-      ∙ ap₂ (λ (xs ys : List book.Step). xs ++ ys) doing.told
-      (ap (λ (admins : List Admin). steps_in admins ss) (same_admins t p d doing.table) ∙ tells.told);
-  table = done_more p es ss t asks arrives none ∙ ap (edited es) doing.table ∙ tells.table;
+      ∙ ap₂ (λ (xs ys : List book.Step). xs ++ ys) doing.told (tells.told ∙ ap (λ (u : Table). (rule u).told) doing.table);
+  table = done_more p es ss t asks arrives none ∙ tells.table ∙ ap (λ (u : Table). (rule u).table) doing.table;
 }
 
 -- two rules told one by one, or as one

@@ -4,5 +4,6 @@ pub mod Like
 pub mod Permitted
 pub mod Founding
 pub mod Placed
+pub mod Beating
 pub mod Moving
 pub mod Loading

@@ -197,3 +197,9 @@ drawn_words words (m ∷ ms) = drawn_words (words_by m words) ms
 pub drawn_conns : (ms : List Member) → map (λ (k : Member). k.conn) (map drawn ms) ≡ map (λ (k : Member). k.conn) ms
 drawn_conns [] = refl
 drawn_conns (m ∷ ms) = ap (λ (xs : List ℕ). m.conn ∷ xs) (drawn_conns ms)
+
+pub permitted_conns : (frame top : ℕ) (words : ℕ × ℕ) (ms : List Member) → map (λ (k : Member). k.conn) (permitted frame top words ms)
+    ≡ map (λ (k : Member). k.conn) ms
+permitted_conns frame top words [] = refl
+permitted_conns frame top words (m ∷ ms) = ap₂ (λ (x : ℕ) (xs : List ℕ). x ∷ xs)
+    (permitted_conn (is_playing m) (m.token == 0) frame top words m) (permitted_conns frame top (words_by m words) ms)

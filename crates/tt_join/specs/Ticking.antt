@@ -47,14 +47,6 @@ stamping conns (e ∷ es) = says (Several conns) (Stamp e)
 
 -- ---- the frame
 
--- whether one frame more would pass the greatest permitted one
-abbrev pub is_passing : Now → Bool
-is_passing now = nat_lt now.top (now.frame + 1)
-
--- the greatest permitted frame behind it
-abbrev pub next_top : Setup → Now → ℕ
-next_top setup now = cond (is_passing now) (now.frame + 1 + setup.frame_freq) now.top
-
 -- the token that a member is told: a fresh one where none is open
 abbrev pub token_told : Bool → ℕ × ℕ → ℕ
 token_told true words = fresh_token words
@@ -190,15 +182,22 @@ limits_of setup frame ms queue = limiting setup frame ms (record { edits = []; s
 abbrev pub adds : List Edit → List Step → Planned → Planned
 adds es ss p = record p { edits = p.edits ++ es; steps = p.steps ++ ss }
 
--- what is stamped, and the frame
-abbrev pub beating : Setup → Crew → Now → Planned
-beating setup crew now = record nothing {
-  edits = Draw ∷ cond (is_passing now) (Permit (now.frame + 1) (next_top setup now) crew.tokens ∷ []) [];
-  words = cond (is_passing now) (Some (words_after crew.members crew.tokens)) None;
-  beat = Some (record { frame = now.frame + 1; top = next_top setup now });
-  steps = stamping (playing_in crew.members) (stamps_of (now.top + 1) crew)
-      ++ cond (is_passing now) (permitting (now.frame + 1) (next_top setup now) crew.tokens crew.members) [];
+-- what is stamped, and the frame, where it passes the greatest permitted one or not
+abbrev pub beating_by : Bool → Setup → Crew → Now → Planned
+beating_by true setup crew now = let top = now.frame + 1 + setup.frame_freq in record nothing {
+  edits = Draw ∷ Permit (now.frame + 1) top crew.tokens ∷ [];
+  words = Some (words_after crew.members crew.tokens);
+  beat = Some (record { frame = now.frame + 1; top = top });
+  steps = stamping (playing_in crew.members) (stamps_of (now.top + 1) crew) ++ permitting (now.frame + 1) top crew.tokens crew.members;
 }
+beating_by false setup crew now = record nothing {
+  edits = Draw ∷ [];
+  beat = Some (record { frame = now.frame + 1; top = now.top });
+  steps = stamping (playing_in crew.members) (stamps_of (now.top + 1) crew);
+}
+
+abbrev pub beating : Setup → Crew → Now → Planned
+beating setup crew now = beating_by (nat_lt now.top (now.frame + 1)) setup crew now
 
 -- the admins learn what the frame has made of the companies; founders have theirs
 abbrev pub with_founders : Crew → Now → Planned → Planned
