@@ -9,13 +9,17 @@
 mod edit;
 mod marks;
 mod member;
+mod order;
+mod plan;
 mod queue;
 mod step;
 mod waiting;
 
-pub use edit::Edit;
+pub use edit::{Beat, Edit, Offer};
 pub use marks::Marks;
 pub use member::Member;
+pub use order::{apply, apply_all, fresh_token, offer, place_of, rename};
+pub use plan::Plan;
 pub use queue::{Place, Queue};
 pub use step::{Audience, Step, Steps};
 pub use tt_log::deed::{Conns, What};
