@@ -68,10 +68,3 @@ more t p d rule es ss asks arrives none doing tells = record {
       ∙ ap₂ (λ (xs ys : List book.Step). xs ++ ys) doing.told (tells.told ∙ ap (λ (u : Table). (rule u).told) doing.table);
   table = done_more p es ss t asks arrives none ∙ tells.table ∙ ap (λ (u : Table). (rule u).table) doing.table;
 }
-
--- two rules told one by one, or as one
-pub joined : (t : Table) (p : Planned) (d : Deed) (one two : Table → Deed) → IsDoing t p ((d ▹ one) ▹ two) → IsDoing t p (d ▹ (λ u. one u ▹ two))
-joined t p d one two doing = record {
-  told = doing.told ∙ append_assoc d.told (one d.table).told (two (one d.table).table).told;
-  table = doing.table;
-}

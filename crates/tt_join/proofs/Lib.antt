@@ -4,6 +4,7 @@ pub mod Like
 pub mod Permitted
 pub mod Founding
 pub mod Placed
+pub mod Ticked
 pub mod Beating
 pub mod Moving
 pub mod Loading

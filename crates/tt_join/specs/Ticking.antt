@@ -22,7 +22,8 @@ use Rattle.tt_members.specs.declared.step.Step.{Step}
 use Rattle.tt_members.specs.declared.step.Audience.TheVariants.{One, Several, Watching}
 use Rattle.tt_members.specs.Crew.{Crew, founders_in}
 use Rattle.tt_members.specs.Edits.{words_by, words_after, queue_after}
-use Rattle.tt_members.specs.Planned.{Planned, Beat, nothing}
+use Rattle.tt_members.specs.declared.edit.Beat.{Beat}
+use Rattle.tt_members.specs.Planned.{Planned, nothing}
 use Rattle.tt_members.specs.Steps.{says, says_one, says_several, shows}
 use Rattle.tt_members.specs.Leaving.{playing_in, but, left, ending}
 use Rattle.tt_join.specs.declared.input.Now.{Now}
