@@ -9,6 +9,7 @@
 mod edit;
 mod marks;
 mod member;
+mod names;
 mod queue;
 mod step;
 mod waiting;
@@ -16,6 +17,7 @@ mod waiting;
 pub use edit::Edit;
 pub use marks::Marks;
 pub use member::Member;
+pub use names::{NameBad, name_for};
 pub use queue::{Place, Queue};
 pub use step::{Audience, Step, Steps};
 pub use tt_log::deed::{Conns, What};
