@@ -2,6 +2,7 @@
 use Rattle.std.specs.Prelude.{ℕ, ◌+◌, ◌==◌, Bool, true, false, not, ◌&&◌, cond, List, [], ◌∷◌, ◌++◌, map, filter, take, drop, Option, Some, None}
 use Rattle.std.specs.Prelude.{position}
 use Rattle.tt_world.specs.Random.{next_random}
+use Rattle.tt_rules.specs.declared.status.Status.{Status}
 use Rattle.tt_rules.specs.declared.status.Status.TheVariants.{Map}
 use Rattle.tt_log.specs.Member.{Member, is_playing}
 use Rattle.tt_log.specs.Table.{is_on}
@@ -9,7 +10,7 @@ use Rattle.tt_log.specs.Frames.{fresh_token}
 use Rattle.tt_log.specs.Tick.{drawn}
 use Rattle.tt_members.specs.declared.marks.Marks.{Marks}
 use Rattle.tt_members.specs.declared.edit.Edit.{Edit}
-use Rattle.tt_members.specs.declared.edit.Edit.TheVariants.{Mark, Begin, Draw, Permit, Leave, Unask}
+use Rattle.tt_members.specs.declared.edit.Edit.TheVariants.{Mark, Begin, Draw, Permit, Move, Load, Leave, Unask}
 
 -- ---- a member
 
@@ -51,6 +52,14 @@ abbrev pub permitted_by : Bool → ℕ → ℕ → ℕ × ℕ → Member → Mem
 permitted_by true frame top words m = record m { told = top; token = fresh_token words; token_frame = frame }
 permitted_by false frame top words m = record m { told = top }
 
+-- it has another company
+abbrev pub moved : ℕ → Member → Member
+moved company m = record m { company = company }
+
+-- so many pieces of its map were told, and it has this status
+abbrev pub loaded : ℕ → Status → Member → Member
+loaded pieces status m = record m { status = status; pieces = pieces }
+
 -- ---- members and the queue
 
 -- the members on a connection, changed
@@ -81,6 +90,8 @@ members_by (Mark conn marks) ms = on conn (marked marks) ms
 members_by (Begin conn frame) ms = on conn (loading frame) ms
 members_by Draw ms = map drawn ms
 members_by (Permit frame top words) ms = permitted frame top words ms
+members_by (Move conn company) ms = on conn (moved company) ms
+members_by (Load conn pieces status) ms = on conn (loaded pieces status) ms
 members_by (Leave conn) ms = filter (λ n. not (is_on conn n)) ms
 members_by (Unask conn) ms = ms
 

@@ -1,5 +1,6 @@
 //! One change of the members or of the queue of downloads. Each takes no memory.
 use crate::marks::Marks;
+use tt_rules::Status;
 
 /// One change of the members or of the queue.
 #[derive(Clone, Copy, Debug, PartialEq, Eq)]
@@ -16,6 +17,14 @@ pub enum Edit {
         frame: u32,
         top: u32,
         words: (u32, u32),
+    },
+    /// A member has another company from now on.
+    Move { conn: u32, company: u8 },
+    /// So many pieces of its map were told to a member, and it has this status from now on.
+    Load {
+        conn: u32,
+        pieces: u32,
+        status: Status,
     },
     /// A connection is a member no longer.
     Leave { conn: u32 },
