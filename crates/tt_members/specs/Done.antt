@@ -1,5 +1,5 @@
 -- What a plan does to a table, and that it is what a rule does.
-use Rattle.std.specs.Prelude.{◌≡◌, ℕ, ◌+◌, ◌<◌, Bool, true, false, List, [], ◌∷◌, ◌++◌, filter, nat_lt, not, ◌==◌, Option, Some, None}
+use Rattle.std.specs.Prelude.{◌≡◌, ℕ, ◌+◌, Bool, true, false, List, [], ◌∷◌, ◌++◌, filter, nat_lt, not, ◌==◌, Option, Some, None}
 use Rattle.std.specs.Prelude.{option_map}
 use Rattle.tt_world.specs.declared.setup.Setup.{Setup}
 use Rattle.tt_world.specs.declared.command.Command.{Command}
@@ -7,7 +7,9 @@ use Rattle.tt_log.specs.Origin.{Origin}
 use Rattle.tt_log.specs.Member.{Member}
 use Rattle.tt_log.specs.Table.{Table, option_list}
 use Rattle.tt_log.specs.Deed.{Deed}
-use Rattle.tt_members.specs.Planned.{Planned, Beat, Offer}
+use Rattle.tt_members.specs.declared.edit.Beat.{Beat}
+use Rattle.tt_members.specs.declared.edit.Offer.{Offer}
+use Rattle.tt_members.specs.Planned.{Planned}
 use Rattle.tt_members.specs.Crew.{Crew, Rest, origin_at, table_at, founders_in}
 use Rattle.tt_members.specs.Edits.{on, members_after, queue_after}
 use Rattle.tt_members.specs.Steps.{steps_in, stamped_in}

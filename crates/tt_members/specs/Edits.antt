@@ -1,5 +1,6 @@
 -- Changes of the members, one after another.
-use Rattle.std.specs.Prelude.{ℕ, ◌+◌, ◌==◌, Bool, true, false, not, ◌&&◌, cond, List, [], ◌∷◌, ◌++◌, map, filter, take, drop, Option, Some, None}
+use Rattle.std.specs.Prelude.{ℕ, ◌+◌, ◌==◌, Bool, true, false, not, ◌&&◌, cond, List, [], ◌∷◌, ◌++◌, map, filter, take, drop, Option, Some}
+use Rattle.std.specs.Prelude.{None}
 use Rattle.std.specs.Prelude.{position}
 use Rattle.tt_world.specs.Random.{next_random}
 use Rattle.tt_rules.specs.declared.status.Status.{Status}
@@ -84,6 +85,14 @@ permitted frame top words (m ∷ ms) = cond (is_playing m) (permitted_by (m.toke
 abbrev pub words_after : List Member → ℕ × ℕ → ℕ × ℕ
 words_after [] words = words
 words_after (m ∷ ms) words = words_after ms (words_by m words)
+
+-- what a change makes of the member on its connection
+abbrev pub turned : Edit → Member → Member
+turned (Mark conn marks) m = marked marks m
+turned (Begin conn frame) m = loading frame m
+turned (Move conn company) m = moved company m
+turned (Load conn pieces status) m = loaded pieces status m
+turned other m = m
 
 abbrev pub members_by : Edit → List Member → List Member
 members_by (Mark conn marks) ms = on conn (marked marks) ms

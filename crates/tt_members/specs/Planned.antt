@@ -2,19 +2,10 @@
 use Rattle.std.specs.Prelude.{◌≡◌, ℕ, Bool, false, List, [], Option, None}
 use Rattle.tt_world.specs.declared.command.Command.{Command}
 use Rattle.tt_log.specs.Member.{Member}
+use Rattle.tt_members.specs.declared.edit.Beat.{Beat}
 use Rattle.tt_members.specs.declared.edit.Edit.{Edit}
+use Rattle.tt_members.specs.declared.edit.Offer.{Offer}
 use Rattle.tt_members.specs.declared.step.Step.{Step}
-
--- a frame that is run, and the greatest permitted one behind it
-pub record Beat : Type 0 where
-  pub frame : ℕ
-  pub top : ℕ
-
--- a command that waits from then on, with the company for which it was allowed
-pub record Offer : Type 0 where
-  pub conn : ℕ
-  pub company : ℕ
-  pub command : Command
 
 pub record Planned : Type 0 where
   -- a member that has another name from then on: its connection, and the name

@@ -1,5 +1,5 @@
 -- The order of downloads: what those are told that stand behind a place that is free.
-use Rattle.std.specs.Prelude.{ℕ, zero, suc, ◌+◌, min, List, [], ◌∷◌, ◌++◌, drop, Option, Some, None}
+use Rattle.std.specs.Prelude.{ℕ, zero, suc, ◌+◌, min, List, [], ◌∷◌, drop, Option, Some, None}
 use Rattle.tt_game.specs.declared.message.GameMsg.TheVariants.{ServerWait}
 use Rattle.tt_log.specs.declared.deed.What.{What}
 use Rattle.tt_log.specs.declared.deed.What.TheVariants.{Msg, MapBegin}
@@ -8,7 +8,6 @@ use Rattle.tt_members.specs.declared.edit.Edit.TheVariants.{Begin, Unask}
 use Rattle.tt_members.specs.declared.step.Audience.TheVariants.{One}
 use Rattle.tt_members.specs.declared.step.Step.{Step}
 use Rattle.tt_members.specs.Steps.{says}
-use Rattle.tt_members.specs.Edits.{place_of}
 
 -- what one is told that has come to a place
 abbrev pub news_at : ℕ → What

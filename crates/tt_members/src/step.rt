@@ -60,6 +60,13 @@ impl Steps {
         self.list.as_slice()
     }
 
+    /// There is no step any more. The memory of the list is kept.
+    pub fn clear(&mut self)
+        ensures none { self.new ≡ [] }
+    {
+        self.list.clear();
+    }
+
     /// One step more.
     pub fn tell(&mut self, to: Audience, what: What) -> Result<(), OutOfMemory>
         ensures told { OnOk result (self.new ≡ self.old ++ says to what ∷ []) }
