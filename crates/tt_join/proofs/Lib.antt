@@ -8,3 +8,4 @@ pub mod Ticked
 pub mod Beating
 pub mod Moving
 pub mod Loading
+pub mod Welcomes

@@ -3,3 +3,4 @@ pub mod Places
 pub mod Behind
 pub mod Left
 pub mod Marked
+pub mod NameLaws
