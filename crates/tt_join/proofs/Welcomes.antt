@@ -121,7 +121,7 @@ company-stands setup crew frame top r names m stands =
 password-by : (password : List ℕ) (setup : Setup) (crew : Crew) (frame top : ℕ) (r : Rest) (names : Option (ℕ × List ℕ)) (m : Member)
     → Stands names m (table_at crew frame top r)
     → Does setup crew frame top r (λ o t. password_step_by password o m t)
-      (record (to_password_by password setup frame crew.members crew.digests m) { names = names })
+    (record (to_password_by password setup frame crew.members crew.digests m) { names = names })
 password-by [] setup crew frame top r names m stands = company-stands setup crew frame top r names m stands
 password-by (b ∷ bs) setup crew frame top r names m stands =
     let t = table_at crew frame top r in
@@ -137,7 +137,7 @@ pub join_does : (setup : Setup) (crew : Crew) (frame top : ℕ) (r : Rest) (m : 
 join_does setup crew frame top r m wanted name company rise is given =
     let o = origin_at setup r in let t = table_at crew frame top r in
     let d = password-by setup.password setup crew frame top r (Some (m.conn, name)) (record m { name = name; asked = company })
-        (as-named name company m t rise is) in
+    (as-named name company m t rise is) in
     record {
       told = d.told ∙ ap (λ (n : List ℕ). (password_step o (record m { name = n; asked = company }) t).told) given;
       table = d.table ∙ ap (λ (n : List ℕ). (password_step o (record m { name = n; asked = company }) t).table) given;

@@ -5,7 +5,10 @@
 //! leaves are what the rule of the game's book says of the whole table.
 #![tactic(auto)]
 
+mod entering;
 mod input;
+mod members;
 
 pub use input::{Input, Now};
-pub use tt_members::{Audience, Conns, Step, What};
+pub use members::Members;
+pub use tt_members::{Audience, Conns, Member, Plan, Step, What};
