@@ -1,0 +1,5 @@
+pub mod Inputs
+pub mod Ticking
+pub mod Joining
+pub mod Members
+pub mod Entering

@@ -1,0 +1,14 @@
+//! Plans what each event makes of the members of a game, without a change of them, and puts a plan in force without memory.
+//!
+//! A server holds one `Members`. `plan` says what an `Input` does at a time `Now`, and takes all memory that is wanted; the
+//! server turns the plan's steps into bytes; `commit` puts the plan in force, and takes none. What a plan tells and what it
+//! leaves are what the rule of the game's book says of the whole table.
+#![tactic(auto)]
+
+mod entering;
+mod input;
+mod members;
+
+pub use input::{Input, Now};
+pub use members::Members;
+pub use tt_members::{Audience, Conns, Member, Plan, Step, What};
