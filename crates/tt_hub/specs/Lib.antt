@@ -5,5 +5,3 @@ pub mod Stepped
 pub mod Hub
 pub mod Laws
 pub mod Running
-pub mod Waiting
-pub mod Outgoing

@@ -1,6 +1,6 @@
 //! What connections are told and take, beside plain lists.
 ghost use Rattle.std.specs.Prelude.{◌≡◌, ◌≤◌};
-ghost use Rattle.tt_hub.specs.Waiting.{opened};
+ghost use Rattle.tt_outgoing.specs.Waiting.{opened};
 
 use std::collections::VecDeque;
 use std::process::Abort;

@@ -1,5 +1,5 @@
 use Rattle.std.proofs.Common.{◌≡◌}
-use Rattle.tt_hub.specs.Waiting.{opened}
+use Rattle.tt_outgoing.specs.Waiting.{opened}
 use Rattle.tt_tests_rules.proofs.outs.calls_by_chance_are_those_of_plain_lists.Given as goal
 
 -- two connections are opened

@@ -1,0 +1,4 @@
+mod OutsParts
+mod OutsLogs
+mod OutsSeats
+mod OutsTakes
