@@ -1,5 +1,6 @@
 -- Unless it is out of step, a client has just what its stream shows.
-use Rattle.std.proofs.Common.{◌≡◌, ◌⊎◌, inl, inr, ℕ, zero, suc, Bool, true, false, cond, List, [], ◌∷◌, ◌++◌, Option, Some, None, refl, sym, ap, ap₂, ◌∙◌, subst}
+use Rattle.std.proofs.Common.{◌≡◌, ◌⊎◌, inl, inr, ℕ, zero, suc, Bool, true, false, cond, List, [], ◌∷◌, ◌++◌, Option, Some, None, refl, sym}
+use Rattle.std.proofs.Common.{ap, ap₂, ◌∙◌, subst}
 use Rattle.std.specs.Prelude.{◌&&◌, not, nat_lt, ◌==◌, fold}
 use Rattle.tt_lockstep.specs.Told as told
 use Rattle.tt_lockstep.specs.Told.{Told}
@@ -7,7 +8,8 @@ use Rattle.tt_lockstep.specs.Shown as lockstep
 use Rattle.tt_lockstep.specs.Client as abstracted
 use Rattle.tt_lockstep.specs.Client.{Client, Following, Desync, hears, hearing, one_frame, run_to, is_recent}
 use Rattle.tt_game.specs.declared.message.GameMsg.{GameMsg}
-use Rattle.tt_game.specs.declared.message.GameMsg.TheVariants.{ServerFull, ServerBanned, ServerError, ServerWelcome, ServerClientInfo, ServerMove}
+use Rattle.tt_game.specs.declared.message.GameMsg.TheVariants.{ServerFull, ServerBanned, ServerError, ServerWelcome, ServerClientInfo}
+use Rattle.tt_game.specs.declared.message.GameMsg.TheVariants.{ServerMove}
 use Rattle.tt_world.specs.declared.command.Entry.{Entry}
 use Rattle.tt_world.specs.World.{WorldState}
 use Rattle.tt_log.specs.Shown.{Item, Place, Phase, Joining, Loaded, EndedWith, ShutDown, WrongAt, Shown, item_told, place_then}
@@ -78,7 +80,8 @@ told_end (Some ServerBanned) = refl
 told_end (Some (ServerError code)) = refl
 told_end other = refl
 
-phase_is : (h : lockstep.Shown WorldState Entry) (f : ℕ) (i : Item) → phase_by (client_mark (Following h f)) i ≡ told_phase (book.phase_by h i)
+phase_is : (h : lockstep.Shown WorldState Entry) (f : ℕ) (i : Item) → phase_by (client_mark (Following h f)) i ≡ told_phase (book.phase_by
+    h i)
 phase_is lockstep.Joining f i = refl
 phase_is (lockstep.Running v) f i = refl
 phase_is lockstep.EndedJoining f i = told_end i.msg
