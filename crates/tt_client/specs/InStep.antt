@@ -9,6 +9,8 @@ use Rattle.tt_world.specs.World.{WorldState}
 use Rattle.tt_log.specs.Origin.{IsOrigin, Origin, world_at}
 use Rattle.tt_log.specs.History.{AreEvents, journal_of}
 use Rattle.tt_log.specs.Told.{sent}
+use Rattle.tt_log.specs.Shown.{Item, items_in}
+use Rattle.tt_in_step.specs.Ends.{SomeItem, TellsCode, TellsShutdown}
 use Rattle.tt_in_step.specs.Fed.{IsPlayer}
 use Rattle.tt_client.specs.declared.state.State.{State}
 use Rattle.tt_client.specs.declared.state.State.TheVariants as state
@@ -35,23 +37,26 @@ pub record IsSent (o : Origin) (events : List Event) (conn : ℕ) (bytes : List 
   pub later : List ℕ
   pub front : sent o events conn ≡ bytes ++ later
 
--- it is neither out of step, nor told what is not permitted
-abbrev pub IsRight : State → Type 0
-IsRight (state.Desync frame mine theirs) = ⊥
-IsRight (state.Wrong at) = ⊥
-IsRight other = Unit
+-- it joins, plays, or was ended by an end that stands there: by an error with its code, because the server is full, or because the
+-- game is over. It is neither out of step, nor told what is not permitted
+abbrev pub IsRight : State → List Item → Type 0
+IsRight state.Joining items = Unit
+IsRight state.Running items = Unit
+IsRight (state.Ended code) items = SomeItem (TellsCode code) items
+IsRight state.Shutdown items = SomeItem TellsShutdown items
+IsRight other items = ⊥
 
--- once it has its map, its world is that of the journal at its frame; and it is never out of step, nor wrong
-pub record IsInStep (o : Origin) (events : List Event) (p : Player (Runner WorldState Entry)) : Type 0 where
+-- once it has its map, its world is that of the journal at its frame; and it stands rightly, by what began in its stream
+pub record IsInStep (o : Origin) (events : List Event) (items : List Item) (p : Player (Runner WorldState Entry)) : Type 0 where
   pub world : (w : WorldState) (f : ℕ) → world_of p ≡ Some w → frame_of p ≡ Some f → w ≡ world_at o (journal_of o events) f
-  pub right : IsRight (state_of p)
+  pub right : IsRight (state_of p) items
 
 -- a piece of what a server sent leaves a client in step
 abbrev pub FeedsInStep : Held → List ℕ → Held → Type 0
 FeedsInStep old piece new = (o : Origin) (events : List Event) (conn : ℕ) (login : Login) (calls : List Call) → old ≡ held login calls
-    → IsSent o events conn (fed (calls ++ Feed piece ∷ [])) → IsInStep o events new.player
+    → IsSent o events conn (fed (calls ++ Feed piece ∷ [])) → IsInStep o events (items_in (fed (calls ++ Feed piece ∷ []))) new.player
 
 -- and so do frames that it runs
 abbrev pub AdvancesInStep : Held → Held → Type 0
 AdvancesInStep old new = (o : Origin) (events : List Event) (conn : ℕ) (login : Login) (calls : List Call) → old ≡ held login calls
-    → IsSent o events conn (fed calls) → IsInStep o events new.player
+    → IsSent o events conn (fed calls) → IsInStep o events (items_in (fed calls)) new.player
