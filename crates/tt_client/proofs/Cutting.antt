@@ -69,20 +69,28 @@ partial_cut whole bytes items place at fits partial so_far =
     let bytes_left = drop place bytes in
     ap (λ (xs : List Item). let c : Cut = record { items = xs; rest = bytes_left; at = at } in c) (sym (append-nil items))
     ∙ ap (λ (c : Cut). with_items items c)
-    (sym (cut_so at bytes_left [] (rest_of bytes_left) (read_partial 32767 bytes_left (omega arith) (omega arith) (IsBytes-drop place bytes fits) partial)))
+    (sym (cut_so at bytes_left [] (rest_of bytes_left) (read_partial 32767 bytes_left (omega arith) (omega arith) (IsBytes-drop place bytes
+    fits) partial)))
     ∙ so_far
 
-pub bad_size_cut : (whole : Cut) (bytes : List ℕ) (items : List Item) (place at n : ℕ) → IsBytes bytes → IsBadSize 32767 (drop place bytes) n
+pub bad_size_cut : (whole : Cut) (bytes : List ℕ) (items : List Item) (place at n : ℕ) → IsBytes bytes → IsBadSize 32767 (drop place bytes)
+    n
     → with_items items (cut_at at (drop place bytes)) ≡ whole
     → record { items = items ++ record { at = at; msg = None } ∷ []; rest = []; at = at } ≡ whole
 bad_size_cut whole bytes items place at n fits bad so_far =
     let bytes_left = drop place bytes in
     ap (λ (c : Cut). with_items items c)
-    (sym (cut_so at bytes_left [] (bad_size n) (read_bad_size 32767 bytes_left n (omega arith) (omega arith) (IsBytes-drop place bytes fits) bad)))
+    (sym (cut_so at bytes_left [] (bad_size n) (read_bad_size 32767 bytes_left n (omega arith) (omega arith) (IsBytes-drop place bytes
+    fits) bad)))
     ∙ so_far
 
 none_whole : IsPartial 32767 []
-none_whole = record { least = λ two. absurd (omega (arith, two)); most = λ two. absurd (omega (arith, two)); short = λ two. absurd (omega (arith, two)) }
+none_whole = record {
+  least = λ two. absurd (omega (arith, two));
+  most = λ two. absurd (omega (arith, two));
+  short = λ two. absurd (omega
+      (arith, two));
+}
 
 -- all bytes were cut
 pub all_cut : (whole : Cut) (bytes : List ℕ) (items : List Item) (place at : ℕ) → length bytes ≤ place

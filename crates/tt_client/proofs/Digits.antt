@@ -27,7 +27,10 @@ hex_digit (suc (suc (suc (suc (suc (suc (suc (suc (suc (suc (suc (suc zero))))))
 hex_digit (suc (suc (suc (suc (suc (suc (suc (suc (suc (suc (suc (suc (suc zero))))))))))))) low = refl
 hex_digit (suc (suc (suc (suc (suc (suc (suc (suc (suc (suc (suc (suc (suc (suc zero)))))))))))))) low = refl
 hex_digit (suc (suc (suc (suc (suc (suc (suc (suc (suc (suc (suc (suc (suc (suc (suc zero))))))))))))))) low = refl
-hex_digit (suc (suc (suc (suc (suc (suc (suc (suc (suc (suc (suc (suc (suc (suc (suc (suc n)))))))))))))))) low = absurd (omega (arith, low))
+hex_digit (suc (suc (suc (suc (suc (suc (suc (suc (suc (suc (suc (suc (suc (suc (suc (suc n)))))))))))))))) low = absurd (omega (
+  arith,
+  low,
+))
 
 abbrev AreBytes : List ℕ → Type 0
 AreBytes xs = AllByRecursion (λ b. b < 256) xs
@@ -50,7 +53,8 @@ word_bytes n = (omega arith, (omega arith, (omega arith, (omega arith, tt))))
 digest_are_bytes : (h : List ℕ) (n : ℕ) → AreBytes (digest_bytes h n)
 unfolding digest_bytes
 digest_are_bytes h zero = tt
-digest_are_bytes h (suc n) = all_append (digest_bytes h n) (to_le_bytes w32 (slice_index h n)) (digest_are_bytes h n) (word_bytes (slice_index h n))
+digest_are_bytes h (suc n) = all_append (digest_bytes h n) (to_le_bytes w32 (slice_index h n)) (digest_are_bytes h n) (word_bytes
+    (slice_index h n))
 
 md5_are_bytes : (m : List ℕ) → AreBytes (md5 m)
 unfolding md5
@@ -60,5 +64,10 @@ pub is_password_digest : (password id : List ℕ) (seed : ℕ) → is_digest (pa
 unfolding is_digest
 is_password_digest password id seed =
     let hash = md5 (salted password id seed) in
-    let size : length (encode_with lower_digits hash) ≡ 32 = omega (arith, length-encode_with lower_digits hash, length-md5 (salted password id seed)) in
+    let size : length (encode_with lower_digits hash) ≡ 32 = omega (
+      arith,
+      length-encode_with lower_digits hash,
+      length-md5 (salted
+          password id seed),
+    ) in
     rw (size, hex_all hash (md5_are_bytes (salted password id seed))) refl

@@ -16,7 +16,8 @@ cut_held login player cut = held_by login (heard_all running login cut.items pla
 -- a piece of a client that goes on
 fed_on_is : (login : Login) (player : P) (rest piece : List ℕ) (at : ℕ) → is_on running login player ≡ true
     → fed_on piece (held_by login player rest at) ≡ cut_held login player (cut_at at (rest ++ piece))
-fed_on_is login player rest piece at on = ap (λ (b : Bool). cond b (cut_held login player (cut_at at (rest ++ piece))) (held_by login player rest at)) on
+fed_on_is login player rest piece at on = ap (λ (b : Bool). cond b (cut_held login player (cut_at at (rest ++ piece))) (held_by login
+    player rest at)) on
 
 pub fed_off : (h : Held) (piece : List ℕ) → is_on running h.login h.player ≡ false → h ≡ fed_on piece h
 fed_off h piece off = sym (ap (λ (b : Bool). cond b (cut_held h.login h.player (cut_at h.at (h.rest ++ piece))) h) off)

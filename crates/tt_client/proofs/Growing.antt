@@ -1,5 +1,6 @@
 -- What begins in a stream stays there, whatever comes behind.
-use Rattle.std.proofs.Common.{◌≡◌, ℕ, ◌+◌, ◌≤◌, List, [], ◌∷◌, ◌++◌, length, drop, refl, sym, ap, ap₂, ◌∙◌, subst, append_assoc, append-nil, arith, lit<}
+use Rattle.std.proofs.Common.{◌≡◌, ℕ, ◌+◌, ◌≤◌, List, [], ◌∷◌, ◌++◌, length, drop, refl, sym, ap, ap₂, ◌∙◌, subst, append_assoc, append-nil}
+use Rattle.std.proofs.Common.{arith, lit<}
 use Rattle.std.specs.Prelude.{slice_index}
 use Rattle.std.specs.List.{flat_map}
 use Rattle.std.proofs.lemmas.List.{drop_at}
@@ -17,7 +18,8 @@ use Rattle.tt_client.proofs.InSteps.{bytes_back, bytes_front, bytes_join}
 grown_by : (before piece : List ℕ) (more : List Item) → items_in (before ++ piece) ≡ items_in before ++ more
     → items_in (before ++ piece) ≡ items_in before ++ new_items before piece
 grown_by before piece more is =
-    let new : new_items before piece ≡ more = ap (λ (xs : List Item). drop (length (items_in before)) xs) is ∙ drop_at (items_in before) more (length (items_in before)) refl in
+    let new : new_items before piece ≡ more = ap (λ (xs : List Item). drop (length (items_in before)) xs) is ∙ drop_at (items_in before)
+    more (length (items_in before)) refl in
     is ∙ ap (λ (xs : List Item). items_in before ++ xs) (sym new)
 
 size_on : (rest piece : List ℕ) → 2 ≤ length rest → told_size (rest ++ piece) ≡ told_size rest
@@ -45,7 +47,8 @@ broken_on before piece ps n broken = record {
 
 read_so : (bytes : List ℕ) (ps : List Packet) (e : End) → IsBytes bytes → Reads 32767 bytes ps e → items_in bytes ≡ items_from 0 ps e
 read_so bytes ps e fits reads =
-    let same = same_reading 32767 bytes (reading 32767 bytes).0 ps (reading 32767 bytes).1 e (lit< tt) (reading_reads 32767 bytes (omega arith) fits) reads in
+    let same = same_reading 32767 bytes (reading 32767 bytes).0 ps (reading 32767 bytes).1 e (lit< tt) (reading_reads 32767 bytes (omega
+    arith) fits) reads in
     ap₂ (λ (qs : List Packet) (f : End). items_from 0 qs f) same.0 same.1
 
 grows_by : (before piece : List ℕ) (e : End) → IsBytes (before ++ piece) → (reading 32767 before).1 ≡ e
@@ -53,11 +56,14 @@ grows_by : (before piece : List ℕ) (e : End) → IsBytes (before ++ piece) →
 grows_by before piece (rest_of rest) fits end =
     let front = bytes_front before piece fits in
     let ps = (reading 32767 before).0 in
-    let old : Reads 32767 before ps (rest_of rest) = subst (λ (e : End). Reads 32767 before ps e) end (reading_reads 32767 before (omega arith) front) in
+    let old : Reads 32767 before ps (rest_of rest) = subst (λ (e : End). Reads 32767 before ps e) end (reading_reads 32767 before (omega
+    arith) front) in
     let more : IsBytes (rest ++ piece) =
-    bytes_join rest piece (bytes_back (flat_map packet_bytes ps) rest (subst (λ (xs : List ℕ). IsBytes xs) old.splits.whole front)) (bytes_back before piece fits) in
+    bytes_join rest piece (bytes_back (flat_map packet_bytes ps) rest (subst (λ (xs : List ℕ). IsBytes xs) old.splits.whole front))
+    (bytes_back before piece fits) in
     let later = reading 32767 (rest ++ piece) in
-    let joined = reads_behind 32767 before piece ps later.0 rest later.1 old.splits (reading_reads 32767 (rest ++ piece) (omega arith) more) in
+    let joined = reads_behind 32767 before piece ps later.0 rest later.1 old.splits (reading_reads 32767 (rest ++ piece) (omega arith)
+    more) in
     let known : items_in before ≡ items_from 0 ps (rest_of rest) = ap (λ (e : End). items_from 0 ps e) end in
     grown_by before piece (items_from (behind 0 ps) later.0 later.1)
     (read_so (before ++ piece) (ps ++ later.0) later.1 fits joined ∙ items_behind 0 ps later.0 rest later.1
@@ -65,9 +71,12 @@ grows_by before piece (rest_of rest) fits end =
 grows_by before piece (bad_size n) fits end =
     let front = bytes_front before piece fits in
     let ps = (reading 32767 before).0 in
-    let old : Reads 32767 before ps (bad_size n) = subst (λ (e : End). Reads 32767 before ps e) end (reading_reads 32767 before (omega arith) front) in
+    let old : Reads 32767 before ps (bad_size n) = subst (λ (e : End). Reads 32767 before ps e) end (reading_reads 32767 before (omega
+    arith) front) in
     let known : items_in before ≡ items_from 0 ps (bad_size n) = ap (λ (e : End). items_from 0 ps e) end in
-    grown_by before piece [] (read_so (before ++ piece) ps (bad_size n) fits (broken_on before piece ps n old) ∙ sym known ∙ sym (append-nil (items_in before)))
+    grown_by before piece [] (read_so (before ++ piece) ps (bad_size n) fits (broken_on before piece ps n old) ∙ sym known ∙ sym
+    (append-nil (items_in before)))
 
-pub items_grow : (before piece : List ℕ) → IsBytes (before ++ piece) → items_in (before ++ piece) ≡ items_in before ++ new_items before piece
+pub items_grow : (before piece : List ℕ) → IsBytes (before ++ piece) → items_in (before ++ piece) ≡ items_in before ++ new_items before
+    piece
 items_grow before piece fits = grows_by before piece (reading 32767 before).1 fits refl

@@ -1,5 +1,6 @@
 -- A client, call by call, is what it is over all calls.
-use Rattle.std.proofs.Common.{◌≡◌, ℕ, zero, suc, ◌+◌, Bool, true, false, cond, List, [], ◌∷◌, ◌++◌, length, map, Option, None, refl, sym, ap, ap₂, ◌∙◌, subst, append_assoc, arith, lit<}
+use Rattle.std.proofs.Common.{◌≡◌, ℕ, zero, suc, ◌+◌, Bool, true, false, cond, List, [], ◌∷◌, ◌++◌, length, map, Option, None, refl, sym}
+use Rattle.std.proofs.Common.{ap, ap₂, ◌∙◌, subst, append_assoc, arith, lit<}
 use Rattle.std.specs.Prelude.{◌&&◌, not, min}
 use Rattle.std.specs.List.{flat_map}
 use Rattle.std.proofs.lemmas.Bool.{false≢true}
@@ -8,7 +9,8 @@ use Rattle.tt_frame.specs.Stream.{End, rest_of, bad_size, Reads}
 use Rattle.tt_frame.specs.StreamReading.{reading, reading_within}
 use Rattle.tt_frame.proofs.StreamLaws.{reading_reads, same_reading}
 use Rattle.tt_lockstep.specs.Told as told
-use Rattle.tt_lockstep.specs.Runner.{Runner, RunnerJoining, RunnerRunning, RunnerEndedJoining, RunnerEnded, RunnerWrongJoining, RunnerWrong, RunnerDesync}
+use Rattle.tt_lockstep.specs.Runner.{Runner, RunnerJoining, RunnerRunning, RunnerEndedJoining, RunnerEnded, RunnerWrongJoining, RunnerWrong}
+use Rattle.tt_lockstep.specs.Runner.{RunnerDesync}
 use Rattle.tt_lockstep.specs.Runner.{runner_advanced, runner_hears}
 use Rattle.tt_world.specs.declared.command.Command.{Command}
 use Rattle.tt_world.specs.declared.command.Entry.{Entry}
@@ -21,7 +23,8 @@ use Rattle.tt_client.specs.Calls.{Call, Step, Feed, Advance, Submit, Take, Hear,
 use Rattle.tt_client.specs.Cutting.{behind, cut_at, cut_off, items_on, told_behind, told_items, unread}
 use Rattle.tt_client.specs.Held.{Held, fed_on, held, held_after, held_first, held_on, with_call}
 use Rattle.tt_client.specs.Known.{known}
-use Rattle.tt_client.specs.Player.{Player, Mark, Joins, Plays, Ends, Strays, Off, after, heard, heard_all, heard_as, is_off, is_on, joined, learnt, phase_by, plays, run_as, said_behind, stepped, told_place}
+use Rattle.tt_client.specs.Player.{Player, Mark, Joins, Plays, Ends, Strays, Off, after, heard, heard_all, heard_as, is_off, is_on, joined}
+use Rattle.tt_client.specs.Player.{learnt, phase_by, plays, run_as, said_behind, stepped, told_place}
 use Rattle.tt_client.specs.Runs.{client_run, runner_frame, runner_mark, runner_permitted, running}
 use Rattle.tt_client.specs.Saying.{Saying, with_bytes}
 use Rattle.tt_client.specs.Answers.{command_bytes}
@@ -95,7 +98,8 @@ behind_both at (x ∷ ps) qs = behind_both (at + size_of x) ps qs
 -- ---- a bad size ends it
 
 stray_ends : (r : Runner WorldState Entry) (at : ℕ)
-    → (let q = runner_hears known r told.Stray in goes_on (phase_by (runner_mark q) (record { at = at; msg = None })) && not (is_off (runner_mark q))) ≡ false
+    → (let q = runner_hears known r told.Stray in goes_on (phase_by (runner_mark q) (record { at = at; msg = None })) && not (is_off
+    (runner_mark q))) ≡ false
 stray_ends RunnerJoining at = refl
 stray_ends (RunnerRunning k) at = refl
 stray_ends RunnerEndedJoining at = refl
@@ -105,17 +109,22 @@ stray_ends (RunnerWrong k) at = refl
 stray_ends (RunnerDesync k f mine theirs) at = refl
 
 bad_by : (b : Bool) (login : Login) (at : ℕ) (p : P) → is_on running login p ≡ b
-    → is_on running login (cond b (let q = runner_hears known p.runs told.Stray in heard_as login (record { at = at; msg = None }) (runner_mark q) q p) p) ≡ false
+    → is_on running login (cond b (let q = runner_hears known p.runs told.Stray in heard_as login (record { at = at; msg = None })
+    (runner_mark q) q p) p) ≡ false
 bad_by true login at p is = stray_ends p.runs at
 bad_by false login at p is = is
 
-bad_ends : (login : Login) (ps : List Packet) (n at : ℕ) (p : P) → is_on running login (heard_all running login (items_from at ps (bad_size n)) p) ≡ false
+bad_ends : (login : Login) (ps : List Packet) (n at : ℕ) (p : P) → is_on running login (heard_all running login (items_from at ps (bad_size
+    n)) p) ≡ false
 bad_ends login [] n at p = bad_by (is_on running login p) login at p refl
-bad_ends login (x ∷ ps) n at p = bad_ends login ps n (at + size_of x) (heard running login (record { at = at; msg = read_msg x.kind x.body }) p)
+bad_ends login (x ∷ ps) n at p = bad_ends login ps n (at + size_of x) (heard running login (record {
+  at = at;
+  msg = read_msg x.kind x.body;
+}) p)
 
 -- ---- pieces
 
-hears_behind : (login : Login) (items : List Item) (steps : List Step) (p : P)
+pub hears_behind : (login : Login) (items : List Item) (steps : List Step) (p : P)
     → after running login p (map (λ i. Hear i) items ++ steps) ≡ after running login (heard_all running login items p) steps
 hears_behind login [] steps p = refl
 hears_behind login (i ∷ items) steps p = hears_behind login items steps (heard running login i p)
@@ -128,30 +137,42 @@ record Alike (before : List ℕ) (h : Held) (p : P) : Type 0 where
 
 abbrev cut_held : Held → List ℕ → Held
 cut_held h piece =
-    let cut = cut_at h.at (h.rest ++ piece) in record h { player = heard_all running h.login cut.items h.player; rest = cut.rest; at = cut.at }
+    let cut = cut_at h.at (h.rest ++ piece) in record h {
+      player = heard_all running h.login cut.items h.player;
+      rest = cut.rest;
+      at =
+          cut.at;
+    }
 
 -- what is behind the piece, where it goes on
 record Behind (before piece : List ℕ) (h : Held) (p : P) : Type 0 where
   heard : (cut_held h piece).player ≡ heard_all running h.login (new_items before piece) p
-  rest : is_on running h.login (heard_all running h.login (new_items before piece) p) ≡ true → (reading 32767 (before ++ piece)).1 ≡ rest_of (cut_held h piece).rest
+  rest : is_on running h.login (heard_all running h.login (new_items before piece) p) ≡ true → (reading 32767 (before ++ piece)).1 ≡
+      rest_of (cut_held h piece).rest
   at : (cut_held h piece).at ≡ told_place (cut_off (before ++ piece))
 
 rest_by : (before piece : List ℕ) (login : Login) (from : ℕ) (ps : List Packet) (e : End) (p : P) → (reading 32767 (before ++ piece)).1 ≡ e
-    → is_on running login (heard_all running login (items_from from ps e) p) ≡ true → (reading 32767 (before ++ piece)).1 ≡ rest_of (unread e)
+    → is_on running login (heard_all running login (items_from from ps e) p) ≡ true → (reading 32767 (before ++ piece)).1 ≡ rest_of (unread
+    e)
 rest_by before piece login from ps (rest_of r) p is on = is
 rest_by before piece login from ps (bad_size n) p is on = absurd (false≢true (sym (bad_ends login ps n from p) ∙ on))
 
-piece_behind : (before piece : List ℕ) (h : Held) (p : P) → IsBytes (before ++ piece) → is_on running h.login p ≡ true → Alike before h p → Behind before piece h p
+piece_behind : (before piece : List ℕ) (h : Held) (p : P) → IsBytes (before ++ piece) → is_on running h.login p ≡ true → Alike before h p →
+    Behind before piece h p
 piece_behind before piece h p fits on alike =
     let front = bytes_front before piece fits in
     let end = alike.rest on in
     let ps = (reading 32767 before).0 in
-    let old : Reads 32767 before ps (rest_of h.rest) = subst (λ (e : End). Reads 32767 before ps e) end (reading_reads 32767 before (omega arith) front) in
+    let old : Reads 32767 before ps (rest_of h.rest) = subst (λ (e : End). Reads 32767 before ps e) end (reading_reads 32767 before (omega
+    arith) front) in
     let more : IsBytes (h.rest ++ piece) =
-    bytes_join h.rest piece (bytes_back (flat_map packet_bytes ps) h.rest (subst (λ (xs : List ℕ). IsBytes xs) old.splits.whole front)) (bytes_back before piece fits) in
+    bytes_join h.rest piece (bytes_back (flat_map packet_bytes ps) h.rest (subst (λ (xs : List ℕ). IsBytes xs) old.splits.whole front))
+    (bytes_back before piece fits) in
     let later = reading 32767 (h.rest ++ piece) in
-    let joined = reads_behind 32767 before piece ps later.0 h.rest later.1 old.splits (reading_reads 32767 (h.rest ++ piece) (omega arith) more) in
-    let same = same_reading 32767 (before ++ piece) (reading 32767 (before ++ piece)).0 (ps ++ later.0) (reading 32767 (before ++ piece)).1 later.1 (lit< tt)
+    let joined = reads_behind 32767 before piece ps later.0 h.rest later.1 old.splits (reading_reads 32767 (h.rest ++ piece) (omega arith)
+    more) in
+    let same = same_reading 32767 (before ++ piece) (reading 32767 (before ++ piece)).0 (ps ++ later.0) (reading 32767 (before ++ piece)).1
+    later.1 (lit< tt)
     (reading_reads 32767 (before ++ piece) (omega arith) fits) joined in
     let from = cut_off before in
     let new : new_items before piece ≡ items_from from later.0 later.1 = cut_on before piece h.rest front fits more end in
@@ -170,7 +191,8 @@ fed_by true before piece h p fits is alike =
     let on = piece_behind before piece h p fits is alike in record { same = on.heard; rest = on.rest; at = λ still. on.at }
 fed_by false before piece h p fits is alike =
     let stays = over_hears h.login (new_items before piece) p is in
-    let off : is_on running h.login (heard_all running h.login (new_items before piece) p) ≡ false = ap (λ (q : P). is_on running h.login q) stays ∙ is in
+    let off : is_on running h.login (heard_all running h.login (new_items before piece) p) ≡ false = ap (λ (q : P). is_on running h.login
+    q) stays ∙ is in
     record {
       same = alike.same ∙ sym stays;
       rest = λ on. absurd (false≢true (sym off ∙ on));
@@ -189,11 +211,13 @@ fed_login_by : (b : Bool) (h : Held) (piece : List ℕ) → (cond b (cut_held h 
 fed_login_by true h piece = refl
 fed_login_by false h piece = refl
 
-run_back : (b : Bool) (login : Login) (x p : P) → is_on running login p ≡ b → is_on running login (cond b x p) ≡ true → is_on running login p ≡ true
+run_back : (b : Bool) (login : Login) (x p : P) → is_on running login p ≡ b → is_on running login (cond b x p) ≡ true → is_on running login
+    p ≡ true
 run_back true login x p is on = is
 run_back false login x p is on = on
 
-say_back : (b : Bool) (login : Login) (saying : Saying) (p : P) → is_on running login (cond b (record p { saying = saying }) p) ≡ true → is_on running login p ≡ true
+say_back : (b : Bool) (login : Login) (saying : Saying) (p : P) → is_on running login (cond b (record p { saying = saying }) p) ≡ true →
+    is_on running login p ≡ true
 say_back true login saying p on = on
 say_back false login saying p on = on
 
@@ -212,7 +236,8 @@ run_call login n p on =
     let r = runner_advanced known n p.runs in
     run_back (is_on running login p) login (run_as (runner_frame p.runs) (runner_frame r) (runner_permitted r) r p) p refl on
 
-say_call : (login : Login) (company : ℕ) (command : Command) (p : P) → is_on running login (stepped running login p (Say company command)) ≡ true
+say_call : (login : Login) (company : ℕ) (command : Command) (p : P) → is_on running login (stepped running login p (Say company command))
+    ≡ true
     → is_on running login p ≡ true
 say_call login company command p on =
     say_back (is_on running login p && plays (runner_mark p.runs)) login (with_bytes (command_bytes company command) p.saying) p on
@@ -221,7 +246,8 @@ calls_alike : (login : Login) (before : List ℕ) (calls : List Call) (h : Held)
     → Alike before h p → (held_after h calls).player ≡ after running login p (steps_behind before calls)
 calls_alike login before [] h p is fits alike = alike.same
 calls_alike login before (Feed piece ∷ calls) h p is fits alike =
-    let whole : IsBytes ((before ++ piece) ++ fed calls) = subst (λ (xs : List ℕ). IsBytes xs) (sym (append_assoc before piece (fed calls))) fits in
+    let whole : IsBytes ((before ++ piece) ++ fed calls) = subst (λ (xs : List ℕ). IsBytes xs) (sym (append_assoc before piece (fed
+    calls))) fits in
     let new = new_items before piece in
     let next : Alike (before ++ piece) (fed_on piece h) (heard_all running login new p) =
     subst (λ (l : Login). Alike (before ++ piece) (fed_on piece h) (heard_all running l new p)) is

@@ -71,7 +71,8 @@ heard_by login place number company at msg saying acked t is =
 pub join_goes : (login : Login) (place next : Place) (number company at : ℕ) (msg : GameMsg) (answers said : List ℕ) (saying : Saying)
     (acked : Option ℕ) → (place ≡ InPlay → ⊥) → told_at place msg ≡ told.Other → next ≡ moves_on place msg
     → said ≡ answer login place (Some msg)
-    → at_door next (learnt (Some msg) number company).client (learnt (Some msg) number company).company (with_bytes (answers ++ said) saying) acked
+    → at_door next (learnt (Some msg) number company).client (learnt (Some msg) number company).company (with_bytes (answers ++ said)
+    saying) acked
     ≡ heard running login (record { at = at; msg = Some msg }) (at_door place number company (with_bytes answers saying) acked)
 join_goes login place next number company at msg answers said saying acked out is moved answered =
     let new = learnt (Some msg) number company in
@@ -123,7 +124,8 @@ pub join_loads : (login : Login) (frame size number company at : ℕ) (come answ
       saying = with_bytes (answers ++ spelling ClientMapOk) saying;
       acked = acked;
     } in p)
-    ≡ heard running login (record { at = at; msg = Some ServerMapDone }) (at_door (Fetching frame size come) number company (with_bytes answers saying) acked)
+    ≡ heard running login (record { at = at; msg = Some ServerMapDone }) (at_door (Fetching frame size come) number company (with_bytes
+    answers saying) acked)
 join_loads login frame size number company at come answers w k saying acked is runs =
     let old = with_bytes answers saying in
     let loaded : Place → Runner WorldState Entry → Saying → P = λ place r s. record {
@@ -136,16 +138,20 @@ join_loads login frame size number company at come answers w k saying acked is r
       acked = acked;
     } in
     sym (heard_by login (Fetching frame size come) number company at (Some ServerMapDone) old acked (told.Map frame w) is
-    ∙ ap (λ (t : Told WorldState Entry). loaded (unless_parted t InPlay) (runner_hears known RunnerJoining (told.Map frame w)) (with_bytes (spelling ClientMapOk) old)) is
+    ∙ ap (λ (t : Told WorldState Entry). loaded (unless_parted t InPlay) (runner_hears known RunnerJoining (told.Map frame w)) (with_bytes
+    (spelling ClientMapOk) old)) is
     ∙ ap₂ (λ (r : Runner WorldState Entry) (s : Saying). loaded InPlay r s) (sym runs) (say_more answers (spelling ClientMapOk) saying))
 
 -- the end of a map is its map, or not permitted
-whole_tells : (b : Bool) (frame : ℕ) (come : List ℕ) (w : Option WorldState) → w ≡ result_ok (map_in come) → whole_map b frame come ≡ told.Other → ⊥
+whole_tells : (b : Bool) (frame : ℕ) (come : List ℕ) (w : Option WorldState) → w ≡ result_ok (map_in come) → whole_map b frame come ≡
+    told.Other → ⊥
 whole_tells false frame come w is other = let no : (let t : Told WorldState Entry = told.Stray in t) ≡ told.Other = other in cc
 whole_tells true frame come None is other =
-    let no : (let t : Told WorldState Entry = told.Stray in t) ≡ told.Other = ap (λ (w : Option WorldState). book.map_told frame w) is ∙ other in cc
+    let no : (let t : Told WorldState Entry = told.Stray in t) ≡ told.Other = ap (λ (w : Option WorldState). book.map_told frame w) is ∙
+    other in cc
 whole_tells true frame come (Some v) is other =
-    let no : (let t : Told WorldState Entry = told.Map frame v in t) ≡ told.Other = ap (λ (w : Option WorldState). book.map_told frame w) is ∙ other in cc
+    let no : (let t : Told WorldState Entry = told.Map frame v in t) ≡ told.Other = ap (λ (w : Option WorldState). book.map_told frame w)
+    is ∙ other in cc
 
 done_tells : (place : Place) → told_at place ServerMapDone ≡ told.Other → ⊥
 done_tells Asking other = absurd cc
@@ -161,7 +167,8 @@ not_done place msg other is = done_tells place (sym (ap (λ (m : GameMsg). told_
 pub whole_is : (frame size : ℕ) (come : List ℕ) (w : WorldState) → length come ≡ size → Some w ≡ result_ok (map_in come)
     → told_at (Fetching frame size come) ServerMapDone ≡ told.Map frame w
 whole_is frame size come w fits is =
-    ap (λ (b : Bool). whole_map b frame come) (eq-eqb (length come) size fits) ∙ ap (λ (w : Option WorldState). book.map_told frame w) (sym is)
+    ap (λ (b : Bool). whole_map b frame come) (eq-eqb (length come) size fits) ∙ ap (λ (w : Option WorldState). book.map_told frame w) (sym
+    is)
 
 stands_by : (phase : Phase) (join : Join) (come : List ℕ) → JoinStandsBy phase join come → joining_still phase ≡ true → IsJoining join come
 stands_by Joining join come stands is = stands
@@ -209,7 +216,8 @@ pub gone_on : (login : Login) (come said : List ℕ) (old new : Join) (msg : Gam
 gone_on login come said old new msg at saying acked is phase runs number company moved answers answered other =
     let place = place_of old.stage (come ++ old.more.items) in
     joined_is come new saying acked (phase ∙ is.joins) (runs ∙ is.none)
-    ∙ ap₂ (λ (n m : ℕ). at_door (place_of new.stage (come ++ new.more.items)) n m (with_bytes new.answers.items saying) acked) number company
+    ∙ ap₂ (λ (n m : ℕ). at_door (place_of new.stage (come ++ new.more.items)) n m (with_bytes new.answers.items saying) acked) number
+    company
     ∙ ap (λ (xs : List ℕ). at_door (place_of new.stage (come ++ new.more.items)) (learnt (Some msg) old.number old.company).client
     (learnt (Some msg) old.number old.company).company (with_bytes xs saying) acked) answers
     ∙ join_goes login place (place_of new.stage (come ++ new.more.items)) old.number old.company at msg old.answers.items said saying acked
@@ -223,12 +231,14 @@ pub strayed : (login : Login) (come : List ℕ) (old : Join) (msg : Option GameM
     ≡ heard running login (record { at = at; msg = msg }) (joined_by come old saying acked)
 strayed login come old msg at saying acked is stray place =
     let said = with_bytes old.answers.items saying in
-    ap (λ (runs : Option (Kept WorldState Entry)). gone_by (book.WrongAt at) (runs_in (Wrong at) runs) old.number old.company said acked) is.none
+    ap (λ (runs : Option (Kept WorldState Entry)). gone_by (book.WrongAt at) (runs_in (Wrong at) runs) old.number old.company said acked)
+    is.none
     ∙ join_strays login (place_of old.stage (come ++ old.more.items)) old.number old.company at msg said acked stray place
     ∙ ap (λ (p : P). heard running login (record { at = at; msg = msg }) p) (sym (joined_is come old saying acked is.joins is.none))
 
 -- its map has come whole
-pub finished : (login : Login) (come : List ℕ) (old : Join) (frame size at : ℕ) (w : WorldState) (k : Kept WorldState Entry) (answers : List ℕ)
+pub finished : (login : Login) (come : List ℕ) (old : Join) (frame size at : ℕ) (w : WorldState) (k : Kept WorldState Entry) (answers :
+    List ℕ)
     (saying : Saying) (acked : Option ℕ) → IsJoining old come → old.stage ≡ s.Fetching frame size
     → length (come ++ old.more.items) ≡ size → Some w ≡ result_ok (map_in (come ++ old.more.items))
     → RunnerRunning k ≡ runner_hears known RunnerJoining (told.Map frame w) → answers ≡ old.answers.items ++ spelling ClientMapOk
@@ -253,7 +263,8 @@ finished login come old frame size at w k answers saying acked is fetching fits 
       saying = with_bytes xs saying;
       acked = acked;
     } in p) said
-    ∙ join_loads login frame size old.number old.company at bytes old.answers.items w k saying acked (whole_is frame size bytes w fits world) runs
+    ∙ join_loads login frame size old.number old.company at bytes old.answers.items w k saying acked (whole_is frame size bytes w fits
+    world) runs
     ∙ ap (λ (p : P). heard running login (record { at = at; msg = Some ServerMapDone }) p)
     (sym (joined_is come old saying acked is.joins is.none
     ∙ ap (λ (stage : Stage). at_door (place_of stage bytes) old.number old.company (with_bytes old.answers.items saying) acked) fetching))

@@ -1,5 +1,6 @@
 -- A byte that is taken is the first of those that wait.
-use Rattle.std.proofs.Common.{◌≡◌, ℕ, zero, suc, ◌+◌, ◌<◌, take, arith, List, [], ◌∷◌, ◌++◌, drop, refl, sym, ap, ◌∙◌, Option, Some, None, append-nil}
+use Rattle.std.proofs.Common.{◌≡◌, ℕ, zero, suc, ◌+◌, ◌<◌, take, arith, List, [], ◌∷◌, ◌++◌, drop, refl, sym, ap, ◌∙◌, Option, Some, None}
+use Rattle.std.proofs.Common.{append-nil}
 use Rattle.std.specs.Prelude.{slice_get}
 use Rattle.tt_client.specs.Saying.{Saying, IsSaying, ack_spelling, bytes_of, less_one, less_begun, taken}
 use Rattle.tt_client.specs.declared.waiting.Ack.{Ack}

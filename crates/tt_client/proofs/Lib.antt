@@ -17,3 +17,5 @@ pub mod Seated
 pub mod Feeding
 pub mod InSteps
 pub mod Growing
+pub mod Following
+pub mod Lockstep

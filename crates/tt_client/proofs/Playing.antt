@@ -1,9 +1,11 @@
 -- What a client in the game makes of an item, by its verdict.
-use Rattle.std.proofs.Common.{◌≡◌, ℕ, suc, ◌+◌, ◌<◌, arith, drop, drop-cons, get_or, length, Bool, true, false, cond, List, [], ◌∷◌, ◌++◌, Option, Some, None, refl, sym, ap, ap₂, ◌∙◌}
+use Rattle.std.proofs.Common.{◌≡◌, ℕ, suc, ◌+◌, ◌<◌, arith, drop, drop-cons, get_or, length, Bool, true, false, cond, List, [], ◌∷◌, ◌++◌}
+use Rattle.std.proofs.Common.{Option, Some, None, refl, sym, ap, ap₂, ◌∙◌}
 use Rattle.std.specs.Prelude.{◌&&◌, ◌||◌, not, is_some}
 use Rattle.tt_lockstep.specs.Told as told
 use Rattle.tt_lockstep.specs.Told.{Told}
-use Rattle.tt_lockstep.specs.Runner.{Kept, Runner, RunnerJoining, RunnerRunning, RunnerEndedJoining, RunnerEnded, RunnerWrongJoining, RunnerWrong, RunnerDesync}
+use Rattle.tt_lockstep.specs.Runner.{Kept, Runner, RunnerJoining, RunnerRunning, RunnerEndedJoining, RunnerEnded, RunnerWrongJoining}
+use Rattle.tt_lockstep.specs.Runner.{RunnerWrong, RunnerDesync}
 use Rattle.tt_lockstep.specs.Runner.{runner_hears}
 use Rattle.tt_game.specs.declared.message.GameMsg.{GameMsg}
 use Rattle.tt_world.specs.declared.command.Entry.{Entry}
@@ -31,7 +33,8 @@ abbrev P : Type 0
 P = Player (Runner WorldState Entry)
 
 -- what runs goes on by what it was told only where that is not its end, nor what is not permitted
-place_by : (k l : K) (t : Told WorldState Entry) → runner_hears known (RunnerRunning k) t ≡ RunnerRunning l → unless_parted t InPlay ≡ InPlay
+place_by : (k l : K) (t : Told WorldState Entry) → runner_hears known (RunnerRunning k) t ≡ RunnerRunning l → unless_parted t InPlay ≡
+    InPlay
 place_by k l (told.Map s w) is = refl
 place_by k l (told.Command e) is = refl
 place_by k l (told.Frame f max) is = refl
@@ -40,7 +43,8 @@ place_by k l told.Other is = refl
 place_by k l told.Stray is = absurd cc
 place_by k l told.End is = absurd cc
 
-place_off : (k l : K) (f mine theirs : ℕ) (t : Told WorldState Entry) → runner_hears known (RunnerRunning k) t ≡ RunnerDesync l f mine theirs
+place_off : (k l : K) (f mine theirs : ℕ) (t : Told WorldState Entry) → runner_hears known (RunnerRunning k) t ≡ RunnerDesync l f mine
+    theirs
     → unless_parted t InPlay ≡ InPlay
 place_off k l f mine theirs (told.Map s w) is = refl
 place_off k l f mine theirs (told.Command e) is = refl
@@ -74,7 +78,8 @@ play_goes login k l number company at t msg saying acked is =
     sym (ap (λ (r : Runner WorldState Entry). heard_as login i (runner_mark r) r p) is
     ∙ ap₂ (λ (place : Place) (s : Saying). with place book.Loaded new.client new.company (RunnerRunning l) s acked)
     (place_by k l (told_in_play msg) is)
-    (ap (λ (s : Saying). with_token (token_in (Some msg)) s) (say_nothing (with_token t saying)) ∙ token_twice t (token_in (Some msg)) saying))
+    (ap (λ (s : Saying). with_token (token_in (Some msg)) s) (say_nothing (with_token t saying)) ∙ token_twice t (token_in (Some msg))
+    saying))
 
 -- it was told its end
 pub play_ends : (login : Login) (k l : K) (number company at : ℕ) (msg : GameMsg) (saying : Saying) (acked : Option ℕ) (phase : book.Phase)
@@ -125,19 +130,22 @@ not_over false off is = absurd cc
 pub played_is : (k : K) (play : Play) (saying : Saying) (acked : Option ℕ) → play.phase ≡ Loaded → play.off ≡ None
     → played k play saying acked ≡ in_play (with_news k play.news) play.number play.company (with_token play.token saying) acked
 played_is k play saying acked loaded none =
-    ap₂ (λ (phase : Phase) (off : Option Mismatch). with (place_on (book.goes_on (phase_of phase))) (phase_of phase) play.number play.company
+    ap₂ (λ (phase : Phase) (off : Option Mismatch). with (place_on (book.goes_on (phase_of phase))) (phase_of phase) play.number
+    play.company
     (off_or off phase (with_news k play.news)) (with_token play.token saying) acked) loaded none
 
 -- what is not permitted was told
 pub stray_play : (login : Login) (k : K) (old : Play) (news : Heard) (at : ℕ) (msg : Option GameMsg) (saying : Saying) (acked : Option ℕ)
     → old.phase ≡ Loaded → old.off ≡ None
-    → runner_hears known (RunnerRunning (with_news k old.news)) (book.item_told InPlay msg) ≡ RunnerWrong (with_news k news) → told_place at ≡ at
+    → runner_hears known (RunnerRunning (with_news k old.news)) (book.item_told InPlay msg) ≡ RunnerWrong (with_news k news) → told_place
+    at ≡ at
     → played k (record old { news = news; phase = Wrong at }) saying acked
     ≡ heard running login (record { at = at; msg = msg }) (played k old saying acked)
 stray_play login k old news at msg saying acked loaded none is place =
     let i : Item = record { at = at; msg = msg } in
     let s = with_token old.token saying in
-    ap (λ (off : Option Mismatch). with Parted (book.WrongAt at) old.number old.company (off_or off (Wrong at) (with_news k news)) s acked) none
+    ap (λ (off : Option Mismatch). with Parted (book.WrongAt at) old.number old.company (off_or off (Wrong at) (with_news k news)) s acked)
+    none
     ∙ play_strays login (with_news k old.news) (with_news k news) old.number old.company at msg s acked is place
     ∙ ap (λ (p : P). heard running login i p) (sym (played_is k old saying acked loaded none))
 

@@ -26,7 +26,8 @@ rests_by true r p one two =
 rests_by false r p one two = refl
 
 pub joining_rests : (login : Login) (n : ℕ) (p : Player (Runner WorldState Entry)) → p.runs ≡ RunnerJoining → advanced running login n p ≡ p
-joining_rests login n p is = rests_by (is_on running login p) (runner_advanced known n p.runs) p is (ap (λ r. runner_advanced known n r) is ∙ joins_still n)
+joining_rests login n p is = rests_by (is_on running login p) (runner_advanced known n p.runs) p is (ap (λ r. runner_advanced known n r) is
+    ∙ joins_still n)
 
 pub unmapped_on : (p : Phase) → goes_on (phase_of p) ≡ true → unmapped p ≡ RunnerJoining
 unmapped_on Joining on = refl
@@ -35,7 +36,8 @@ unmapped_on (Ended code) on = absurd cc
 unmapped_on Shutdown on = absurd cc
 unmapped_on (Wrong at) on = absurd cc
 
-pub stands_on : (stage : Stage) (p : Phase) (off new : Option Mismatch) (r : Option (Kept WorldState Entry)) (k l : Kept WorldState Entry) → r ≡ Some k → goes_on (phase_of p) ≡ true → Stands stage p off r → Stands stage p new (Some l)
+pub stands_on : (stage : Stage) (p : Phase) (off new : Option Mismatch) (r : Option (Kept WorldState Entry)) (k l : Kept WorldState Entry)
+    → r ≡ Some k → goes_on (phase_of p) ≡ true → Stands stage p off r → Stands stage p new (Some l)
 stands_on stage Joining off new r k l is on s = absurd (let no : None ≡ Some k = sym s.2 ∙ is in cc)
 stands_on stage Loaded off new r k l is on s = (s.0, refl)
 stands_on stage (Ended code) off new r k l is on s = absurd cc

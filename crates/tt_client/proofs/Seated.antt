@@ -1,5 +1,6 @@
 -- A client as its parts make it.
-use Rattle.std.proofs.Common.{◌≡◌, ℕ, Bool, true, false, cond, List, [], ◌∷◌, ◌++◌, length, drop, Option, Some, None, refl, sym, ap, ap₂, ◌∙◌, subst, arith}
+use Rattle.std.proofs.Common.{◌≡◌, ℕ, Bool, true, false, cond, List, [], ◌∷◌, ◌++◌, length, drop, Option, Some, None, refl, sym, ap, ap₂}
+use Rattle.std.proofs.Common.{◌∙◌, subst, arith}
 use Rattle.std.specs.Prelude.{◌&&◌, not, IsSome}
 use Rattle.std.proofs.lemmas.Bool.{false≢true}
 use Rattle.std.proofs.lemmas.List.{drop_all}
@@ -16,7 +17,8 @@ use Rattle.tt_client.specs.declared.stage.Stage.TheVariants as s
 use Rattle.tt_client.specs.declared.stage.Phase.{Phase}
 use Rattle.tt_client.specs.declared.stage.Phase.TheVariants.{Joining, Loaded, Ended, Shutdown, Wrong}
 use Rattle.tt_client.specs.Held.{IsBeforeMap, Stands, phase_of, place_of, runner_in}
-use Rattle.tt_client.specs.Planned.{IsClear, IsJoining, JoinStands, JoinStandsBy, PlayStands, at_door, in_play, joined_by, joins_still, joining_still, runs_in}
+use Rattle.tt_client.specs.Planned.{IsClear, IsJoining, JoinStands, JoinStandsBy, PlayStands, at_door, in_play, joined_by, joins_still}
+use Rattle.tt_client.specs.Planned.{joining_still, runs_in}
 use Rattle.tt_client.specs.Known.{known}
 use Rattle.tt_client.specs.Player.{Player, heard, heard_all, heard_as, is_off, is_on}
 use Rattle.tt_client.specs.Runs.{is_playing, runner_mark, running}
@@ -41,10 +43,12 @@ seat stage come phase off number company runs saying acked = record {
 
 -- ---- in the game
 
-playing_by : (stage : Stage) (come : List ℕ) (phase : Phase) (off : Option Mismatch) (number company : ℕ) (k : K) (saying : Saying) (acked : Option ℕ)
+playing_by : (stage : Stage) (come : List ℕ) (phase : Phase) (off : Option Mismatch) (number company : ℕ) (k : K) (saying : Saying) (acked
+    : Option ℕ)
     → Stands stage phase off (Some k) → is_playing (seat stage come phase off number company (Some k) saying acked) ≡ true
     → seat stage come phase off number company (Some k) saying acked ≡ in_play k number company saying acked
-playing_by stage come Joining off number company k saying acked stands on = absurd (let no : (let o : Option K = Some k in o) ≡ None = stands.2 in cc)
+playing_by stage come Joining off number company k saying acked stands on = absurd (let no : (let o : Option K = Some k in o) ≡ None =
+    stands.2 in cc)
 playing_by stage come Loaded None number company k saying acked stands on =
     ap (λ (x : Stage). seat x come Loaded None number company (Some k) saying acked) stands.0
 playing_by stage come Loaded (Some m) number company k saying acked stands on = absurd (false≢true on)
@@ -62,7 +66,8 @@ playing_is stage come phase off number company runs k saying acked stands is on 
     (sym (ap (λ (r : Option K). is_playing (seat stage come phase off number company r saying acked)) is) ∙ on)
 
 -- a client that goes on with its map plays
-pub on_plays : (login : Login) (stage : Stage) (come : List ℕ) (phase : Phase) (off : Option Mismatch) (number company : ℕ) (runs : Option K)
+pub on_plays : (login : Login) (stage : Stage) (come : List ℕ) (phase : Phase) (off : Option Mismatch) (number company : ℕ) (runs : Option
+    K)
     (saying : Saying) (acked : Option ℕ) → Stands stage phase off runs → phase ≡ Loaded
     → is_on running login (seat stage come phase off number company runs saying acked) ≡ true
     → is_playing (seat stage come phase off number company runs saying acked) ≡ true
@@ -94,7 +99,8 @@ joins_by stage Shutdown off runs stands is = absurd cc
 joins_by stage (Wrong at) off runs stands is = absurd cc
 
 -- a client that goes on without a map joins
-pub on_joins : (login : Login) (stage : Stage) (come : List ℕ) (phase : Phase) (off : Option Mismatch) (number company : ℕ) (runs : Option K)
+pub on_joins : (login : Login) (stage : Stage) (come : List ℕ) (phase : Phase) (off : Option Mismatch) (number company : ℕ) (runs : Option
+    K)
     (saying : Saying) (acked : Option ℕ) → (phase ≡ Loaded → ⊥)
     → is_on running login (seat stage come phase off number company runs saying acked) ≡ true → phase_of phase ≡ book.Joining
 on_joins login stage come Joining off number company runs saying acked other on = refl
@@ -142,34 +148,52 @@ no_map : (runs : Option K) → runs ≡ None → IsSome runs → ⊥
 no_map None is some = absurd (false≢true some)
 no_map (Some k) is some = absurd cc
 
-settled_by : (login : Login) (items : List Item) (heard : ℕ) (phase : Phase) (join : Join) (come : List ℕ) (saying : Saying) (acked : Option ℕ)
+settled_by : (login : Login) (items : List Item) (heard : ℕ) (phase : Phase) (join : Join) (come : List ℕ) (saying : Saying) (acked :
+    Option ℕ)
     → join.phase ≡ phase → JoinStandsBy phase join come → join.runs ≡ None → (joining_still phase ≡ true → heard ≡ length items)
     → heard_all running login (drop heard items) (joined_by come join saying acked) ≡ joined_by come join saying acked
 settled_by login items heard Joining join come saying acked is stands none all =
     ap (λ (xs : List Item). heard_all running login xs (joined_by come join saying acked)) (drop_all heard items (omega (arith, all refl)))
 settled_by login items heard Loaded join come saying acked is stands none all = absurd (no_map join.runs none stands.1)
 settled_by login items heard (Ended code) join come saying acked is stands none all =
-    over_hears login (drop heard items) (joined_by come join saying acked) (ap (λ (f : Phase). goes_on (phase_of f) && not (is_off (runner_mark (runs_in f join.runs)))) is)
+    over_hears login (drop heard items) (joined_by come join saying acked) (ap (λ (f : Phase). goes_on (phase_of f) && not (is_off
+    (runner_mark (runs_in f join.runs)))) is)
 settled_by login items heard Shutdown join come saying acked is stands none all =
-    over_hears login (drop heard items) (joined_by come join saying acked) (ap (λ (f : Phase). goes_on (phase_of f) && not (is_off (runner_mark (runs_in f join.runs)))) is)
+    over_hears login (drop heard items) (joined_by come join saying acked) (ap (λ (f : Phase). goes_on (phase_of f) && not (is_off
+    (runner_mark (runs_in f join.runs)))) is)
 settled_by login items heard (Wrong at) join come saying acked is stands none all =
-    over_hears login (drop heard items) (joined_by come join saying acked) (ap (λ (f : Phase). goes_on (phase_of f) && not (is_off (runner_mark (runs_in f join.runs)))) is)
+    over_hears login (drop heard items) (joined_by come join saying acked) (ap (λ (f : Phase). goes_on (phase_of f) && not (is_off
+    (runner_mark (runs_in f join.runs)))) is)
 
 -- all was heard that counts, where its map has not come
 pub settled : (login : Login) (items : List Item) (heard : ℕ) (join : Join) (come : List ℕ) (saying : Saying) (acked : Option ℕ)
     → JoinStands join come → join.runs ≡ None → (joins_still join ≡ true → heard ≡ length items)
     → heard_all running login (drop heard items) (joined_by come join saying acked) ≡ joined_by come join saying acked
-settled login items heard join come saying acked stands none all = settled_by login items heard join.phase join come saying acked refl stands none all
+settled login items heard join come saying acked stands none all = settled_by login items heard join.phase join come saying acked refl
+    stands none all
 
 pub stands_joined : (phase : Phase) (join : Join) (come : List ℕ) (off : Option Mismatch) (runs : Option K) → off ≡ None → runs ≡ None
     → JoinStandsBy phase join come → join.runs ≡ None → Stands join.stage phase off runs × IsClear join.stage (come ++ join.more.items)
 stands_joined Joining join come off runs steady none stands empty = ((stands.before, steady, none), stands.clear)
 stands_joined Loaded join come off runs steady none stands empty = absurd (no_map join.runs empty stands.1)
-stands_joined (Ended code) join come off runs steady none stands empty = (steady, subst (λ (x : Stage). IsClear x (come ++ join.more.items)) (sym stands.1) tt)
-stands_joined Shutdown join come off runs steady none stands empty = (steady, subst (λ (x : Stage). IsClear x (come ++ join.more.items)) (sym stands.1) tt)
-stands_joined (Wrong at) join come off runs steady none stands empty = (steady, subst (λ (x : Stage). IsClear x (come ++ join.more.items)) (sym stands.1) tt)
+stands_joined (Ended code) join come off runs steady none stands empty = (
+  steady,
+  subst (λ (x : Stage). IsClear x (come ++
+      join.more.items)) (sym stands.1) tt,
+)
+stands_joined Shutdown join come off runs steady none stands empty = (
+  steady,
+  subst (λ (x : Stage). IsClear x (come ++ join.more.items))
+      (sym stands.1) tt,
+)
+stands_joined (Wrong at) join come off runs steady none stands empty = (
+  steady,
+  subst (λ (x : Stage). IsClear x (come ++ join.more.items))
+      (sym stands.1) tt,
+)
 
-pub door_is : (stage : Stage) (come : List ℕ) (phase : Phase) (off : Option Mismatch) (number company : ℕ) (runs : Option K) (saying : Saying)
+pub door_is : (stage : Stage) (come : List ℕ) (phase : Phase) (off : Option Mismatch) (number company : ℕ) (runs : Option K) (saying :
+    Saying)
     (acked : Option ℕ) → phase ≡ Joining → off ≡ None → runs ≡ None
     → seat stage come phase off number company runs saying acked ≡ at_door (place_of stage come) number company saying acked
 door_is stage come phase off number company runs saying acked joins steady none =

@@ -28,7 +28,8 @@ pub ok_answered : (r : R) (w : WorldState) → r ≡ Ok w → r ≢ Err bad.Memo
 ok_answered r w is e = let no : (let r : R = Ok w in r) ≡ Err bad.Memory = sym is ∙ e in absurd cc
 
 pub err_answered : (r : R) (b : MapBad) → r ≡ Err b → (b ≡ bad.Memory → ⊥) → r ≢ Err bad.Memory
-err_answered r b is other e = let same : (let r : R = Err b in r) ≡ Err bad.Memory = sym is ∙ e in let b_is : b ≡ bad.Memory = cc in other b_is
+err_answered r b is other e = let same : (let r : R = Err b in r) ≡ Err bad.Memory = sym is ∙ e in let b_is : b ≡ bad.Memory = cc in other
+    b_is
 
 pub bytes_both : (xs ys : List ℕ) → IsBytes xs → IsBytes ys → IsBytes (xs ++ ys)
 bytes_both [] ys a b i = b i

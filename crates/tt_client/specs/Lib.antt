@@ -19,3 +19,4 @@ pub mod State
 pub mod Planned
 -- How it stands to what its stream shows
 pub mod Showing
+pub mod InStep

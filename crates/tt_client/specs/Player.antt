@@ -132,12 +132,16 @@ module _ {R : Type 0} (rules : Rules R) (login : Login) where
   heard i p = let runs = rules.hears p.runs (item_told p.place i.msg) in if is_on p then heard_as login i (rules.mark runs) runs p else p
 
   abbrev pub advanced : ℕ → Player R → Player R
-  advanced n p = let runs = rules.advanced n p.runs in if is_on p then run_as (rules.frame p.runs) (rules.frame runs) (rules.permitted runs) runs p else p
+  advanced n p = let runs = rules.advanced n p.runs in if is_on p then run_as (rules.frame p.runs) (rules.frame runs) (rules.permitted
+      runs) runs p else p
 
   abbrev pub stepped : Player R → Step → Player R
   stepped p (Hear i) = heard i p
   stepped p (Run n) = advanced n p
-  stepped p (Say company command) = if is_on p && plays (rules.mark p.runs) then record p { saying = with_bytes (command_bytes company command) p.saying } else p
+  stepped p (Say company command) = if is_on p && plays (rules.mark p.runs) then record p {
+    saying = with_bytes (command_bytes company
+        command) p.saying;
+  } else p
   stepped p (Give room) = record p { saying = taken room p.saying }
 
   abbrev pub after : Player R → List Step → Player R

@@ -1,13 +1,16 @@
 //! The client.
-ghost use Rattle.std.specs.Prelude.{◌≡◌, ◌-◌, ◌≤◌, ◌++◌, ◌↔◌, take, drop, min, length, [], false, true, IfOk, OnOk, OnErr, IsErrOf, option_copied};
+ghost use Rattle.std.specs.Prelude.{◌≡◌, ◌-◌, ◌≤◌, ◌++◌, ◌↔◌, take, drop, min, length, [], false, true};
+ghost use Rattle.std.specs.Prelude.{IfOk, OnOk, OnErr, IsErrOf, option_copied};
 ghost use Rattle.tt_client.specs.Calls.{Advance, Feed, Submit, Take};
 ghost use Rattle.tt_client.specs.Held.{fed_on, frame_of, held_first, permitted_of, with_call, world_of};
+ghost use Rattle.tt_client.specs.InStep.{AdvancesInStep, FeedsInStep};
 ghost use Rattle.tt_client.specs.Player.{is_on};
 ghost use Rattle.tt_client.specs.Runs.{running, runner_frame};
 ghost use Rattle.tt_client.specs.Saying.{bytes_of};
 ghost use Rattle.tt_client.specs.State.{is_running, state_of};
 
 use crate::items::cut;
+use crate::laws::clients_are_in_step;
 use crate::login::Login;
 use crate::seat::Seat;
 use crate::state::{State, SubmitErr};
@@ -75,7 +78,10 @@ impl Client {
     pub fn feed(&mut self, piece: &[u8]) -> Result<(), OutOfMemory>
         ensures fed { OnOk result (self.new ≡ with_call self.old (Feed piece.now)) }
         ensures same { OnErr result (self.new ≡ self.old) }
+        // Of a piece of what a server sent: the client is in step.
+        ensures in_step { OnOk result (FeedsInStep self.old piece.now self.new) }
     {
+        clients_are_in_step();
         if !self.seat.is_on() {
             return Ok(());
         }
@@ -109,7 +115,10 @@ impl Client {
     pub fn advance(&mut self, n: u32) -> u32
         ensures advanced { self.new ≡ with_call self.old (Advance n) }
         ensures count { result ≡ runner_frame self.new.player.runs - runner_frame self.old.player.runs }
+        // Of a client that was fed what a server sent: it is in step.
+        ensures in_step { AdvancesInStep self.old self.new }
     {
+        clients_are_in_step();
         self.seat.advance(n)
     }
 

@@ -1,5 +1,6 @@
 //! What a client that joins makes of what it hears, worked out beside it before anything changes.
-ghost use Rattle.std.specs.Prelude.{◌≡◌, ◌++◌, ◌≤◌, ◌+◌, ◌<◌, ℕ, List, Bool, true, false, Option, Some, None, [], drop, length, IfOk, OnOk, IsSome};
+ghost use Rattle.std.specs.Prelude.{◌≡◌, ◌++◌, ◌≤◌, ◌+◌, ◌<◌, ℕ, List, true, Option, Some, drop, length};
+ghost use Rattle.std.specs.Prelude.{IfOk, OnOk};
 ghost use Rattle.tt_lockstep.specs.Told.{Other};
 ghost use Rattle.tt_log.specs.Shown.{moves_on, told_asking, told_at, told_fetching};
 ghost use Rattle.tt_game.specs.declared.message.GameMsg.TheVariants.{ServerMapDone};
@@ -181,7 +182,8 @@ impl Join {
     pub(crate) fn begin(alloc: Global, stage: Stage, number: u32, company: u8) -> Join
         requires before { IsBeforeMap stage }
         ensures stands { (come : List ℕ) → IsClear stage come → IsJoining result come }
-        ensures same { (come : List ℕ) (saying : Saying) (acked : Option ℕ) → joined_by come result saying acked ≡ at_door (place_of stage come) number company saying acked }
+        ensures same { (come : List ℕ) (saying : Saying) (acked : Option ℕ)
+            → joined_by come result saying acked ≡ at_door (place_of stage come) number company saying acked }
     {
         Join {
             stage,
@@ -209,7 +211,8 @@ impl Join {
         requires stands { IsJoining self.old come.now }
         requires goes { told_at (place_of self.old.stage (come.now ++ self.old.more.items)) msg.now ≡ Other }
         ensures heard { OnOk result ((at : ℕ) (saying : Saying) (acked : Option ℕ)
-            → joined_by come.now self.new saying acked ≡ heard running login.now (record { at = at; msg = Some msg.now }) (joined_by come.now self.old saying acked)) }
+            → joined_by come.now self.new saying acked
+            ≡ heard running login.now (record { at = at; msg = Some msg.now }) (joined_by come.now self.old saying acked)) }
         ensures stands { OnOk result (IsJoining self.new come.now) }
     {
         put_said(&mut self.answers, answer(login, self.stage, msg))?;
@@ -234,7 +237,8 @@ impl Join {
         requires stands { IsJoining self.old come.now }
         requires told { told_as verdict ≡ told_at (place_of self.old.stage (come.now ++ self.old.more.items)) msg.now }
         ensures heard { OnOk result ((saying : Saying) (acked : Option ℕ)
-            → joined_by come.now self.new saying acked ≡ heard running login.now (record { at = at; msg = Some msg.now }) (joined_by come.now self.old saying acked)) }
+            → joined_by come.now self.new saying acked
+            ≡ heard running login.now (record { at = at; msg = Some msg.now }) (joined_by come.now self.old saying acked)) }
         ensures stands { OnOk result (JoinStands self.new come.now) }
     {
         match verdict {
@@ -257,7 +261,8 @@ impl Join {
         requires stands { IsJoining self.old come.now }
         requires fetching { self.old.stage ≡ Fetching frame size }
         ensures heard { OnOk result ((login : Login) (saying : Saying) (acked : Option ℕ)
-            → joined_by come.now self.new saying acked ≡ heard running login (record { at = at; msg = Some ServerMapDone }) (joined_by come.now self.old saying acked)) }
+            → joined_by come.now self.new saying acked
+            ≡ heard running login (record { at = at; msg = Some ServerMapDone }) (joined_by come.now self.old saying acked)) }
         ensures stands { OnOk result (JoinStands self.new come.now) }
     {
         if come.len() + self.more.len() != size as usize {

@@ -17,6 +17,6 @@ mod verdict;
 mod waiting;
 
 pub use client::Client;
-pub use laws::{any_game, cut_on, in_steps, same_run};
+pub use laws::{any_game, clients_are_in_step, cut_on, has_what_is_shown, in_steps, same_run};
 pub use login::Login;
 pub use state::{State, SubmitErr};

@@ -80,7 +80,8 @@ fn later_token(old: u8, new: u8) -> u8
 impl Play {
     /// Nothing was heard yet.
     pub(crate) fn begin(alloc: Global, base: &Running, number: u32, company: u8) -> Play
-        ensures none { (saying : Saying) (acked : Option ℕ) → played base.now result saying acked ≡ in_play base.now number company saying acked }
+        ensures none { (saying : Saying) (acked : Option ℕ)
+            → played base.now result saying acked ≡ in_play base.now number company saying acked }
         ensures sound { Sound (with_news base.now result.news) }
         ensures stands { PlayStands result.phase result.off }
     {

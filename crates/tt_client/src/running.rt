@@ -197,7 +197,8 @@ impl Running {
         frame: u32,
         word: u32,
     ) -> Result<Option<Mismatch>, OutOfMemory>
-        ensures heard { IfOk result (λ off. runner_sync known (with_news self.now news.old) frame word ≡ runner_by off (with_news self.now news.new)) }
+        ensures heard { IfOk result (λ off. runner_sync known (with_news self.now news.old) frame word
+            ≡ runner_by off (with_news self.now news.new)) }
         ensures sound { OnOk result (Sound (with_news self.now news.old) → Sound (with_news self.now news.new)) }
     {
         if self.frame < frame {

@@ -357,7 +357,8 @@ impl Seat {
         answers: &[u8],
         items: &[Item],
     ) -> Result<(), OutOfMemory>
-        ensures heard { OnOk result ((login : Login) → self.new ≡ heard_all running login items.now (in_play runs number company (with_bytes answers.now self.old.saying) self.old.acked)) }
+        ensures heard { OnOk result ((login : Login)
+            → self.new ≡ heard_all running login items.now (in_play runs number company (with_bytes answers.now self.old.saying) self.old.acked)) }
         ensures same { OnErr result (self.new ≡ self.old) }
     {
         let mut play = Play::begin(alloc, &runs, number, company);

@@ -106,7 +106,8 @@ pub(crate) fn begun(msg: &GameMsg) -> Verdict
 impl Running {
     /// In the game: what is heard is gathered. The client itself stays as it is.
     pub(crate) fn hear(&self, news: &mut News, msg: &GameMsg) -> Result<Verdict, OutOfMemory>
-        ensures heard { IfOk result (λ v. runner_hears known (RunnerRunning (with_news self.now news.old)) (told_in_play msg.now) ≡ runner_as v (with_news self.now news.new)) }
+        ensures heard { IfOk result (λ v. runner_hears known (RunnerRunning (with_news self.now news.old)) (told_in_play msg.now)
+            ≡ runner_as v (with_news self.now news.new)) }
         ensures sound { OnOk result (Sound (with_news self.now news.old) → Sound (with_news self.now news.new)) }
     {
         match msg {

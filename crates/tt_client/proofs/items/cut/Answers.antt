@@ -12,12 +12,14 @@ packets-preserved c =
     let body = c.in-Packet.body.now in
     let bytes = c.args.bytes.now in
     let end = c.packets.end + (length body + 3) in
-    let items : c.push.new.self.items ≡ c.packets.items.items ++ record { at = c.packets.place; msg = c.in_ok-msg-in-Packet.msg } ∷ [] = c.in_ok-push-in-Packet.ensures.items in
+    let items : c.push.new.self.items ≡ c.packets.items.items ++ record { at = c.packets.place; msg = c.in_ok-msg-in-Packet.msg } ∷ [] =
+    c.in_ok-push-in-Packet.ensures.items in
     record {
       within = packet_within bytes c.packets.end c.in-Packet.kind body first.0 c.packets.invariant.within first.1;
       place = c.saturating_add-place.type_inv;
       cut = ap (λ (xs : List Item). with_items xs (cut_at c.saturating_add-place.result (drop end bytes)))
-          (items ∙ ap (λ m. let i : Item = record { at = c.packets.place; msg = m } in c.packets.items.items ++ i ∷ []) c.in_ok-msg-in-Packet.ensures.message)
+          (items ∙ ap (λ m. let i : Item = record { at = c.packets.place; msg = m } in c.packets.items.items ++ i ∷ [])
+          c.in_ok-msg-in-Packet.ensures.message)
           ∙ packet_cut (cut_at c.args.at bytes) bytes c.packets.items.items c.packets.end c.packets.place c.in-Packet.kind
           c.saturating_add-place.result body first.0 (λ i. omega (arith, c.type_inv.bytes i)) first.1 c.saturating_add-place.ensures
           c.packets.invariant.cut;

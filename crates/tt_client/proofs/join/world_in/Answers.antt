@@ -11,7 +11,11 @@ returns-in-Ok c =
     let more = c.args.more.now in
     let same : c.as_slice.result.now ≡ come ++ more =
     c.as_slice.ensures.value ∙ c.in_ok-extend_from_slice.ensures.items ∙ ap (λ (xs : List ℕ). xs ++ more) c.in_ok-bytes.ensures.items in
-    let fits : IsBytes (come ++ more) = bytes_both come more (λ i. omega (arith, c.type_inv.come i)) (λ i. omega (arith, c.type_inv.more i)) in
+    let fits : IsBytes (come ++ more) = bytes_both come more (λ i. omega (arith, c.type_inv.come i)) (λ i. omega (
+      arith,
+      c.type_inv.more
+          i,
+    )) in
     record {
       world = sym (ap (λ (r : R). result_ok r) c.in-Ok.is)
           ∙ decoded c.as_slice.result.now (come ++ more) c.decode_map.result same (subst (λ (xs : List ℕ). IsBytes xs) (sym same) fits)
@@ -24,7 +28,11 @@ returns c =
     let more = c.args.more.now in
     let same : c.as_slice.result.now ≡ come ++ more =
     c.as_slice.ensures.value ∙ c.in_ok-extend_from_slice.ensures.items ∙ ap (λ (xs : List ℕ). xs ++ more) c.in_ok-bytes.ensures.items in
-    let fits : IsBytes (come ++ more) = bytes_both come more (λ i. omega (arith, c.type_inv.come i)) (λ i. omega (arith, c.type_inv.more i)) in
+    let fits : IsBytes (come ++ more) = bytes_both come more (λ i. omega (arith, c.type_inv.come i)) (λ i. omega (
+      arith,
+      c.type_inv.more
+          i,
+    )) in
     record {
       world = sym (ap (λ (r : R). result_ok r) c.in-Err.is)
           ∙ decoded c.as_slice.result.now (come ++ more) c.decode_map.result same (subst (λ (xs : List ℕ). IsBytes xs) (sym same) fits)

@@ -2,6 +2,7 @@ use Rattle.std.proofs.Common.{◌≡◌, ℕ, List, [], true, false, ◌++◌, �
 use Rattle.tt_client.specs.Held.{Held, fed_on}
 use Rattle.tt_client.specs.Player.{is_on}
 use Rattle.tt_client.specs.Runs.{running}
+use Rattle.tt_client.proofs.Lockstep.{feeds}
 use Rattle.tt_client.proofs.Feeding.{fed_joined, fed_off, held_by}
 use Rattle.tt_client.proofs.client.Client.feed.Goals as goal
 
@@ -23,3 +24,11 @@ returns-in-Ok-clause-fed c =
     ∙ ap (λ (xs : List ℕ). fed_on [] (held_by i.login i.seat xs i.at)) c.in_ok-extend_from_slice.ensures.items
     ∙ fed_joined i.login i.seat i.rest.items piece i.at on
     ∙ ap (λ (h : Held). fed_on piece h) c.self.view_is
+
+pub returns-then-not-is_on-clause-in_step : goal.returns-then-not-is_on-clause-in_step
+returns-then-not-is_on-clause-in_step c =
+    feeds c.clients_are_in_step.ensures.sent c.args.self.now c.args.self.now c.args.piece.now (returns-then-not-is_on-clause-fed c)
+
+pub returns-in-Ok-clause-in_step : goal.returns-in-Ok-clause-in_step
+returns-in-Ok-clause-in_step c =
+    feeds c.clients_are_in_step.ensures.sent c.args.self.now c.hear.new.self c.args.piece.now (returns-in-Ok-clause-fed c)

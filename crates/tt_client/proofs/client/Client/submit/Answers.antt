@@ -14,7 +14,13 @@ use Rattle.tt_client.proofs.client.Client.submit.Goals as goal
 pub returns-clause-said : goal.returns-clause-said
 returns-clause-said c =
     let i = c.self.inside in
-    let with = λ (p : Player (Runner WorldState Entry)). let h : Held = record { login = i.login; player = p; rest = i.rest.items; at = i.at } in h in
+    let with = λ (p : Player (Runner WorldState Entry)). let h : Held = record {
+      login = i.login;
+      player = p;
+      rest = i.rest.items;
+      at =
+          i.at;
+    } in h in
     on_ok_weaker c.submit.result
     (λ said. ap with (said i.login) ∙ ap (λ (h : Held). held_on (Say c.args.company c.args.command) h) c.self.view_is) c.submit.ensures.said
 

@@ -10,5 +10,11 @@ use Rattle.tt_client.proofs.client.Client.take.Goals as goal
 pub returns-clause-taken : goal.returns-clause-taken
 returns-clause-taken c =
     let i = c.self.inside in
-    let with = λ (p : Player (Runner WorldState Entry)). let h : Held = record { login = i.login; player = p; rest = i.rest.items; at = i.at } in h in
+    let with = λ (p : Player (Runner WorldState Entry)). let h : Held = record {
+      login = i.login;
+      player = p;
+      rest = i.rest.items;
+      at =
+          i.at;
+    } in h in
     ap with (c.take.ensures.taken i.login) ∙ ap (λ (h : Held). held_on (Give c.take.result) h) c.self.view_is

@@ -16,5 +16,6 @@ returns-in_default-clause-heard c = λ saying acked.
     let place : told_place i.at ≡ i.at = omega (arith, c.item.invariant) in
     ap (λ (j : Join). joined_by come j saying acked) c.end.ensures.ended
     ∙ strayed c.args.login.now come old None i.at saying acked c.requires.stands refl place
-    ∙ ap (λ (m : Option GameMsg). let x : Item = record { at = i.at; msg = m } in heard running c.args.login.now x (joined_by come old saying acked)) (sym c.in_default.is)
+    ∙ ap (λ (m : Option GameMsg). let x : Item = record { at = i.at; msg = m } in heard running c.args.login.now x (joined_by come old
+    saying acked)) (sym c.in_default.is)
     ∙ ap (λ (x : Item). heard running c.args.login.now x (joined_by come old saying acked)) c.item.view_is

@@ -23,7 +23,8 @@ returns-in_default-clause-heard c = λ login saying acked.
     let place : told_place i.at ≡ i.at = omega (arith, c.item.invariant) in
     let on = not_over (goes_on (phase_of old.phase)) old.off (sym c.if-is_over.ensures.over) in
     stray_play login k old old.news i.at None saying acked (plays_on old.phase old.off c.requires.stands on.0) on.1 refl place
-    ∙ ap (λ (m : Option GameMsg). let x : Item = record { at = i.at; msg = m } in heard running login x (played k old saying acked)) (sym c.in_default.is)
+    ∙ ap (λ (m : Option GameMsg). let x : Item = record { at = i.at; msg = m } in heard running login x (played k old saying acked)) (sym
+    c.in_default.is)
     ∙ ap (λ (x : Item). heard running login x (played k old saying acked)) c.item.view_is
 
 pub returns-in-Strays-clause-heard : goal.returns-in-Strays-clause-heard
@@ -34,6 +35,8 @@ returns-in-Strays-clause-heard c = λ login saying acked.
     let place : told_place i.at ≡ i.at = omega (arith, c.item.invariant) in
     let on = not_over (goes_on (phase_of old.phase)) old.off (sym c.if-is_over.ensures.over) in
     let wrong = c.in_ok-hear.ensures.heard ∙ ap (λ (v : Verdict). runner_as v (with_news k c.hear.new.news)) c.in-Strays.is in
-    stray_play login k old c.hear.new.news i.at (Some c.in-Some.msg) saying acked (plays_on old.phase old.off c.requires.stands on.0) on.1 wrong place
-    ∙ ap (λ (m : Option GameMsg). let x : Item = record { at = i.at; msg = m } in heard running login x (played k old saying acked)) (sym c.in-Some.is)
+    stray_play login k old c.hear.new.news i.at (Some c.in-Some.msg) saying acked (plays_on old.phase old.off c.requires.stands on.0) on.1
+    wrong place
+    ∙ ap (λ (m : Option GameMsg). let x : Item = record { at = i.at; msg = m } in heard running login x (played k old saying acked)) (sym
+    c.in-Some.is)
     ∙ ap (λ (x : Item). heard running login x (played k old saying acked)) c.item.view_is

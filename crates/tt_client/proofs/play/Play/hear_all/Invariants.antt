@@ -9,7 +9,8 @@ use Rattle.tt_client.proofs.play.Play.hear_all.Given as goal
 
 abbrev pub invariant-loop-item : goal.invariant-loop-item
 invariant-loop-item l = record {
-  heard : (login : Login) (saying : Saying) (acked : Option ℕ) → heard_all running login (drop l.item-index l.items) (played l.base l.self saying acked)
+  heard : (login : Login) (saying : Saying) (acked : Option ℕ) → heard_all running login (drop l.item-index l.items) (played l.base l.self
+      saying acked)
       ≡ heard_all running login l.items (played l.base l.fn.self saying acked);
   sound : Sound (with_news l.base l.self.news);
   stands : PlayStands l.self.phase l.self.off;

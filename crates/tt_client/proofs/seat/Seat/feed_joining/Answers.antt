@@ -28,17 +28,20 @@ returns-in-Some-clause-heard c =
     c.begin-join.ensures.same come i.waiting i.acked
     ∙ ap (λ (xs : List ℕ). at_door (place_of i.stage xs) i.number i.company i.waiting i.acked) c.as_slice.ensures.value
     ∙ sym (door_is i.stage i.come.items i.phase i.off i.number i.company i.runs i.waiting i.acked j.0 j.2 j.3) ∙ c.self.view_is in
-    let whole : heard_all running login (drop heard items) (joined_by come join i.waiting i.acked) ≡ heard_all running login items c.args.self.now =
+    let whole : heard_all running login (drop heard items) (joined_by come join i.waiting i.acked) ≡ heard_all running login items
+    c.args.self.now =
     c.in_ok-heard.ensures.heard i.waiting i.acked ∙ ap (λ (p : P). heard_all running login items p) begins in
     let k = c.in-Some.runs in
     let own = c.args.self.now in
-    let behind : List Item → List ℕ → P → P = λ left answers p. heard_all running login left (in_play k join.number join.company (with_bytes answers p.saying) p.acked) in
+    let behind : List Item → List ℕ → P → P = λ left answers p. heard_all running login left (in_play k join.number join.company
+    (with_bytes answers p.saying) p.acked) in
     on_ok_weaker c.start.result
     (λ said.
     let first : c.start.new.self ≡ behind (take (length items - heard) (drop heard items)) c.as_slice-in-Some.result.now own = said login in
     first ∙ ap₂ (λ (left : List Item) (answers : List ℕ). behind left answers own) (take_rest items heard) c.as_slice-in-Some.ensures.value
     ∙ ap (λ (p : P). behind (drop heard items) join.answers.items p) (sym c.self.view_is)
-    ∙ ap (λ (p : P). heard_all running login (drop heard items) p) (sym (loaded_is come join k i.waiting i.acked c.in_ok-heard.ensures.stands c.in-Some.is))
+    ∙ ap (λ (p : P). heard_all running login (drop heard items) p) (sym (loaded_is come join k i.waiting i.acked
+    c.in_ok-heard.ensures.stands c.in-Some.is))
     ∙ whole) c.start.ensures.heard
 
 pub invariant_of-self-in-None : goal.invariant_of-self-in-None
@@ -52,7 +55,8 @@ invariant_of-self-in-None c =
     let joining : phase_of i.phase ≡ book.Joining = ap (λ (p : P). p.phase) c.self.view_is ∙ c.requires.joining in
     let j = joins_by i.stage i.phase i.off i.runs c.self.invariant.0 joining in
     let put : c.extend_from_slice.new.self.items ≡ i.come.items ++ join.more.items = search rules in
-    let all : c.extend_from_slice.new.self.items ≡ come ++ join.more.items = put ∙ ap (λ (xs : List ℕ). xs ++ join.more.items) (sym c.as_slice.ensures.value) in
+    let all : c.extend_from_slice.new.self.items ≡ come ++ join.more.items = put ∙ ap (λ (xs : List ℕ). xs ++ join.more.items) (sym
+    c.as_slice.ensures.value) in
     let both = stands_joined join.phase join come i.off i.runs j.2 j.3 c.in_ok-heard.ensures.stands c.in-None.is in
     (both.0, subst (λ (xs : List ℕ). IsClear join.stage xs) (sym all) both.1)
 
@@ -70,14 +74,17 @@ returns-clause-heard c =
     c.begin-join.ensures.same come i.waiting i.acked
     ∙ ap (λ (xs : List ℕ). at_door (place_of i.stage xs) i.number i.company i.waiting i.acked) c.as_slice.ensures.value
     ∙ sym (door_is i.stage i.come.items i.phase i.off i.number i.company i.runs i.waiting i.acked j.0 j.2 j.3) ∙ c.self.view_is in
-    let whole : heard_all running login (drop heard items) (joined_by come join i.waiting i.acked) ≡ heard_all running login items c.args.self.now =
+    let whole : heard_all running login (drop heard items) (joined_by come join i.waiting i.acked) ≡ heard_all running login items
+    c.args.self.now =
     c.in_ok-heard.ensures.heard i.waiting i.acked ∙ ap (λ (p : P). heard_all running login items p) begins in
     let put : c.extend_from_slice.new.self.items ≡ i.come.items ++ join.more.items = search rules in
-    let all : c.extend_from_slice.new.self.items ≡ come ++ join.more.items = put ∙ ap (λ (xs : List ℕ). xs ++ join.more.items) (sym c.as_slice.ensures.value) in
+    let all : c.extend_from_slice.new.self.items ≡ come ++ join.more.items = put ∙ ap (λ (xs : List ℕ). xs ++ join.more.items) (sym
+    c.as_slice.ensures.value) in
     let said : c.say.new.self ≡ with_bytes join.answers.items i.waiting =
     c.in_ok-say-in-None.ensures.said ∙ ap (λ (xs : List ℕ). with_bytes xs i.waiting) c.as_slice-in-None.ensures.value in
     ap₂ (λ (xs : List ℕ) (s : Saying). seat join.stage xs join.phase i.off join.number join.company i.runs s i.acked) all said
-    ∙ ap₂ (λ (off : Option Mismatch) (runs : Option K). seat join.stage (come ++ join.more.items) join.phase off join.number join.company runs
+    ∙ ap₂ (λ (off : Option Mismatch) (runs : Option K). seat join.stage (come ++ join.more.items) join.phase off join.number join.company
+    runs
     (with_bytes join.answers.items i.waiting) i.acked) j.2 j.3
     ∙ ap (λ (runs : Option K). let p : P = record {
       place = place_of join.stage (come ++ join.more.items);
@@ -88,4 +95,5 @@ returns-clause-heard c =
       saying = with_bytes join.answers.items i.waiting;
       acked = i.acked;
     } in p) (sym c.in-None.is)
-    ∙ sym (settled login items heard join come i.waiting i.acked c.in_ok-heard.ensures.stands c.in-None.is c.in_ok-heard.ensures.all) ∙ whole
+    ∙ sym (settled login items heard join come i.waiting i.acked c.in_ok-heard.ensures.stands c.in-None.is c.in_ok-heard.ensures.all) ∙
+    whole

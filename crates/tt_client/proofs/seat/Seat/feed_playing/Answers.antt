@@ -12,7 +12,8 @@ use Rattle.tt_client.proofs.seat.Seat.feed_playing.Goals as goal
 
 pub invariant_of-self-2 : goal.invariant_of-self-2
 invariant_of-self-2 c = (
-  stands_played c.stage_on-self-inside.result c.hear_all.new.self.phase c.hear_all.new.self.off c.take_in.new.self c.in_ok-hear_all.ensures.stands
+  stands_played c.stage_on-self-inside.result c.hear_all.new.self.phase c.hear_all.new.self.off c.take_in.new.self
+      c.in_ok-hear_all.ensures.stands
       c.stage_on-self-inside.ensures.loaded,
   c.stage_on-self-inside.ensures.clear c.self.inside.come.items,
 )
@@ -34,7 +35,8 @@ returns-clause-heard c = λ login.
     } in
     let is = playing_is i.stage i.come.items i.phase i.off i.number i.company i.runs k i.waiting i.acked c.self.invariant.0 c.in-Some.is
     (ap (λ (p : P). is_playing p) c.self.view_is ∙ c.requires.playing) in
-    ap₂ (λ (place : Place) (l : K). with place l c.token.new.self) (c.stage_on-self-inside.ensures.stage i.come.items) c.in_ok-take_in.ensures.taken
+    ap₂ (λ (place : Place) (l : K). with place l c.token.new.self) (c.stage_on-self-inside.ensures.stage i.come.items)
+    c.in_ok-take_in.ensures.taken
     ∙ ap (λ (s : Saying). with (place_on (goes_on (phase_of play.phase))) (with_news k play.news) s) c.token.ensures.owed
     ∙ c.in_ok-hear_all.ensures.heard login i.waiting i.acked
     ∙ ap (λ (p : P). heard_all running login items p) (c.begin-play.ensures.none i.waiting i.acked ∙ sym is ∙ c.self.view_is)

@@ -12,7 +12,8 @@ use Rattle.tt_client.proofs.seat.Seat.start.Goals as goal
 
 pub invariant_of-self-2 : goal.invariant_of-self-2
 invariant_of-self-2 c = (
-  stands_played c.stage_on-self-inside.result c.hear_all.new.self.phase c.hear_all.new.self.off c.take_in.new.self c.in_ok-hear_all.ensures.stands
+  stands_played c.stage_on-self-inside.result c.hear_all.new.self.phase c.hear_all.new.self.off c.take_in.new.self
+      c.in_ok-hear_all.ensures.stands
       c.stage_on-self-inside.ensures.loaded,
   c.stage_on-self-inside.ensures.clear c.new.result.items,
 )
@@ -33,7 +34,8 @@ returns-clause-heard c = λ login.
       saying = s;
       acked = i.acked;
     } in
-    ap₂ (λ (place : Place) (l : K). with place l c.token.new.self) (c.stage_on-self-inside.ensures.stage c.new.result.items) c.in_ok-take_in.ensures.taken
+    ap₂ (λ (place : Place) (l : K). with place l c.token.new.self) (c.stage_on-self-inside.ensures.stage c.new.result.items)
+    c.in_ok-take_in.ensures.taken
     ∙ ap (λ (s : Saying). with (place_on (goes_on (phase_of play.phase))) (with_news k play.news) s)
     (c.token.ensures.owed ∙ ap (λ (s : Saying). with_token play.token s) c.in_ok-say.ensures.said)
     ∙ c.in_ok-hear_all.ensures.heard login (with_bytes answers i.waiting) i.acked
