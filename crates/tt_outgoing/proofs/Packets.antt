@@ -1,5 +1,5 @@
 -- Packets of tellings: what they tell a connection, and those of one step.
-use Rattle.std.proofs.Common.{◌≡◌, ℕ, Bool, true, false, List, [], ◌∷◌, ◌++◌, map, length, refl, sym, ap, ◌∙◌}
+use Rattle.std.proofs.Common.{◌≡◌, ℕ, Bool, true, false, List, [], ◌∷◌, ◌++◌, map, length, refl, sym, ap, subst, ◌∙◌, append_assoc}
 use Rattle.std.proofs.Common.{arith}
 use Rattle.std.specs.Prelude.{◌==◌, flat_map, Result, Ok, Err, OnOk}
 use Rattle.std.specs.List.{list_any}
@@ -13,9 +13,11 @@ use Rattle.tt_log.specs.Tellings.{Telling, filled, said_by, telling}
 use Rattle.tt_log.specs.Told.{kept_if, told_to}
 use Rattle.tt_log.specs.Admin.{Admin}
 use Rattle.tt_members.specs.declared.step.Step as plan
-use Rattle.tt_members.specs.Steps.{conns_of, step_in}
+use Rattle.tt_members.specs.Steps.{conns_of, step_in, steps_in}
 use Rattle.tt_outgoing.specs.Waiting.{bytes_if}
-use Rattle.tt_outgoing.specs.Staging.{Packet, bytes_for, packet_to, packets_of, packets_to}
+use Rattle.tt_outgoing.specs.declared.sources.Sources.{Sources}
+use Rattle.tt_outgoing.specs.Sources.{AreAtHand, IsAtHand}
+use Rattle.tt_outgoing.specs.Staging.{MayAllBeSaid, MayAllBeTold, MayBeTold, Packet, bytes_for, packet_to, packets_of, packets_to}
 
 -- ---- what packets tell a connection
 
@@ -76,3 +78,40 @@ pub staged_step : (o : Origin) (f : Filling) (admins : List Admin) (step : plan.
 staged_step o f admins step conns old new to_is new_is =
     new_is ∙ ap (λ (l : List ℕ). old ++ packets_to l (said_by o f step.what)) (sym to_is)
     ∙ ap (λ (l : List Packet). old ++ l) (sym (packets_step o f (step_in admins step)))
+
+-- ---- steps, one after another
+
+packets_first : (o : Origin) (f : Filling) (s : Step) (steps : List Step)
+    → packets_of (filled o f (s ∷ steps)) ≡ packets_of (filled o f (s ∷ [])) ++ packets_of (filled o f steps)
+packets_first o f s steps =
+    let said : List Telling = map (telling s.to) (said_by o f s.what) in
+    flat_map-append (λ (d : Telling). packet_to d.to d.said) said (filled o f steps)
+    ∙ ap (λ (l : List Telling). packets_of l ++ packets_of (filled o f steps)) (sym (append-nil said))
+
+-- what is at hand, and what is staged and left
+abbrev pub AreLeft : Origin → Filling → Sources → List Admin → List Packet → List plan.Step → List Packet → Type 0
+AreLeft o f s admins all steps now = AreAtHand o f s steps × (now ++ packets_of (filled o f (steps_in admins steps)) ≡ all)
+
+pub left_next : (o : Origin) (f : Filling) (s : Sources) (admins : List Admin) (all now after : List Packet) (left more : List plan.Step)
+    (step : plan.Step) → left ≡ step ∷ more → AreLeft o f s admins all left now
+    → (IsAtHand o f s step.what → after ≡ now ++ packets_of (filled o f (step_in admins step ∷ []))) → AreLeft o f s admins all more after
+left_next o f s admins all now after left more step first was does =
+    let P : List plan.Step → Type 0 = λ l. AreLeft o f s admins all l now in
+    let is : AreLeft o f s admins all (step ∷ more) now = subst P first was in
+    let one : List Packet = packets_of (filled o f (step_in admins step ∷ [])) in
+    let rest : List Packet = packets_of (filled o f (steps_in admins more)) in (
+      is.0.1,
+      ap (λ (l : List Packet). l ++ rest) (does is.0.0) ∙ append_assoc now one rest
+          ∙ ap (λ (l : List Packet). now ++ l) (sym (packets_first o f (step_in admins step) (steps_in admins more))) ∙ is.1,
+    )
+
+-- ---- who is told
+
+packet_for : (most : ℕ) (to : List ℕ) (s : Said) (packets : List Packet) → MayBeTold most to → MayAllBeTold most packets
+    → MayAllBeTold most (packet_to to s ++ packets)
+packet_for most [] s packets may all = all
+packet_for most (c ∷ to) s packets may all = (may, all)
+
+pub packets_for : (most : ℕ) (ds : List Telling) → MayAllBeSaid most ds → MayAllBeTold most (packets_of ds)
+packets_for most [] may = tt
+packets_for most (d ∷ ds) may = packet_for most d.to d.said (packets_of ds) may.0 (packets_for most ds may.1)

@@ -1,13 +1,16 @@
 -- Messages on companies, one number after another; the news of entries, one after another; and reports as these.
 use Rattle.std.proofs.Common.{◌≡◌, ℕ, ◌+◌, ◌<◌, Bool, true, false, cond, List, [], ◌∷◌, ◌++◌, Option, Some, None, drop, length, map, refl}
 use Rattle.std.proofs.Common.{sym, ap, subst, ◌∙◌, append_assoc}
-use Rattle.std.specs.Prelude.{filter, if◌then◌else◌, option_map}
+use Rattle.std.specs.Prelude.{◌||◌, filter, if◌then◌else◌, option_map}
+use Rattle.std.specs.List.{list_any}
 use Rattle.std.proofs.lemmas.List.{drop_more}
 use Rattle.tt_admin.specs.declared.message.AdminMsg.{AdminMsg}
 use Rattle.tt_admin.specs.declared.message.AdminMsg.TheVariants.{ServerCompanyNew}
 use Rattle.tt_world.specs.declared.company.Company.{Company}
 use Rattle.tt_world.specs.declared.command.Code.{Code}
-use Rattle.tt_world.specs.declared.command.Code.TheVariants.{NewCompany}
+use Rattle.tt_world.specs.declared.command.Code.TheVariants.{IncreaseLoan, DecreaseLoan, Give, PlaceSign, RenameSign, RenameCompany}
+use Rattle.tt_world.specs.declared.command.Code.TheVariants.{RenamePresident, Pause, NewCompany}
+use Rattle.tt_world.specs.declared.effect.Effect.{Effect}
 use Rattle.tt_world.specs.declared.command.Entry.{Entry}
 use Rattle.tt_world.specs.declared.effect.Effect.TheVariants.{Done}
 use Rattle.tt_world.specs.World.{WorldState, company_at}
@@ -23,7 +26,7 @@ use Rattle.tt_log.specs.Reports.{company_economies, company_info, company_lines,
 use Rattle.tt_log.specs.Table.{option_list}
 use Rattle.tt_outgoing.specs.declared.companies.Topic.TheVariants.{Economy, Stats, Line}
 use Rattle.tt_outgoing.specs.declared.sources.Sources.{Sources}
-use Rattle.tt_outgoing.specs.Companies.{company_message, company_messages}
+use Rattle.tt_outgoing.specs.Companies.{company_message, company_messages, has_news}
 use Rattle.tt_outgoing.specs.Sources.{IsAtHandFor}
 use Rattle.tt_outgoing.specs.Staging.{Packet, packets_to}
 
@@ -125,3 +128,35 @@ lines_said o f s to r before after is at after_is =
     after_is ∙ ap (λ (l : List AdminMsg). before ++ packets_to to (map admin l)) (lines_all f.digests s.world.now)
     ∙ ap (λ (w : WorldState). before ++ packets_to to (map admin (company_lines w))) world
     ∙ ap (λ (x : Report). before ++ packets_to to (map admin (reported o f x))) (sym is)
+
+-- ---- no news
+
+quiet : (code : Code) (effect : Effect) (digests : List (ℕ × List ℕ)) (new own : ℕ) (w : WorldState) → has_news code ≡ false
+    → news_of code effect digests new own w ≡ []
+quiet IncreaseLoan effect digests new own w none = refl
+quiet DecreaseLoan effect digests new own w none = refl
+quiet Give effect digests new own w none = refl
+quiet PlaceSign effect digests new own w none = refl
+quiet RenameSign effect digests new own w none = refl
+quiet RenameCompany effect digests new own w none = absurd (cc none)
+quiet RenamePresident effect digests new own w none = absurd (cc none)
+quiet Pause effect digests new own w none = refl
+quiet NewCompany effect digests new own w none = absurd (cc none)
+
+first_none : (a b : Bool) → (a || b) ≡ false → a ≡ false
+first_none true b e = e
+first_none false b e = refl
+
+others_none : (a b : Bool) → (a || b) ≡ false → b ≡ false
+others_none true b e = absurd (cc e)
+others_none false b e = e
+
+pub no_news : (digests : List (ℕ × List ℕ)) (w : WorldState) (entries : List Entry)
+    → list_any (λ (e : Entry). has_news e.command.code) entries ≡ false → news_in digests w entries ≡ []
+no_news digests w [] none = refl
+no_news digests w (e ∷ entries) none =
+    let rest : Bool = list_any (λ (x : Entry). has_news x.command.code) entries in
+    ap (λ (l : List AdminMsg). l ++ news_in digests (applied w e).0 entries)
+    (quiet e.command.code (applied w e).1 digests (new_number w.companies) e.company (applied w e).0
+    (first_none (has_news e.command.code) rest none))
+    ∙ no_news digests (applied w e).0 entries (others_none (has_news e.command.code) rest none)

@@ -1,8 +1,10 @@
 -- What admins are told of a company: a message of one of these topics.
-use Rattle.std.specs.Prelude.{ℕ, Bool, List, map}
+use Rattle.std.specs.Prelude.{ℕ, Bool, true, false, List, map}
 use Rattle.tt_admin.specs.declared.message.AdminMsg.{AdminMsg}
 use Rattle.tt_admin.specs.declared.message.AdminMsg.TheVariants.{ServerCompanyStats, ServerRcon}
 use Rattle.tt_world.specs.declared.company.Company.{Company}
+use Rattle.tt_world.specs.declared.command.Code.{Code}
+use Rattle.tt_world.specs.declared.command.Code.TheVariants.{RenameCompany, RenamePresident, NewCompany}
 use Rattle.tt_world.specs.World.{WorldState}
 use Rattle.tt_log.specs.Reports.{asked_companies, company_economy, company_info, company_line, company_update, signs_of}
 use Rattle.tt_outgoing.specs.declared.companies.Topic.{Topic}
@@ -28,3 +30,10 @@ AreKnown Update locked digests = AreLocks locked digests
 AreKnown Economy locked digests = Unit {0}
 AreKnown Stats locked digests = Unit {0}
 AreKnown Line locked digests = Unit {0}
+
+-- a command of this code may be news of a company
+abbrev pub has_news : Code → Bool
+has_news NewCompany = true
+has_news RenameCompany = true
+has_news RenamePresident = true
+has_news code = false

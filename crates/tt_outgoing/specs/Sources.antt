@@ -1,5 +1,6 @@
 -- What steps are filled in from, as the server core has it at hand.
 use Rattle.std.specs.Prelude.{◌≡◌, ℕ, ◌*◌, ◌<◌, Bool, false, List, length, take, nat_lt, slice_index_or}
+use Rattle.std.specs.List.{AllByRecursion}
 use Rattle.tt_map.specs.Layout.{map_of}
 use Rattle.tt_log.specs.declared.deed.What.{What}
 use Rattle.tt_log.specs.declared.deed.What.TheVariants.{Msg, ToAdmin, MapBegin, MapPieces, Sync, Entries, Stamp, End}
@@ -9,6 +10,7 @@ use Rattle.tt_log.specs.declared.report.Report.TheVariants.{CompanyLines, Compan
 use Rattle.tt_log.specs.Filling.{Filling}
 use Rattle.tt_log.specs.Origin.{Origin, IsJournal, at_frame}
 use Rattle.tt_log.specs.Reports.{is_locked}
+use Rattle.tt_members.specs.declared.step.Step.{Step}
 use Rattle.tt_outgoing.specs.declared.sources.Sources.{Sources}
 
 -- the companies with a password, each by its number
@@ -41,3 +43,7 @@ IsAtHand o f s Sync = (s.frame ≡ f.frame) × (s.word ≡ f.world.words.0)
 IsAtHand o f s (Entries frame) = (s.journal.now ≡ f.journal) × IsJournal o f.journal
 IsAtHand o f s (Stamp e) = Unit {0}
 IsAtHand o f s End = Unit {0}
+
+-- so it is of each of these steps
+abbrev pub AreAtHand : Origin → Filling → Sources → List Step → Type 0
+AreAtHand o f s steps = AllByRecursion (λ (step : Step). IsAtHand o f s step.what) steps

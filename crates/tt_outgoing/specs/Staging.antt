@@ -45,13 +45,17 @@ parts_in (p ∷ packets) = length p.to + parts_in packets
 abbrev pub AreDistinct : List ℕ → Type 0
 AreDistinct conns = (i j : ℕ) → i < j → j < length conns → slice_index_or conns i 0 ≢ slice_index_or conns j 0
 
--- each connection that is told a packet is one of those that are opened, so many, and is told it once
-pub record MayBeTold (opened : ℕ) (p : Packet) : Type 0 where
-  pub conns : All (λ c. (1 ≤ c) × (c ≤ opened)) p.to
-  pub distinct : AreDistinct p.to
+-- each of these connections is one of those that are opened, so many, and none stands twice
+pub record MayBeTold (most : ℕ) (conns : List ℕ) : Type 0 where
+  pub opened : All (λ c. (1 ≤ c) × (c ≤ most)) conns
+  pub distinct : AreDistinct conns
 
+-- so it is of each packet, and of each telling
 abbrev pub MayAllBeTold : ℕ → List Packet → Type 0
-MayAllBeTold opened packets = AllByRecursion (MayBeTold opened) packets
+MayAllBeTold opened packets = AllByRecursion (λ (p : Packet). MayBeTold opened p.to) packets
+
+abbrev pub MayAllBeSaid : ℕ → List Telling → Type 0
+MayAllBeSaid opened tellings = AllByRecursion (λ (d : Telling). MayBeTold opened d.to) tellings
 
 -- packets come behind others
 abbrev pub Grows : List Packet → List Packet → Type 0

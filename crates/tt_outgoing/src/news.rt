@@ -1,8 +1,10 @@
 //! The news of a frame: the companies that its entries found and rename.
 ghost use Rattle.std.specs.Prelude.{◌≡◌, ℕ, ◌++◌, ◌≤◌, List, IfOk, OnOk};
+ghost use Rattle.std.specs.List.{list_any};
 ghost use Rattle.tt_world.specs.declared.effect.Effect.TheVariants.{Done};
 ghost use Rattle.tt_world.specs.Commands.{applied, new_number};
 ghost use Rattle.tt_log.specs.Reports.{news_in, news_of};
+ghost use Rattle.tt_outgoing.specs.Companies.{has_news};
 ghost use Rattle.tt_outgoing.specs.Sources.{AreLocks};
 
 use crate::companies::{Topic, tell_of};
@@ -22,7 +24,8 @@ pub(crate) fn news_in(
         → messages.items ≡ news_in digests before.now entries.now) }
 {
     let mut messages = Vec::new(alloc);
-    if entries.is_empty() {
+    // So a frame without news needs no copy.
+    if !is_any_news(entries) {
         return Ok(messages);
     }
     let mut world = before.copy(alloc)?;
@@ -30,6 +33,28 @@ pub(crate) fn news_in(
         tell_news(alloc, &mut messages, locked, &mut world, entry)?;
     }
     Ok(messages)
+}
+
+/// Whether an entry may be news of a company.
+fn is_any_news(entries: &[Entry]) -> bool
+    ensures any { result ≡ list_any (λ e. has_news e.command.code) entries.now }
+{
+    for entry in entries {
+        if has_news(entry.command.code) {
+            return true;
+        }
+    }
+    false
+}
+
+/// Whether a command of this code may be news of a company.
+fn has_news(code: Code) -> bool
+    ensures news { result ≡ has_news code }
+{
+    match code {
+        Code::NewCompany | Code::RenameCompany | Code::RenamePresident => true,
+        _ => false,
+    }
 }
 
 /// Does an entry, and tells what became of it.

@@ -6,9 +6,9 @@ ghost use Rattle.tt_log.specs.Origin.{Origin, IsJournal, above as entries_above}
 ghost use Rattle.tt_log.specs.PacketRules.{told_command};
 ghost use Rattle.tt_log.specs.Reports.{reported, welcome};
 ghost use Rattle.tt_log.specs.Tellings.{filled, said_by};
-ghost use Rattle.tt_members.specs.Steps.{step_in};
+ghost use Rattle.tt_members.specs.Steps.{step_in, steps_in};
 ghost use Rattle.tt_outgoing.specs.Companies.{AreKnown, company_messages};
-ghost use Rattle.tt_outgoing.specs.Sources.{IsAtHand, IsAtHandFor};
+ghost use Rattle.tt_outgoing.specs.Sources.{AreAtHand, IsAtHand, IsAtHandFor};
 ghost use Rattle.tt_outgoing.specs.Staging.{Grows, packets_of, packets_to};
 
 use crate::audience::watching;
@@ -28,6 +28,24 @@ use tt_rules::number_of;
 use tt_world::{Entry, Setup};
 
 impl Staged {
+    /// Puts the packets of steps behind the others, in order, as `stage` does.
+    pub fn stage_all(
+        &mut self,
+        alloc: Global,
+        steps: &[Step],
+        admins: &[Admin],
+        from: &Sources,
+    ) -> Result<(), OutOfMemory>
+        ensures staged { OnOk result ((o : Origin) (f : Filling) → AreAtHand o f from.now steps.now
+            → self.new ≡ self.old ++ packets_of (filled o f (steps_in admins.now steps.now))) }
+        ensures kept { Grows self.old self.new }
+    {
+        for step in steps {
+            self.stage(alloc, step, admins, from)?;
+        }
+        Ok(())
+    }
+
     /// Puts the packets of a step behind the others: each message is spelled once, whoever is told it. Where memory runs out,
     /// the others still stand in front.
     pub fn stage(

@@ -2,7 +2,7 @@ use Rattle.std.proofs.Common.{◌≡◌, ◌∙◌, ◌+◌, List, ◌∷◌, ap
 use Rattle.std.proofs.lemmas.List.{drop_more}
 use Rattle.tt_world.specs.declared.command.Entry.{Entry}
 use Rattle.tt_log.specs.Reports.{news_in}
-use Rattle.tt_outgoing.proofs.ReportLists.{news_step}
+use Rattle.tt_outgoing.proofs.ReportLists.{news_step, no_news}
 use Rattle.tt_outgoing.proofs.news.news_in.Goals as goal
 
 pub loop-entry-preserved : goal.loop-entry-preserved
@@ -16,3 +16,9 @@ loop-entry-preserved c = λ digests known.
     news_step digests l.world c.tell_news.new.world (news_in digests c.in_ok-world.world entries) l.messages.items
     c.tell_news.new.messages.items (drop l.entry-index entries) more e first (l.invariant digests known) c.in_ok-tell_news.ensures.world
     (c.in_ok-tell_news.ensures.news digests known)
+
+pub returns-then-not-is_any_news : goal.returns-then-not-is_any_news
+returns-then-not-is_any_news c = record {
+  news = λ digests known. c.new-messages.ensures.items ∙ sym (no_news digests c.args.before.now c.args.entries.now
+      (sym c.is_any_news.ensures.any ∙ c.if-not-is_any_news.true));
+}
