@@ -2,3 +2,11 @@ mod OutsParts
 mod OutsLogs
 mod OutsSeats
 mod OutsTakes
+mod Packets
+mod CutUp
+mod Delivered
+mod Downloads
+mod Journals
+mod PieceLists
+mod LineTexts
+mod ReportLists

@@ -1,2 +1,5 @@
 pub mod Waiting
 pub mod Outgoing
+pub mod Staging
+pub mod Sources
+pub mod Companies

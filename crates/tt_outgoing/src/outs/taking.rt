@@ -1,7 +1,8 @@
 //! Bytes are taken.
 ghost use Rattle.std.specs.Prelude.{◌≡◌, ◌≢◌, ℕ, ◌≤◌, ◌<◌, ◌+◌, ◌-◌, ◌++◌, [], length, take, drop, min};
 ghost use Rattle.std.specs.VecDeque.{deque_capacity};
-ghost use Rattle.tt_outgoing.specs.Outgoing.{plain, Keeps, IsHeld, IsSound, part_at, number_of, waits_in, waits_before, waits_from, spare_bytes};
+ghost use Rattle.tt_outgoing.specs.Outgoing.{plain, Keeps, IsHeld, IsSound, part_at, number_of, waits_in, waits_before, waits_from};
+ghost use Rattle.tt_outgoing.specs.Outgoing.{spare_bytes};
 ghost use Rattle.tt_outgoing.specs.Outgoing.{spare_parts};
 
 use crate::outs::log::{Log, Part, part_at, part_bytes, set_part};

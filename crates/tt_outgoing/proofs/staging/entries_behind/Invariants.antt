@@ -1,0 +1,11 @@
+use Rattle.std.proofs.Common.{◌≡◌, ◌≤◌, drop, length}
+use Rattle.tt_log.specs.Origin.{Origin, above}
+use Rattle.tt_outgoing.proofs.staging.entries_behind.Given as goal
+
+-- each entry behind this place is above the frame
+abbrev pub invariant-loop-first : goal.invariant-loop-first
+invariant-loop-first l = (l.first ≤ length l.journal)
+    × ((o : Origin) → above o l.frame (drop l.first l.journal) ≡ drop l.first l.journal)
+
+abbrev pub decreases-loop-first : goal.decreases-loop-first
+decreases-loop-first l = l.first
