@@ -76,8 +76,12 @@ seen_same o (lockstep.Wrong v) t = refl
 
 item_same : (o : Origin) (s : Shown) (i : Item) → unless_over o s i ≡ unless_over anywhere s i
 item_same o s i =
-    ap (λ (h : lockstep.Shown WorldState Entry). let w : Shown = record s { phase = phase_by h i; place = place_then s.place i.msg; seen =
-        h } in
+    ap (λ (h : lockstep.Shown WorldState Entry). let w : Shown = record s {
+      phase = phase_by h i;
+      place = place_then s.place i.msg;
+      seen =
+          h;
+    } in
     cond (goes_on s.phase) (cond (goes_on w.phase) (learns i.msg w) w) s) (seen_same o s.seen (item_told s.place i.msg))
 
 items_same : (o : Origin) (s : Shown) (items : List Item) → fold (unless_over o) s items ≡ fold (unless_over anywhere) s items
@@ -125,7 +129,7 @@ right_phase (WrongAt at) items is = absurd is
 -- unless it is out of step, its phase is that of what its stream shows
 phase_by_shows : (login : Login) (calls : List Call) → Shows (client login calls) (shown anywhere (fed calls))
     → is_off (runner_mark (client_run login calls).runs) ≡ false → (client_run login calls).phase ≡ told_phase (shown anywhere (fed
-        calls)).phase
+    calls)).phase
 phase_by_shows login calls (inl is) steady = sym (ap (λ (p : P). p.phase) (same_run login (steps_behind [] calls))) ∙ is.phase
 phase_by_shows login calls (inr off) steady =
     absurd (false≢true (sym steady ∙ ap (λ (p : P). is_off (runner_mark p.runs)) (sym (same_run login (steps_behind [] calls)))
@@ -158,15 +162,15 @@ run_in_step however ends o events conn login calls sent_so =
     let same = all_fed calls in
     let ran = however o events conn (pieces calls) sent_so.later sent_so.origin sent_so.are_events sent_so.player
     (subst (λ (xs : List ℕ). IsBytes xs) (sym same) sent_so.are_bytes) (sent_so.front ∙ ap (λ (xs : List ℕ). xs ++ sent_so.later) (sym
-        same)) in
+    same)) in
     let runs_as : p.runs ≡ runner_run (game_of o) RunnerJoining (calls_of (pieces calls)) =
     follows login [] calls (joined running login) sent_so.are_bytes (begins login) ∙ sym (run-same o RunnerJoining (calls_of (pieces
-        calls))) in
+    calls))) in
     let steps_in : IsRunnerInStep (game_of o) journal p.runs = subst (λ (r : R). IsRunnerInStep (game_of o) journal r) (sym runs_as) ran in
     let steady = steady_by o journal p.runs steps_in in
     let phase = phase_by_shows login calls (client_shows login calls sent_so.are_bytes) steady in
     let ended = ends o events conn (fed calls) sent_so.later sent_so.origin sent_so.are_events sent_so.player sent_so.are_bytes
-        sent_so.front in
+    sent_so.front in
     record {
       world = λ w f one two. world_by_runs o journal p.runs w f steps_in one two;
       right = subst (λ (x : State). IsRight x (items_in (fed calls))) (sym (state_is (runner_mark p.runs) p.phase steady))
@@ -180,7 +184,7 @@ pub client_in_step : However → Shown_ends → (o : Origin) (events : List Even
     → IsInStep o events (items_in (fed calls)) (held login calls).player
 client_in_step however ends o events conn login calls sent_so =
     subst (λ (p : P). IsInStep o events (items_in (fed calls)) p) (sym (in_steps login calls sent_so.are_bytes)) (run_in_step however ends
-        o events conn login calls sent_so)
+    o events conn login calls sent_so)
 
 -- one call more
 pub held_push : (h : Held) (calls : List Call) (c : Call) → held_after h (calls ++ c ∷ []) ≡ with_call (held_after h calls) c
@@ -204,7 +208,7 @@ feeds known_so old new piece is o events conn login calls from sent_so =
     let same : new ≡ held login (calls ++ Feed piece ∷ []) =
     is ∙ ap (λ (h : Held). with_call h (Feed piece)) from ∙ sym (held_push (held_first login) calls (Feed piece)) in
     subst (λ (h : Held). IsInStep o events (items_in (fed (calls ++ Feed piece ∷ []))) h.player) (sym same) (known_so o events conn login
-        (calls ++ Feed piece ∷ []) sent_so)
+    (calls ++ Feed piece ∷ []) sent_so)
 
 pub advances : InStep → (old new : Held) (n : ℕ) → new ≡ with_call old (Advance n) → AdvancesInStep old new
 advances known_so old new n is o events conn login calls from sent_so =
@@ -213,4 +217,4 @@ advances known_so old new n is o events conn login calls from sent_so =
     subst (λ (h : Held). IsInStep o events (items_in (fed calls)) h.player) (sym same)
     (subst (λ (xs : List ℕ). IsInStep o events (items_in xs) (held login (calls ++ Advance n ∷ [])).player) (fed_advance calls n)
     (known_so o events conn login (calls ++ Advance n ∷ []) (subst (λ (xs : List ℕ). IsSent o events conn xs) (sym (fed_advance calls n))
-        sent_so)))
+    sent_so)))

@@ -176,7 +176,7 @@ on_is login p s is =
 heard_shown : (login : Login) (i : Item) (p : P) (s n : Shown) (f : ℕ) → IsShown p s → goes_on s.phase ≡ true → Next i s n
     → hears known p.runs (item_told p.place i.msg) ≡ Following n.seen f
     → IsShown (heard_as login i (client_mark (hears known p.runs (item_told p.place i.msg))) (hears known p.runs (item_told p.place i.msg))
-        p) n
+    p) n
 heard_shown login i p s n f is on next runs =
     let r = hears known p.runs (item_told p.place i.msg) in
     let phase : phase_by (client_mark r) i ≡ told_phase n.phase =
@@ -199,7 +199,7 @@ heard_shown login i p s n f is on next runs =
 
 shows_by : (login : Login) (i : Item) (p : P) (s : Shown) → IsShown p s → goes_on s.phase ≡ true
     → Shows (heard_as login i (client_mark (hears known p.runs (item_told p.place i.msg))) (hears known p.runs (item_told p.place i.msg))
-        p) (behind anywhere s i)
+    p) (behind anywhere s i)
 shows_by login i p s is on =
     let next = next_is s i in
     let t = item_told s.place i.msg in
@@ -213,7 +213,7 @@ shows_by login i p s is on =
 
 hear_by : (login : Login) (i : Item) (p : P) (s : Shown) (b : Bool) → IsShown p s → goes_on s.phase ≡ b
     → Shows (cond b (heard_as login i (client_mark (hears known p.runs (item_told p.place i.msg))) (hears known p.runs (item_told p.place
-        i.msg)) p) p)
+    i.msg)) p) p)
     (cond b (behind anywhere s i) s)
 hear_by login i p s true is on = shows_by login i p s is on
 hear_by login i p s false is on = inl is
@@ -222,13 +222,13 @@ hear_shows : (login : Login) (i : Item) (p : P) (s : Shown) → Shows p s → Sh
 hear_shows login i p s (inl is) =
     let r = hears known p.runs (item_told p.place i.msg) in
     subst (λ (b : Bool). Shows (cond b (heard_as login i (client_mark r) r p) p) (cond (goes_on s.phase) (behind anywhere s i) s)) (sym
-        (on_is login p s is))
+    (on_is login p s is))
     (hear_by login i p s (goes_on s.phase) is refl)
 hear_shows login i p s (inr off) =
     let r = hears known p.runs (item_told p.place i.msg) in
     let stays : heard scratch login i p ≡ p =
     ap (λ (b : Bool). cond b (heard_as login i (client_mark r) r p) p) (ap (λ (b : Bool). goes_on p.phase && not b) off ∙ both_false
-        (goes_on p.phase)) in
+    (goes_on p.phase)) in
     inr (ap (λ (q : P). is_off (client_mark q.runs)) stays ∙ off)
 
 -- ---- frames
@@ -247,7 +247,7 @@ frame_follows : (h : lockstep.Shown WorldState Entry) (f : ℕ) → Follows (one
 frame_follows lockstep.Joining f = inl (f, refl)
 frame_follows (lockstep.Running v) f =
     elim (nat_lt f v.permitted) as (λ b. Follows (cond b (run_to known v (suc f) v.syncs) (Following (lockstep.Running v) f))
-        (lockstep.Running v)) [
+    (lockstep.Running v)) [
       | true ↦ run_follows v (suc f) v.syncs
       | false ↦ inl (f, refl)
     ]
@@ -350,21 +350,21 @@ calls_show login before (Feed piece ∷ calls) p fits is =
     let q = heard_all scratch login new p in
     let seen : sees (shown anywhere before) new ≡ shown anywhere (before ++ piece) =
     sym (sees_both nothing_shown (items_in before) new) ∙ ap (λ (is : List Item). sees nothing_shown is) (sym (items_grow before piece
-        front)) in
+    front)) in
     let next : Shows q (shown anywhere (before ++ piece)) = subst (λ (s : Shown). Shows q s) seen (all_shows login new p (shown anywhere
-        before) is) in
+    before) is) in
     subst (λ (xs : List ℕ). Shows (after scratch login p (steps_behind before (Feed piece ∷ calls))) (shown anywhere xs)) same
     (subst (λ (x : P). Shows x (shown anywhere ((before ++ piece) ++ fed calls))) (sym (hears_all login new (steps_behind (before ++ piece)
-        calls) p))
+    calls) p))
     (calls_show login (before ++ piece) calls q whole next))
 calls_show login before (Advance n ∷ calls) p fits is =
     calls_show login before calls (stepped scratch login p (Run n)) fits (run_shows login n p (shown anywhere before) is)
 calls_show login before (Submit company command ∷ calls) p fits is =
     calls_show login before calls (stepped scratch login p (Say company command)) fits (say_shows login company command p (shown anywhere
-        before) is)
+    before) is)
 calls_show login before (Take room ∷ calls) p fits is =
     calls_show login before calls (stepped scratch login p (Give room)) fits (shows_saying p (taken room p.saying) p.acked (shown anywhere
-        before) is)
+    before) is)
 
 nothing_yet : nothing_shown ≡ shown anywhere []
 unfolding reading_within

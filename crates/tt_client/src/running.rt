@@ -1,7 +1,7 @@
 //! What a client runs.
-ghost use Rattle.std.specs.Prelude.{◌≡◌, ◌<◌, ◌≤◌, ◌+◌, ◌-◌, ℕ, suc, min, length, IfNone, IsSome, IfSome, IfOk, OnOk, OnErr};
+ghost use Rattle.std.specs.Prelude.{◌≡◌, ◌<◌, ◌≤◌, ◌+◌, ◌-◌, ℕ, suc, min, length, IfNone, IsSome, IsTrue, IfSome, IfOk, OnOk, OnErr};
 ghost use Rattle.tt_lockstep.specs.Journal.{AreRising, above, applied_all, of_frame};
-ghost use Rattle.tt_lockstep.specs.Runner.{RunnerJoining, RunnerRunning, next_world, runner_advanced, runner_hears, runner_sync};
+ghost use Rattle.tt_lockstep.specs.Runner.{RunnerJoining, RunnerRunning, next_world, runner_advanced, runner_hears, runner_sync, syncs_above};
 ghost use Rattle.tt_lockstep.specs.Told.{Map};
 ghost use Rattle.tt_world.specs.Economy.{framed};
 ghost use Rattle.tt_client.specs.Known.{known};
@@ -108,6 +108,27 @@ fn first_other(syncs: &VecDeque<Sync>, frame: u32, mine: u32) -> Option<u32>
     None
 }
 
+/// Takes away the first word, where it was told of a frame of at most this one. Whether it did.
+fn pop_run(syncs: &mut VecDeque<Sync>, frame: u32) -> bool
+    ensures above { syncs_above frame syncs.new.items ≡ syncs_above frame syncs.old.items }
+    ensures fewer { IsTrue result → length syncs.new.items < length syncs.old.items }
+{
+    match syncs.front() {
+        Some(sync) if sync.frame <= frame => {
+            syncs.pop_front();
+            true
+        }
+        _ => false,
+    }
+}
+
+/// Takes away the words that stand first and were told of frames that were run.
+fn drop_run(syncs: &mut VecDeque<Sync>, frame: u32)
+    ensures above { syncs_above frame syncs.new.items ≡ syncs_above frame syncs.old.items }
+{
+    'words: while pop_run(syncs, frame) {}
+}
+
 impl Running {
     /// A client to which the map of a frame has come whole.
     pub fn new(alloc: Global, world: World, frame: u32) -> Result<Running, OutOfMemory>
@@ -170,7 +191,9 @@ impl Running {
         let (mine, _) = self.world.random().words();
         self.words.push_front(mine);
         self.frame = frame;
-        first_other(&self.syncs, frame, mine)
+        let other = first_other(&self.syncs, frame, mine);
+        drop_run(&mut self.syncs, frame);
+        other
     }
 
     /// Runs so many frames, as far as is permitted, and fewer where it finds itself out of step.
