@@ -15,3 +15,4 @@ pub mod Registry
 pub mod Lines
 pub mod OpenAttempts
 pub mod Parts
+pub mod Tells

@@ -6,13 +6,16 @@
 //! computes what small lists come to. The core itself is not built yet, but for its registry.
 #![tactic(auto)]
 
+mod hosts;
 mod laws;
 mod lines;
 mod meetings;
 mod parts;
 mod registry;
 mod setup;
+mod tells;
 mod tokens;
+mod words;
 
 pub use laws::{
     a_bad_packet_ends_its_own_connection, a_code_has_one_server, a_code_is_its_owners,
