@@ -1,10 +1,10 @@
 -- What is told to one after another.
-use Rattle.std.proofs.Common.{◌≡◌, ℕ, Bool, true, false, not, cond, List, [], ◌∷◌, ◌++◌, append_assoc, refl, sym, ap, ap₂, ◌∙◌}
+use Rattle.std.proofs.Common.{◌≡◌, ℕ, Bool, true, false, cond, List, [], ◌∷◌, ◌++◌, append_assoc, refl, sym, ap, ap₂, ◌∙◌}
 use Rattle.std.specs.Prelude.{filter, eqb}
 use Rattle.std.proofs.lemmas.List.{append-nil}
 use Rattle.tt_coord.specs.declared.coord.CoordMsg.{CoordMsg}
 use Rattle.tt_gc.specs.Table.{Table, is_live}
-use Rattle.tt_gc.specs.Deed.{Step, Deed, ◌▹◌, tells}
+use Rattle.tt_gc.specs.Deed.{Step, tells}
 use Rattle.tt_gc.specs.Told.{copies, bytes_of, bytes_to, spelled}
 use Rattle.tt_gc.specs.Tells.{Tell, told_to}
 

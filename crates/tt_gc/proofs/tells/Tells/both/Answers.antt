@@ -1,4 +1,4 @@
-use Rattle.std.proofs.Common.{◌≡◌, ℕ, ◌∷◌, [], ◌++◌, List, append_assoc, sym, ap, ◌∙◌}
+use Rattle.std.proofs.Common.{ℕ, ◌∷◌, [], ◌++◌, List, append_assoc, sym, ap, ◌∙◌}
 use Rattle.tt_gc.specs.Deed.{tells}
 use Rattle.tt_gc.specs.Told.{bytes_to}
 use Rattle.tt_gc.specs.Tells.{told_to}
