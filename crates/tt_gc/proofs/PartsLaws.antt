@@ -1,12 +1,12 @@
 -- What is done to the parts is done to the table.
-use Rattle.std.proofs.Common.{◌≡◌, ℕ, zero, suc, ◌+◌, ◌-◌, ◌<◌, ◌^◌, Bool, true, false, not, cond, List, [], ◌∷◌, ◌++◌, length, Option}
+use Rattle.std.proofs.Common.{◌≡◌, ℕ, zero, suc, ◌+◌, ◌-◌, ◌<◌, Bool, true, false, not, cond, List, [], ◌∷◌, ◌++◌, length, Option}
 use Rattle.std.proofs.Common.{Some, None, refl, sym, ap, ◌∙◌, arith}
 use Rattle.std.specs.Prelude.{filter, find, is_some, option_map, slice_index_or, slice_set}
 use Rattle.std.specs.Str.{bytes_eq}
 use Rattle.std.proofs.lemmas.Bool.{true≢false}
 use Rattle.tt_gc.specs.declared.lines.Line.{Line}
-use Rattle.tt_gc.specs.Table.{Connection, Server, is_on, is_servers}
-use Rattle.tt_gc.specs.Lines.{unopened, line_of, live_line, gone, coded, seen, connections_of, code_at}
+use Rattle.tt_gc.specs.Table.{Server, is_on, is_servers}
+use Rattle.tt_gc.specs.Lines.{unopened, line_of, gone, coded, seen, connections_of, code_at}
 use Rattle.tt_gc.specs.Parts.{IsServing}
 use Rattle.tt_gc.proofs.LinesLaws.{found_live, gone_live, coded_live}
 use Rattle.std.proofs.Common.{map}

@@ -1,11 +1,13 @@
 -- Drawn characters and digits are printable ASCII.
-use Rattle.std.proofs.Common.{◌≡◌, ℕ, zero, suc, ◌<◌, ◌≤◌, ◌^◌, Bool, true, false, ◌&&◌, ◌||◌, List, [], ◌∷◌, ◌++◌, length, refl, sym, ap}
+use Rattle.std.proofs.Common.{◌≡◌, ℕ, suc, ◌+◌, ◌<◌, ◌≤◌, ◌^◌, Bool, true, false, ◌&&◌, ◌||◌, List, [], ◌∷◌, ◌++◌, length, refl, sym}
+use Rattle.std.proofs.Common.{ap}
 use Rattle.std.proofs.Common.{◌∙◌, arith, subst}
 use Rattle.std.specs.Prelude.{nat_le, eqb, slice_index_or}
 use Rattle.std.specs.List.{list_all, list_any}
 use Rattle.std.specs.Fmt.{decimal}
 use Rattle.std.proofs.lemmas.Bool.{eqb-true, and_parts, false≢true}
-use Rattle.std.proofs.lemmas.Fmt.{digits_decimal}
+use Rattle.std.proofs.lemmas.Fmt.{digits_decimal, length-decimal-le}
+use Rattle.std.proofs.lemmas.List.{length-append}
 use Rattle.std.proofs.lemmas.Str.Parse.{digit_at}
 use Rattle.std.proofs.lemmas.List.Folds.{list_all-append}
 use Rattle.tt_lines.proofs.Decimals.{own}
@@ -50,3 +52,29 @@ plain_decimal n small =
 pub plain_both : (xs ys : List ℕ) → is_plain xs ≡ true → is_plain ys ≡ true → is_plain (xs ++ ys) ≡ true
 plain_both xs ys one two =
     list_all-append (λ (byte : ℕ). nat_le 32 byte && nat_le byte 126) xs ys ∙ ap (λ (b : Bool). b && is_plain ys) one ∙ two
+
+-- ---- parts of a text
+
+-- bytes that are printable ASCII, and at most so many
+pub record IsPart (most : ℕ) (xs : List ℕ) : Type 0 where
+  pub plain : is_plain xs ≡ true
+  pub fits : length xs ≤ most
+
+pub part_more : (a b : ℕ) (xs ys zs : List ℕ) → zs ≡ xs ++ ys → IsPart a xs → IsPart b ys → IsPart (a + b) zs
+part_more a b xs ys zs is one two =
+    subst (IsPart (a + b)) (sym is) (record {
+      plain = plain_both xs ys one.plain two.plain;
+      fits = omega (arith, length-append xs ys, one.fits, two.fits);
+    })
+
+pub part_number : (n : ℕ) → n < 256 → IsPart 3 (decimal n)
+part_number n small = record {
+  plain = plain_decimal n (omega (arith, small));
+  fits = length-decimal-le 3 n (omega arith) (omega (arith, small)) (omega (arith, small));
+}
+
+pub part_none : (xs : List ℕ) → xs ≡ [] → IsPart 0 xs
+part_none xs is = subst (IsPart 0) (sym is) (record { plain = refl; fits = omega arith })
+
+pub part_dot : IsPart 1 (46 ∷ [])
+part_dot = record { plain = refl; fits = omega arith }

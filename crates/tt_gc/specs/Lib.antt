@@ -15,3 +15,5 @@ pub mod Registry
 pub mod Lines
 pub mod OpenAttempts
 pub mod Parts
+pub mod Hearing
+pub mod Tells

@@ -9,12 +9,15 @@ ghost use Rattle.tt_attempts.specs.Attempts.{stepped};
 ghost use Rattle.std.specs.Prelude.{option_map};
 ghost use Rattle.tt_gc.specs.PacketRules.{is_known};
 ghost use Rattle.tt_gc.specs.Registry.{server_at};
+ghost use Rattle.tt_gc.specs.declared.setup.GcSetup.{GcSetup};
+ghost use Rattle.tt_gc.specs.Meetings.{hears_it};
 ghost use Rattle.tt_gc.specs.Desk.{with_note};
 ghost use Rattle.tt_gc.specs.Parts.{opened, passed_over, without_connection, without_meetings_of, registered, begun, at_stage};
 ghost use Rattle.std.specs.Prelude.{IfOk};
 ghost use Rattle.tt_gc.specs.Codes.{new_token, behind_token};
 ghost use Rattle.tt_attempts.specs.Codes.{words_behind};
 
+use crate::heard::is_over;
 use crate::lines::Lines;
 use crate::meetings::{Meeting, Meetings};
 use crate::registry::{Registry, Served};
@@ -22,7 +25,7 @@ use crate::setup::GcSetup;
 use crate::tokens::token;
 use std::alloc::Global;
 use std::marker::Model;
-use tt_attempts::{Heard, InviteCode};
+use tt_attempts::{Heard, InviteCode, Stage};
 use tt_coord::Info;
 use tt_edge::Peer;
 use tt_frame::{OutOfMemory, Text};
@@ -257,6 +260,18 @@ impl Parts {
         ensures { (m : Meeting) → meeting_of self.old token.now ≡ Some m → self.new ≡ without_meeting token.now self.old }
     {
         self.meetings.close(token);
+    }
+
+    /// The open attempt with this token hears something by which it comes so far: what was planned is done.
+    pub(crate) fn reach(&mut self, token: &[u8], heard: Heard, stage: Stage)
+        ensures { (s : GcSetup) (m : Meeting) → meeting_of self.old token.now ≡ Some m
+            → stage ≡ (stepped m.state.ways m.state.stage heard).stage → self.new ≡ (hears_it s heard m self.old).table }
+    {
+        if is_over(stage) {
+            self.close(token);
+            return;
+        }
+        self.hear(token, heard);
     }
 
     /// No attempt is open any more whose server or client is on this connection.

@@ -1,6 +1,6 @@
-use Rattle.std.proofs.Common.{◌≡◌, Option, Some, None, sym, ap, ◌∙◌, subst}
+use Rattle.std.proofs.Common.{sym, ap, ◌∙◌}
 use Rattle.std.specs.Prelude.{option_map}
-use Rattle.tt_gc.specs.Table.{Table, Connection, connection_of}
+use Rattle.tt_gc.specs.Table.{Table, connection_of}
 use Rattle.tt_gc.specs.Lines.{seen}
 use Rattle.tt_gc.proofs.LinesLaws.{found_live}
 use Rattle.tt_gc.proofs.parts.Parts.connection.Goals as goal

@@ -1,9 +1,8 @@
 use Rattle.std.proofs.Common.{◌≡◌, List, Some, ap, subst}
 use Rattle.tt_attempts.specs.Attempts.{stepped}
 use Rattle.tt_gc.specs.contracts.parts.Parts.{the_view}
-use Rattle.tt_gc.specs.Table.{Table, Meeting, meeting_of, with_meeting, without_meeting}
+use Rattle.tt_gc.specs.Table.{Table, Meeting, meeting_of}
 use Rattle.tt_gc.specs.OpenAttempts.{meetings_of}
-use Rattle.tt_gc.specs.Desk.{with_note}
 use Rattle.tt_gc.specs.Parts.{at_stage}
 use Rattle.tt_gc.proofs.parts.Parts.hear.Goals as goal
 

@@ -1,4 +1,4 @@
-use Rattle.std.proofs.Common.{◌≡◌, ap, ◌∙◌}
+use Rattle.std.proofs.Common.{ap, ◌∙◌}
 use Rattle.std.specs.Prelude.{is_some}
 use Rattle.tt_gc.specs.Table.{Table, server_on}
 use Rattle.tt_gc.specs.Registry.{servers_of}

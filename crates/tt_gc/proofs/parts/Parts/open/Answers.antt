@@ -1,11 +1,9 @@
-use Rattle.std.proofs.Common.{◌≡◌, ℕ, ◌+◌, ◌<◌, ◌∷◌, [], ◌++◌, List, length, refl, sym, ap, ap₂, ◌∙◌, arith, subst}
+use Rattle.std.proofs.Common.{◌≡◌, ℕ, ◌∷◌, [], ◌++◌, List, length, refl, sym, ap, ap₂, ◌∙◌, arith, subst}
 use Rattle.tt_gc.specs.declared.lines.Line.{Line}
 use Rattle.tt_gc.specs.Table.{Table, Connection}
 use Rattle.tt_gc.specs.Lines.{arrived, connections_of}
-use Rattle.tt_gc.specs.Registry.{servers_of, drawn_of}
-use Rattle.tt_gc.specs.OpenAttempts.{meetings_of}
-use Rattle.tt_gc.specs.Parts.{IsServing, opened, passed_over}
-use Rattle.std.proofs.lemmas.List.{append-nil}
+use Rattle.tt_gc.specs.Registry.{servers_of}
+use Rattle.tt_gc.specs.Parts.{IsServing, opened}
 use Rattle.tt_gc.specs.contracts.parts.Parts.{the_view}
 use Rattle.tt_gc.proofs.PartsLaws.{length_push}
 use Rattle.tt_gc.proofs.LinesLaws.{pushed_live}

@@ -1,11 +1,11 @@
-use Rattle.std.proofs.Common.{◌≡◌, ℕ, ◌-◌, ◌<◌, ◌∷◌, [], ◌++◌, true, false, map, List, Option, Some, None, length, refl, sym, ap, ap₂, ◌∙◌}
+use Rattle.std.proofs.Common.{◌≡◌, ℕ, ◌-◌, ◌<◌, ◌∷◌, [], ◌++◌, true, map, List, None, length, refl, sym, ap, ap₂, ◌∙◌}
 use Rattle.std.proofs.Common.{subst}
 use Rattle.std.specs.Prelude.{is_some, find}
 use Rattle.std.specs.Str.{bytes_eq}
 use Rattle.std.proofs.lemmas.List.{length-set}
 use Rattle.tt_gc.specs.contracts.parts.Parts.{the_view}
 use Rattle.tt_gc.specs.declared.lines.Line.{Line}
-use Rattle.tt_gc.specs.Table.{Table, Connection, Server, Drawn, connection_of, server_on, server_by, is_servers}
+use Rattle.tt_gc.specs.Table.{Table, Connection, Server, Drawn, connection_of, server_on, server_by}
 use Rattle.tt_gc.specs.Registry.{servers_of, drawn_of, server_at, drawn_at}
 use Rattle.tt_gc.specs.Lines.{line_of, connections_of, coded, code_at}
 use Rattle.tt_gc.specs.Parts.{IsServing, registered}

@@ -1,5 +1,5 @@
-use Rattle.std.proofs.Common.{◌≡◌, sym, ap, ◌∙◌}
-use Rattle.tt_gc.specs.Table.{Table, live_sides}
+use Rattle.std.proofs.Common.{sym, ap, ◌∙◌}
+use Rattle.tt_gc.specs.Table.{live_sides}
 use Rattle.tt_gc.proofs.LinesLaws.{sides_live}
 use Rattle.tt_gc.proofs.parts.Parts.sides.Goals as goal
 

@@ -1,10 +1,9 @@
-use Rattle.std.proofs.Common.{◌≡◌, ℕ, map, cond, List, Bool, Option, Some, None, refl, sym, ap, ap₂, ◌∙◌, subst}
+use Rattle.std.proofs.Common.{List, Some, refl, sym, ap, ap₂, ◌∙◌, subst}
 use Rattle.std.specs.Str.{bytes_eq}
 use Rattle.tt_gc.specs.contracts.parts.Parts.{the_view}
 use Rattle.tt_gc.specs.declared.lines.Line.{Line}
-use Rattle.tt_gc.specs.Table.{Table, Server, Drawn, is_servers, with_info}
-use Rattle.tt_gc.specs.Registry.{servers_of, drawn_of}
-use Rattle.tt_gc.specs.Lines.{code_at}
+use Rattle.tt_gc.specs.Table.{Table, Server, Drawn, with_info}
+use Rattle.tt_gc.specs.Registry.{servers_of}
 use Rattle.tt_gc.specs.Parts.{IsServing}
 use Rattle.tt_gc.proofs.Serving.{serving_changed}
 use Rattle.tt_gc.proofs.PartsLaws.{by_its_code, by_no_code}

@@ -1,9 +1,8 @@
-use Rattle.std.proofs.Common.{◌≡◌, ℕ, map, cond, List, Bool, Some, refl, sym, ap, ◌∙◌}
+use Rattle.std.proofs.Common.{ℕ, map, cond, List, Some, refl, sym, ap, ◌∙◌}
 use Rattle.std.specs.Str.{bytes_eq}
 use Rattle.tt_gc.specs.declared.registry.Served.{Served}
 use Rattle.tt_gc.specs.Table.{Server}
 use Rattle.tt_gc.specs.Registry.{RegistryState, servers_of, server_at}
-use Rattle.std.proofs.lemmas.Slice.Eq.{bytes_eq-Decides}
 use Rattle.tt_gc.proofs.Keyed.{none_changed, changed}
 use Rattle.tt_gc.proofs.Numbers.{within_code, one_code}
 use Rattle.std.proofs.Common.{subst}
