@@ -32,9 +32,9 @@ use Rattle.tt_join.specs.Ticking.{Limiting, limits_of, adds, beating_by, beating
 use Rattle.tt_join.proofs.Behind.{edited, Tells, IsDoing, done_more, more}
 use Rattle.tt_join.proofs.Like.{AreLike, AreQuiet, like_playing}
 use Rattle.tt_join.proofs.Beating.{table_of, IsBehind, beats, behind_beat}
-use Rattle.tt_join.proofs.Founding.{founded_at}
+use Rattle.tt_join.proofs.Founded.{founded_at}
 use Rattle.tt_join.proofs.Moving.{all_tell, founding_like, founding_conns, founding_queue, founding_silent}
-use Rattle.tt_join.proofs.Loading.{map_tells, map_stays, map_rises, map_queues, loading_silent}
+use Rattle.tt_join.proofs.Loaded.{map_tells, map_stays, map_rises, map_queues, loading_silent}
 use Rattle.tt_join.proofs.Placed.{conns_of}
 
 -- ---- each part, at a table behind the frame

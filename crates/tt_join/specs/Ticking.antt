@@ -10,7 +10,8 @@ use Rattle.tt_rules.specs.Companies.{least_free}
 use Rattle.tt_rules.specs.declared.status.Status.{Status}
 use Rattle.tt_rules.specs.declared.status.Status.TheVariants.{DoneMap}
 use Rattle.tt_log.specs.declared.deed.What.TheVariants.{Stamp, ToAdmin, Sync, MapPieces}
-use Rattle.tt_log.specs.declared.report.Report.TheVariants.{CompanyNews}
+use Rattle.tt_log.specs.declared.report.Report.{Report}
+use Rattle.tt_log.specs.declared.report.Report.TheVariants.{Message, CompanyNews}
 use Rattle.tt_log.specs.Admin.{client_updates, company_updates, command_updates}
 use Rattle.tt_log.specs.Member.{Member, is_playing}
 use Rattle.tt_log.specs.Table.{is_on, if_loading}
@@ -39,12 +40,14 @@ step_if false s = []
 abbrev pub stamps_of : ℕ → Crew → List Entry
 stamps_of frame crew = map (own_entry frame) crew.own ++ flat_map (λ m. map (entry_of frame m) (take 2 m.waiting)) crew.members
 
+-- what admins are told of an entry
+abbrev pub log_of : Entry → Report
+log_of e = Message (ServerCmdLogging e.sender e.company (number_of e.command.code) e.frame)
+
 -- an entry is told to those that play, and to the admins that log commands
 abbrev pub stamping : List ℕ → List Entry → List Step
 stamping conns [] = []
-stamping conns (e ∷ es) = says (Several conns) (Stamp e)
-    ∷ shows command_updates (ServerCmdLogging e.sender e.company (number_of e.command.code) e.frame)
-    ∷ stamping conns es
+stamping conns (e ∷ es) = says (Several conns) (Stamp e) ∷ says (Watching command_updates) (ToAdmin (log_of e)) ∷ stamping conns es
 
 -- ---- the frame
 

@@ -5,7 +5,12 @@
 //! leaves are what the rule of the game's book says of the whole table.
 #![tactic(auto)]
 
+mod conns;
+mod founding;
 mod input;
+mod loading;
+mod permitting;
+mod stamping;
 
 pub use input::{Input, Now};
 pub use tt_members::{Audience, Conns, Step, What};
