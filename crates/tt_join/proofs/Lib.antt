@@ -1,10 +1,13 @@
-pub mod Behind
+pub mod Added
 pub mod Stamped
 pub mod Like
-pub mod Permitted
-pub mod Founded
 pub mod Placed
-pub mod Ticked
+pub mod Permitted
 pub mod Beating
+pub mod Founded
+pub mod FoundingLists
 pub mod Moving
 pub mod Loaded
+pub mod Calm
+pub mod Ticked
+pub mod Welcomes

@@ -25,7 +25,7 @@ use Rattle.tt_members.specs.Crew.{Crew, founders_in}
 use Rattle.tt_members.specs.Edits.{words_by, words_after, queue_after}
 use Rattle.tt_members.specs.declared.edit.Beat.{Beat}
 use Rattle.tt_members.specs.Planned.{Planned, nothing}
-use Rattle.tt_members.specs.Steps.{says, says_one, says_several, shows}
+use Rattle.tt_members.specs.Steps.{says, says_one, says_several}
 use Rattle.tt_members.specs.Leaving.{playing_in, but, left, ending}
 use Rattle.tt_join.specs.declared.input.Now.{Now}
 
@@ -77,11 +77,15 @@ assigned live (c ∷ cs) = founder_of (least_free live) c ++ assigned (living_wi
 abbrev pub member_by : ℕ → List Member → Option Member
 member_by client ms = find (λ m. m.client == client) ms
 
+-- what admins are told of a member that has a company
+abbrev pub update_of : ℕ → Member → Report
+update_of company m = Message (ServerClientUpdate m.client m.name company)
+
 -- it has the company, and all that play are told
 abbrev pub moving_steps : List ℕ → ℕ → Option Member → List Step
 moving_steps conns company None = []
 moving_steps conns company (Some m) = says_several conns (ServerMove m.client company)
-    ∷ shows client_updates (ServerClientUpdate m.client m.name company)
+    ∷ says (Watching client_updates) (ToAdmin (update_of company m))
     ∷ []
 
 abbrev pub moving_edits : ℕ → Option Member → List Edit
@@ -176,9 +180,13 @@ abbrev pub limiting : Setup → ℕ → List Member → Limiting → Limiting
 limiting setup frame [] l = l
 limiting setup frame (m ∷ ms) l = limiting setup frame ms (limited_by (limit_of setup frame l.edits m) frame m l)
 
--- the ends of a tick
-abbrev pub limits_of : Setup → ℕ → List Member → List ℕ → Limiting
-limits_of setup frame ms queue = limiting setup frame ms (record { edits = []; steps = []; plays = playing_in ms; waits = queue })
+-- the ends of a tick by themselves
+abbrev pub ends_of : Setup → ℕ → List Member → List ℕ → Limiting
+ends_of setup frame ms queue = limiting setup frame ms (record { edits = []; steps = []; plays = playing_in ms; waits = queue })
+
+-- and behind the other parts of a plan
+abbrev pub limits_of : Setup → ℕ → List Member → List ℕ → Planned → Limiting
+limits_of setup frame ms queue p = limiting setup frame ms (record { edits = p.edits; steps = p.steps; plays = playing_in ms; waits = queue })
 
 -- ---- the whole
 
@@ -216,7 +224,7 @@ abbrev pub with_pieces : Crew → Now → Planned → Planned
 with_pieces crew now p = adds (loading_edits now.left (loader crew.queue crew.members)) (loading_steps (loader crew.queue crew.members)) p
 
 abbrev pub with_ends : Setup → Crew → Now → Planned → Planned
-with_ends setup crew now p = let l = limits_of setup (now.frame + 1) crew.members crew.queue in adds l.edits l.steps p
+with_ends setup crew now p = let l = limits_of setup (now.frame + 1) crew.members crew.queue p in record p { edits = l.edits; steps = l.steps }
 
 abbrev pub ticking : Setup → Crew → Now → Planned
 ticking setup crew now = with_ends setup crew now (with_pieces crew now (with_sync setup crew now (with_founders crew now

@@ -6,14 +6,16 @@ ghost use Rattle.tt_members.specs.Leaving.{playing_in};
 ghost use Rattle.tt_members.specs.Planned.{IsPlain};
 ghost use Rattle.tt_members.specs.Steps.{stamp_of, stamped_in};
 ghost use Rattle.tt_join.specs.Ticking.{assigned, clients_at, founding_edits, founding_steps, member_by, moving_edits, moving_steps};
+ghost use Rattle.tt_join.specs.Ticking.{update_of};
+ghost use Rattle.tt_log.specs.Tick.{founder_of, living_with};
+ghost use Rattle.tt_rules.specs.Companies.{least_free};
 
-use crate::conns::playing;
 use std::alloc::Global;
 use tt_admin::AdminMsg;
 use tt_frame::OutOfMemory;
 use tt_game::GameMsg;
 use tt_log::report::Report;
-use tt_members::{Audience, Conns, Edit, Member, Plan, Step, What};
+use tt_members::{Audience, Conns, Edit, Member, Plan, Step, What, playing};
 use tt_rules::Live;
 use tt_world::Code;
 
@@ -87,7 +89,9 @@ fn member_by(client: u32, members: &[Member]) -> Option<&Member>
 }
 
 /// What admins are told of a member that has a company.
-fn update_of(m: &Member, company: u8) -> Report {
+fn update_of(m: &Member, company: u8) -> Report
+    ensures update { result ≡ update_of company m.now }
+{
     let name = m.name();
     Report::Message(AdminMsg::ServerClientUpdate {
         client: m.client(),
@@ -98,14 +102,15 @@ fn update_of(m: &Member, company: u8) -> Report {
 
 /// A client has a company from now on, if it is still there.
 fn move_one(
+    alloc: Global,
     client: u32,
     company: u8,
-    members: &Vec<Member>,
+    members: &[Member],
     plan: &mut Plan,
 ) -> Result<(), OutOfMemory>
     ensures steps { OnOk result (plan.new.steps
-        ≡ plan.old.steps ++ moving_steps (playing_in members.now.items) company (member_by client members.now.items)) }
-    ensures edits { OnOk result (plan.new.edits ≡ plan.old.edits ++ moving_edits company (member_by client members.now.items)) }
+        ≡ plan.old.steps ++ moving_steps (playing_in members.now) company (member_by client members.now)) }
+    ensures edits { OnOk result (plan.new.edits ≡ plan.old.edits ++ moving_edits company (member_by client members.now)) }
     ensures plain { IsPlain plan.old plan.new }
 {
     let Some(m) = member_by(client, members) else {
@@ -119,29 +124,50 @@ fn move_one(
         conn: m.conn(),
         company,
     })?;
-    let conns = Conns::new(playing(members)?);
+    let conns = Conns::new(playing(alloc, members)?);
     plan.tell(Audience::Several(conns), What::Msg(news))?;
     let report = What::ToAdmin(update_of(m, company));
     plan.tell(Audience::Watching(CLIENT_UPDATES), report)
 }
 
-/// Each of these clients has the least number that is free, while one is.
-pub fn found(
-    live: Live,
-    clients: &[u32],
-    members: &Vec<Member>,
+/// A client has the least number that is free, if one is, and that company lives from now on.
+fn found_one(
+    alloc: Global,
+    client: u32,
+    live: &mut Live,
+    members: &[Member],
     plan: &mut Plan,
 ) -> Result<(), OutOfMemory>
     ensures steps { OnOk result (plan.new.steps
-        ≡ plan.old.steps ++ founding_steps (playing_in members.now.items) members.now.items (assigned live clients.now)) }
-    ensures edits { OnOk result (plan.new.edits ≡ plan.old.edits ++ founding_edits members.now.items (assigned live clients.now)) }
+        ≡ plan.old.steps ++ founding_steps (playing_in members.now) members.now (founder_of (least_free live.old) client)) }
+    ensures edits { OnOk result (plan.new.edits
+        ≡ plan.old.edits ++ founding_edits members.now (founder_of (least_free live.old) client)) }
+    ensures live { live.new ≡ living_with (least_free live.old) live.old }
+    ensures plain { IsPlain plan.old plan.new }
+{
+    match live.add() {
+        Some(company) => move_one(alloc, client, company, members, plan),
+        None => Ok(()),
+    }
+}
+
+/// Each of these clients has the least number that is free, while one is.
+#[tactic(auto, using(crate::proofs::FoundingLists::steps_append, crate::proofs::FoundingLists::edits_append))]
+pub fn found(
+    alloc: Global,
+    live: Live,
+    clients: &[u32],
+    members: &[Member],
+    plan: &mut Plan,
+) -> Result<(), OutOfMemory>
+    ensures steps { OnOk result (plan.new.steps
+        ≡ plan.old.steps ++ founding_steps (playing_in members.now) members.now (assigned live clients.now)) }
+    ensures edits { OnOk result (plan.new.edits ≡ plan.old.edits ++ founding_edits members.now (assigned live clients.now)) }
     ensures plain { IsPlain plan.old plan.new }
 {
     let mut live = live;
     for client in clients.iter() {
-        if let Some(company) = live.add() {
-            move_one(*client, company, members, plan)?;
-        }
+        found_one(alloc, *client, &mut live, members, plan)?;
     }
     Ok(())
 }

@@ -5,7 +5,6 @@
 //! leaves are what the rule of the game's book says of the whole table.
 #![tactic(auto)]
 
-mod conns;
 mod founding;
 mod input;
 mod loading;

@@ -58,12 +58,12 @@ fn loader<'a>(queue: &Queue, members: &'a [Member]) -> Option<&'a Member>
 pub fn tell_pieces(
     left: u32,
     queue: &Queue,
-    members: &Vec<Member>,
+    members: &[Member],
     plan: &mut Plan,
 ) -> Result<(), OutOfMemory>
-    requires { Rise members.now.items }
-    ensures steps { OnOk result (plan.new.steps ≡ plan.old.steps ++ loading_steps (loader queue.now.conns members.now.items)) }
-    ensures edits { OnOk result (plan.new.edits ≡ plan.old.edits ++ loading_edits left (loader queue.now.conns members.now.items)) }
+    requires { Rise members.now }
+    ensures steps { OnOk result (plan.new.steps ≡ plan.old.steps ++ loading_steps (loader queue.now.conns members.now)) }
+    ensures edits { OnOk result (plan.new.edits ≡ plan.old.edits ++ loading_edits left (loader queue.now.conns members.now)) }
     ensures plain { IsPlain plan.old plan.new }
 {
     let Some(m) = loader(queue, members) else {

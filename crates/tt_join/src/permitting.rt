@@ -59,11 +59,11 @@ pub fn permit(
     frame: u32,
     top: u32,
     words: (u32, u32),
-    members: &Vec<Member>,
+    members: &[Member],
     plan: &mut Plan,
 ) -> Result<(u32, u32), OutOfMemory>
-    ensures steps { OnOk result (plan.new.steps ≡ plan.old.steps ++ permitting frame top words members.now.items) }
-    ensures words { IfOk result (λ behind. behind ≡ words_after members.now.items words) }
+    ensures steps { OnOk result (plan.new.steps ≡ plan.old.steps ++ permitting frame top words members.now) }
+    ensures words { IfOk result (λ behind. behind ≡ words_after members.now words) }
     ensures edits { plan.new.edits ≡ plan.old.edits }
     ensures plain { IsPlain plan.old plan.new }
 {

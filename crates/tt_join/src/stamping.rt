@@ -6,11 +6,11 @@ ghost use Rattle.tt_members.specs.Leaving.{playing_in};
 ghost use Rattle.tt_members.specs.Planned.{IsPlain};
 ghost use Rattle.tt_join.specs.Ticking.{log_of, stamping};
 
+use std::alloc::Global;
 use tt_admin::AdminMsg;
 use tt_frame::OutOfMemory;
 use tt_log::report::Report;
-use crate::conns::playing;
-use tt_members::{Audience, Conns, Member, Plan, What};
+use tt_members::{Audience, Conns, Member, Plan, What, playing};
 use tt_rules::number_of;
 use tt_world::{Command, Entry};
 
@@ -49,13 +49,13 @@ fn log_of(entry: &Entry) -> Report
 }
 
 /// An entry is told to those that play, and to the admins that log commands.
-fn tell_stamp(entry: Entry, members: &Vec<Member>, plan: &mut Plan) -> Result<(), OutOfMemory>
-    ensures steps { OnOk result (plan.new.steps ≡ plan.old.steps ++ stamping (playing_in members.now.items) (entry ∷ [])) }
+fn tell_stamp(alloc: Global, entry: Entry, members: &[Member], plan: &mut Plan) -> Result<(), OutOfMemory>
+    ensures steps { OnOk result (plan.new.steps ≡ plan.old.steps ++ stamping (playing_in members.now) (entry ∷ [])) }
     ensures edits { plan.new.edits ≡ plan.old.edits }
     ensures plain { IsPlain plan.old plan.new }
 {
     let report = log_of(&entry);
-    let conns = Conns::new(playing(members)?);
+    let conns = Conns::new(playing(alloc, members)?);
     plan.tell(Audience::Several(conns), What::Stamp(entry))?;
     plan.tell(Audience::Watching(COMMAND_UPDATES), What::ToAdmin(report))
 }
@@ -74,31 +74,33 @@ fn own_entry(frame: u32, command: &Command) -> Entry
 
 /// The server's own list is stamped, whole.
 fn stamp_own(
+    alloc: Global,
     frame: u32,
     own: &[Command],
-    members: &Vec<Member>,
+    members: &[Member],
     plan: &mut Plan,
 ) -> Result<(), OutOfMemory>
-    ensures steps { OnOk result (plan.new.steps ≡ plan.old.steps ++ stamping (playing_in members.now.items) (map (own_entry frame) own.now)) }
+    ensures steps { OnOk result (plan.new.steps ≡ plan.old.steps ++ stamping (playing_in members.now) (map (own_entry frame) own.now)) }
     ensures edits { plan.new.edits ≡ plan.old.edits }
     ensures plain { IsPlain plan.old plan.new }
 {
     for command in own.iter() {
-        tell_stamp(own_entry(frame, command), members, plan)?;
+        tell_stamp(alloc, own_entry(frame, command), members, plan)?;
     }
     Ok(())
 }
 
 /// The command that waits at a place is stamped, if so many wait.
 fn stamp_at(
+    alloc: Global,
     frame: u32,
     m: &Member,
     place: usize,
-    members: &Vec<Member>,
+    members: &[Member],
     plan: &mut Plan,
 ) -> Result<(), OutOfMemory>
     ensures steps { OnOk result (plan.new.steps
-        ≡ plan.old.steps ++ stamping (playing_in members.now.items) (map (entry_of frame m.now) (option_list (slice_get m.now.waiting place)))) }
+        ≡ plan.old.steps ++ stamping (playing_in members.now) (map (entry_of frame m.now) (option_list (slice_get m.now.waiting place)))) }
     ensures edits { plan.new.edits ≡ plan.old.edits }
     ensures plain { IsPlain plan.old plan.new }
 {
@@ -112,53 +114,54 @@ fn stamp_at(
         company: one.0,
         command: copied(&one.1),
     };
-    tell_stamp(entry, members, plan)
+    tell_stamp(alloc, entry, members, plan)
 }
 
 /// Up to two commands of a member are stamped, the oldest first.
 fn stamp_one(
+    alloc: Global,
     frame: u32,
     m: &Member,
-    members: &Vec<Member>,
+    members: &[Member],
     plan: &mut Plan,
 ) -> Result<(), OutOfMemory>
     ensures steps { OnOk result (plan.new.steps
-        ≡ plan.old.steps ++ stamping (playing_in members.now.items) (map (entry_of frame m.now) (take 2 m.now.waiting))) }
+        ≡ plan.old.steps ++ stamping (playing_in members.now) (map (entry_of frame m.now) (take 2 m.now.waiting))) }
     ensures edits { plan.new.edits ≡ plan.old.edits }
     ensures plain { IsPlain plan.old plan.new }
 {
-    stamp_at(frame, m, 0, members, plan)?;
-    stamp_at(frame, m, 1, members, plan)
+    stamp_at(alloc, frame, m, 0, members, plan)?;
+    stamp_at(alloc, frame, m, 1, members, plan)
 }
 
 /// Up to two commands of each member are stamped, in order of arrival.
-fn stamp_all(frame: u32, members: &Vec<Member>, plan: &mut Plan) -> Result<(), OutOfMemory>
+fn stamp_all(alloc: Global, frame: u32, members: &[Member], plan: &mut Plan) -> Result<(), OutOfMemory>
     ensures steps { OnOk result (plan.new.steps
-        ≡ plan.old.steps ++ stamping (playing_in members.now.items) (flat_map (λ m. map (entry_of frame m) (take 2 m.waiting)) members.now.items)) }
+        ≡ plan.old.steps ++ stamping (playing_in members.now) (flat_map (λ m. map (entry_of frame m) (take 2 m.waiting)) members.now)) }
     ensures edits { plan.new.edits ≡ plan.old.edits }
     ensures plain { IsPlain plan.old plan.new }
 {
     for m in members.iter() {
-        stamp_one(frame, m, members, plan)?;
+        stamp_one(alloc, frame, m, members, plan)?;
     }
     Ok(())
 }
 
 /// What waits is stamped for a frame. Where nothing waits it takes no memory.
-#[tactic(auto, using(crate::proofs::Stamped::stamping_append))]
 pub fn stamp(
+    alloc: Global,
     frame: u32,
     own: &[Command],
-    members: &Vec<Member>,
+    members: &[Member],
     plan: &mut Plan,
 ) -> Result<(), OutOfMemory>
     ensures steps { OnOk result (plan.new.steps ≡ plan.old.steps
-        ++ stamping (playing_in members.now.items)
-        (map (own_entry frame) own.now ++ flat_map (λ m. map (entry_of frame m) (take 2 m.waiting)) members.now.items)) }
+        ++ stamping (playing_in members.now)
+        (map (own_entry frame) own.now ++ flat_map (λ m. map (entry_of frame m) (take 2 m.waiting)) members.now)) }
     ensures edits { plan.new.edits ≡ plan.old.edits }
     ensures plain { IsPlain plan.old plan.new }
 {
-    stamp_own(frame, own, members, plan)?;
-    stamp_all(frame, members, plan)?;
+    stamp_own(alloc, frame, own, members, plan)?;
+    stamp_all(alloc, frame, members, plan)?;
     Ok(())
 }

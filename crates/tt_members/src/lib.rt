@@ -7,8 +7,10 @@
 #![tactic(auto)]
 
 mod edit;
+mod leaving;
 mod marks;
 mod member;
+mod names;
 mod order;
 mod plan;
 mod queue;
@@ -16,8 +18,10 @@ mod step;
 mod waiting;
 
 pub use edit::{Beat, Edit, Offer};
+pub use leaving::{Parting, end, leave, move_up, others, playing, reason, unask};
 pub use marks::Marks;
 pub use member::Member;
+pub use names::{NameBad, name_for};
 pub use order::{apply, apply_all, fresh_token, offer, place_of, rename};
 pub use plan::Plan;
 pub use queue::{Place, Queue};

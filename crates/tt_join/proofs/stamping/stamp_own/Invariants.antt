@@ -9,8 +9,8 @@ use Rattle.tt_join.proofs.stamping.stamp_own.Given as goal
 -- what is told so far, and what is left to tell
 abbrev pub invariant-loop-command : goal.invariant-loop-command
 invariant-loop-command l = record {
-  told : l.plan.steps ++ stamping (playing_in l.members.items) (map (own_entry l.frame) (drop l.command-index l.own))
-      ≡ l.initial.plan.steps ++ stamping (playing_in l.members.items) (map (own_entry l.frame) l.own);
+  told : l.plan.steps ++ stamping (playing_in l.members) (map (own_entry l.frame) (drop l.command-index l.own))
+      ≡ l.initial.plan.steps ++ stamping (playing_in l.members) (map (own_entry l.frame) l.own);
   plain : IsPlain l.initial.plan l.plan;
   edits : l.plan.edits ≡ l.initial.plan.edits;
 }
