@@ -9,5 +9,6 @@ pub mod FoundingLists
 pub mod Moving
 pub mod Loaded
 pub mod Calm
+pub mod Limited
 pub mod Ticked
 pub mod Welcomes
