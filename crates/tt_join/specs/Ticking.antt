@@ -142,6 +142,9 @@ pub record Limiting : Type 0 where
   pub plays : List ℕ
   pub waits : List ℕ
 
+abbrev pub limiting_at : List Edit → List Step → List ℕ → List ℕ → Limiting
+limiting_at es ss plays waits = record { edits = es; steps = ss; plays = plays; waits = waits }
+
 -- who plays behind a change: not who has left, nor whose download begins
 abbrev pub plays_by : Edit → List ℕ → List ℕ
 plays_by (Leave conn) conns = but conn conns
@@ -182,11 +185,11 @@ limiting setup frame (m ∷ ms) l = limiting setup frame ms (limited_by (limit_o
 
 -- the ends of a tick by themselves
 abbrev pub ends_of : Setup → ℕ → List Member → List ℕ → Limiting
-ends_of setup frame ms queue = limiting setup frame ms (record { edits = []; steps = []; plays = playing_in ms; waits = queue })
+ends_of setup frame ms queue = limiting setup frame ms (limiting_at [] [] (playing_in ms) queue)
 
 -- and behind the other parts of a plan
 abbrev pub limits_of : Setup → ℕ → List Member → List ℕ → Planned → Limiting
-limits_of setup frame ms queue p = limiting setup frame ms (record { edits = p.edits; steps = p.steps; plays = playing_in ms; waits = queue })
+limits_of setup frame ms queue p = limiting setup frame ms (limiting_at p.edits p.steps (playing_in ms) queue)
 
 -- ---- the whole
 

@@ -7,6 +7,7 @@
 
 mod founding;
 mod input;
+mod limits;
 mod loading;
 mod permitting;
 mod stamping;
