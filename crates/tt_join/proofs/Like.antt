@@ -9,6 +9,7 @@ use Rattle.tt_rules.specs.Reasons.{◌⇒◌}
 use Rattle.tt_rules.specs.Codes.{timeout_password, timeout_computer, timeout_map, timeout_join}
 use Rattle.tt_rules.specs.Statuses as status
 use Rattle.tt_log.specs.Member.{Member, is_playing, is_welcomed, is_in}
+use Rattle.tt_log.specs.Downloads.{is_downloading}
 use Rattle.tt_log.specs.Tick.{late, late_in, keeps_token}
 use Rattle.tt_members.specs.Leaving.{playing_in}
 
@@ -98,6 +99,7 @@ pub record IsQuiet (setup : Setup) (frame : ℕ) (m n : Member) : Type 0 where
   pub welcomed : is_welcomed n ≡ is_welcomed m
   pub playing : is_playing n ≡ is_playing m
   pub waiting : is_in MapWait n ≡ is_in MapWait m
+  pub downloading : is_downloading n ≡ is_downloading m
   pub late : late setup frame n ≡ late setup frame m
 
 abbrev pub AreQuiet : Setup → ℕ → List Member → List Member → Type 0
@@ -132,6 +134,7 @@ like_quiet setup frame m n l = record {
   welcomed = ap status.is_welcomed l.status;
   playing = ap status.is_playing l.status;
   waiting = ap (status.is_at MapWait) l.status;
+  downloading = ap (λ (s : Status). status.is_at Map s || status.is_at DoneMap s) l.status;
   late = like_late setup frame m n l;
 }
 

@@ -378,3 +378,27 @@ limiting_behind setup frame (m ∷ ms) es ss l none =
     ap (λ (x : Option ℕ). limiting setup frame ms (limited_by x frame m (behind es ss l))) same
     ∙ ap (limiting setup frame ms) (limited_behind (limit_of setup frame l.edits m) frame m es ss l)
     ∙ limiting_behind setup frame ms es ss (limited_by (limit_of setup frame l.edits m) frame m l) none
+
+-- ---- where nobody is late
+
+on_time : (x : Option ℕ) (b : Bool) → (is_some x || b) ≡ false → x ≡ None
+on_time None b is = refl
+on_time (Some code) b is = absurd cc
+
+later_by : (x : Option ℕ) (b : Bool) → (is_some x || b) ≡ false → b ≡ false
+later_by None b is = is
+later_by (Some code) b is = absurd cc
+
+nothing_by : (b : Bool) (x : Option ℕ) → x ≡ None → cond b None x ≡ None
+nothing_by true x is = refl
+nothing_by false x is = is
+
+pub nobody_ends : (setup : Setup) (frame : ℕ) (ms : List Member) (l : Limiting) → list_any (λ m. is_some (late setup frame m)) ms ≡ false
+    → limiting setup frame ms l ≡ l
+nobody_ends setup frame [] l none = refl
+nobody_ends setup frame (m ∷ ms) l none =
+    let rest : Bool = list_any (λ k. is_some (late setup frame k)) ms in
+    let first : limit_of setup frame l.edits m ≡ None =
+        nothing_by (began m.conn l.edits) (late setup frame m) (on_time (late setup frame m) rest none) in
+    ap (λ (x : Option ℕ). limiting setup frame ms (limited_by x frame m l)) first
+    ∙ nobody_ends setup frame ms l (later_by (late setup frame m) rest none)

@@ -160,6 +160,7 @@ quiet_done true setup frame pieces m n is same = record {
   welcomed = ap status.is_welcomed same.status;
   playing = ap status.is_playing same.status;
   waiting = ap (status.is_at MapWait) same.status;
+  downloading = ap (λ (s : Status). status.is_at Map s || status.is_at DoneMap s) same.status;
   late = same_late n.status setup frame n (loaded pieces n.status n) refl refl refl ∙ like_late setup frame m n same;
 }
 quiet_done false setup frame pieces m n is same =
@@ -170,6 +171,7 @@ quiet_done false setup frame pieces m n is same =
       welcomed = sym (ap status.is_welcomed was);
       playing = sym (ap status.is_playing was);
       waiting = sym (ap (status.is_at MapWait) was);
+      downloading = sym (ap (λ (s : Status). status.is_at Map s || status.is_at DoneMap s) was);
       late = sym (ap (λ (s : Status). late_in s setup frame n) is) ∙ like_late setup frame m n same;
     }
 

@@ -1,5 +1,5 @@
 //! The time limits: who has passed one ends, in order of arrival, each end told to those that are there by then.
-ghost use Rattle.std.specs.Prelude.{◌≡◌, ◌≤◌, ◌++◌, ◌||◌, nat_lt, drop, is_some, OnOk, IfOk, IfSome};
+ghost use Rattle.std.specs.Prelude.{◌≡◌, ◌≤◌, ◌-◌, ◌++◌, ◌||◌, nat_lt, drop, is_some, OnOk, IfOk, IfSome};
 ghost use Rattle.std.specs.List.{list_any};
 ghost use Rattle.tt_rules.specs.Codes.{timeout_computer};
 ghost use Rattle.tt_rules.specs.Reasons.{◌⇒◌};
@@ -7,7 +7,7 @@ ghost use Rattle.tt_log.specs.Tick.{keeps_token, late};
 ghost use Rattle.tt_members.specs.Edits.{queue_after, queue_by};
 ghost use Rattle.tt_members.specs.Leaving.{but, left, ending};
 ghost use Rattle.tt_members.specs.Planned.{IsPlain};
-ghost use Rattle.tt_join.specs.Ticking.{began, limit_of, limited_by, limiting_at, limits_of, plays_after, plays_by};
+ghost use Rattle.tt_join.specs.Ticking.{began, begins_on, limit_of, limited_by, limiting_at, limits_of, plays_after, plays_by};
 
 use std::alloc::Global;
 use tt_frame::OutOfMemory;
@@ -79,13 +79,26 @@ fn late(setup: &Setup, frame: u32, m: &Member) -> Option<u8>
     }
 }
 
+/// Whether a change begins the download of a connection.
+fn begins_on(conn: u32, edit: Edit) -> bool
+    ensures begins { result ≡ begins_on conn edit }
+{
+    match edit {
+        Edit::Begin { conn: one, .. } => conn == one,
+        _ => false,
+    }
+}
+
 /// Whether one of some changes begins the download of a connection.
 fn began(conn: u32, edits: &[Edit]) -> bool
     ensures began { result ≡ began conn edits.now }
 {
-    edits
-        .iter()
-        .any(|e| matches!(e, Edit::Begin { conn: one, .. } if conn == *one))
+    for edit in edits.iter() {
+        if begins_on(conn, *edit) {
+            return true;
+        }
+    }
+    false
 }
 
 /// The code for which a member ends behind these changes.
