@@ -1,4 +1,5 @@
 pub mod Added
+pub mod Plain
 pub mod Stamped
 pub mod Like
 pub mod Placed

@@ -2,6 +2,7 @@
 use Rattle.std.specs.Prelude.{ℕ, ◌||◌, ◌+◌, ◌*◌, ◌/◌, ◌%◌, min, nat_lt, ◌==◌, Bool, true, false, cond, List, [], ◌∷◌, ◌++◌, map, filter, find, take}
 use Rattle.std.specs.Prelude.{flat_map, Option, Some, None}
 use Rattle.tt_world.specs.declared.setup.Setup.{Setup}
+use Rattle.tt_world.specs.declared.command.Command.{Command}
 use Rattle.tt_world.specs.declared.command.Entry.{Entry}
 use Rattle.tt_game.specs.declared.message.GameMsg.TheVariants.{ServerFrame, ServerMove}
 use Rattle.tt_admin.specs.declared.message.AdminMsg.TheVariants.{ServerCmdLogging, ServerClientUpdate}
@@ -232,3 +233,15 @@ with_ends setup crew now p = let l = limits_of setup (now.frame + 1) crew.member
 abbrev pub ticking : Setup → Crew → Now → Planned
 ticking setup crew now = with_ends setup crew now (with_pieces crew now (with_sync setup crew now (with_founders crew now
     (beating setup crew now))))
+
+-- a crew of which a tick looks at these parts alone
+abbrev pub seen : List Member → List ℕ → List Command → ℕ × ℕ → List (ℕ × ℕ) → Crew
+seen ms queue own words founders = record {
+  members = ms;
+  queue = queue;
+  digests = [];
+  own = own;
+  tokens = words;
+  clients = 0;
+  founders = founders;
+}

@@ -11,6 +11,7 @@ mod limits;
 mod loading;
 mod permitting;
 mod stamping;
+mod ticking;
 
 pub use input::{Input, Now};
 pub use tt_members::{Audience, Conns, Step, What};
