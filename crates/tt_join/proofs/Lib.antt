@@ -9,3 +9,4 @@ pub mod Beating
 pub mod Moving
 pub mod Loading
 pub mod Welcomes
+pub mod Enters
