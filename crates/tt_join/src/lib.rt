@@ -8,6 +8,11 @@
 mod entering;
 mod input;
 mod members;
+mod founding;
+mod input;
+mod loading;
+mod permitting;
+mod stamping;
 
 pub use input::{Input, Now};
 pub use members::Members;
