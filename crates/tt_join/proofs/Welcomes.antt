@@ -1,5 +1,5 @@
 -- What packets do from the opening to the welcome, and another name, as plans.
-use Rattle.std.proofs.Common.{◌≡◌, ℕ, List, [], ◌∷◌, ◌++◌, refl, sym, ap, ap₂, subst, ◌∙◌, true, false, Bool, Option, Some, None}
+use Rattle.std.proofs.Common.{◌≡◌, ℕ, zero, suc, ◌+◌, length, List, [], ◌∷◌, ◌++◌, refl, sym, ap, ap₂, subst, ◌∙◌, true, false, Bool, Option, Some, None}
 use Rattle.std.specs.Prelude.{◌==◌, cond, filter, find, map, not}
 use Rattle.std.proofs.lemmas.List.{append-nil}
 use Rattle.tt_world.specs.declared.command.Entry.{Entry}
@@ -11,17 +11,18 @@ use Rattle.tt_log.specs.Admin.{client_updates}
 use Rattle.tt_log.specs.Member.{Member, is_playing}
 use Rattle.tt_log.specs.Deed.{Deed, ◌▹◌, tells_playing}
 use Rattle.tt_log.specs.Watching.{sees_change}
-use Rattle.tt_log.specs.Names.{given_name}
+use Rattle.tt_log.specs.Names.{first_free_name, given_name, is_taken, numbered}
 use Rattle.tt_log.specs.PacketRules.{client_info, joins, password_step, password_step_by, company_step, company_step_by, welcomes, tells_game, renames}
 use Rattle.tt_log.specs.Table.{Table, is_on, living_in, playing, with_member}
 use Rattle.tt_members.specs.Crew.{Crew, Rest, origin_at, table_at}
 use Rattle.tt_members.specs.Done.{Does, renamed}
-use Rattle.tt_members.specs.Edits.{on, marked}
+use Rattle.tt_members.specs.Edits.{on, marked, marks_of}
 use Rattle.tt_members.specs.Leaving.{but, others, playing_in}
 use Rattle.tt_members.specs.Rules.{Rise}
 use Rattle.tt_members.specs.declared.marks.Marks.{Marks}
 use Rattle.tt_members.specs.Steps.{says_one, says_several, shows, steps_in}
-use Rattle.tt_join.specs.Joining.{digest_in, marks_in, welcomed_marks, welcoming, to_company_by, to_company, to_password_by, joining, game_told, renaming}
+use Rattle.tt_join.specs.declared.joining.Guest.{Guest}
+use Rattle.tt_join.specs.Joining.{bare, name_in, digest_in, guest_of, marks_in, welcomed_marks, welcoming, to_company_by, to_company, to_password_by, joining, game_told, renaming}
 use Rattle.tt_members.proofs.Found.{with_found}
 
 -- another name, whatever it is
@@ -69,6 +70,23 @@ named-playing conn name [] = refl
 named-playing conn name (n ∷ ms) = named-one (is_on conn n) (is_playing n) name n (on conn (λ m. record m { name = name }) ms) ms refl
     (named-playing conn name ms)
 
+-- ---- names
+
+taken-same : (t : Table) (conn : ℕ) (wanted : List ℕ) (i n : ℕ)
+    → first_free_name (bare t.members) conn wanted i n ≡ first_free_name t conn wanted i n
+taken-same t conn wanted i zero = refl
+taken-same t conn wanted i (suc n) = ap (λ (later : List ℕ). elim (is_taken t conn (numbered wanted i)) as (λ _. List ℕ) [
+  | true ↦ later
+  | false ↦ numbered wanted i
+]) (taken-same t conn wanted (i + 1) n)
+
+-- a name that one gets among members is that which it gets in each table with them
+pub name-in : (t : Table) (conn : ℕ) (wanted : List ℕ) → name_in t.members conn wanted ≡ given_name t conn wanted
+name-in t conn wanted = ap (λ (later : List ℕ). elim (is_taken t conn wanted) as (λ _. List ℕ) [
+  | true ↦ later
+  | false ↦ wanted
+]) (taken-same t conn wanted 1 (length t.members))
+
 -- ---- tables
 
 -- a table in which only the members change
@@ -93,48 +111,49 @@ as-named name asked m t rise is = λ marks.
 
 welcome-stands : (setup : Setup) (crew : Crew) (frame top : ℕ) (r : Rest) (names : Option (ℕ × List ℕ)) (m : Member)
     → Stands names m (table_at crew frame top r)
-    → Does setup crew frame top r (λ o t. welcomes o m t) (record (welcoming setup frame crew.members m) { names = names })
+    → Does setup crew frame top r (λ o t. welcomes o m t) (record (welcoming setup frame crew.members (guest_of m)) { names = names })
 welcome-stands setup crew frame top r names m stands =
     let t = table_at crew frame top r in
-    let x : Member = marked (welcomed_marks frame m) m in
+    let x : Member = marked (welcomed_marks frame (marks_of m)) m in
     record {
       told = ap (λ cs. steps_in r.admins (says_one m.conn (ServerWelcome m.client setup.seed setup.id) ∷ says_several cs (client_info x)
           ∷ shows client_updates (ServerClientInfo x.client x.name x.company) ∷ [])) (sym (quiet-others x crew.members refl));
-      table = settled t (with_member x t) (on m.conn (marked (welcomed_marks frame m)) (renamed names crew.members)) (stands (welcomed_marks frame m));
+      table = settled t (with_member x t) (on m.conn (marked (welcomed_marks frame (marks_of m))) (renamed names crew.members)) (stands (welcomed_marks frame (marks_of m)));
     }
 
 company-by : (digest : Option (List ℕ)) (setup : Setup) (crew : Crew) (frame top : ℕ) (r : Rest) (names : Option (ℕ × List ℕ)) (m : Member)
     → Stands names m (table_at crew frame top r)
-    → Does setup crew frame top r (λ o t. company_step_by digest o m t) (record (to_company_by digest setup frame crew.members m) { names = names })
+    → Does setup crew frame top r (λ o t. company_step_by digest o m t) (record (to_company_by digest setup frame crew.members (guest_of m)) { names = names })
 company-by None setup crew frame top r names m stands = welcome-stands setup crew frame top r names m stands
 company-by (Some digest) setup crew frame top r names m stands =
     let t = table_at crew frame top r in
-    let marks : Marks = marks_in AuthCompany frame m in
+    let marks : Marks = marks_in AuthCompany frame (marks_of m) in
     record { told = refl; table = settled t (with_member (marked marks m) t) (on m.conn (marked marks) (renamed names crew.members)) (stands marks) }
 
 company-stands : (setup : Setup) (crew : Crew) (frame top : ℕ) (r : Rest) (names : Option (ℕ × List ℕ)) (m : Member)
     → Stands names m (table_at crew frame top r)
-    → Does setup crew frame top r (λ o t. company_step o m t) (record (to_company setup frame crew.members crew.digests m) { names = names })
+    → Does setup crew frame top r (λ o t. company_step o m t) (record (to_company setup frame crew.members crew.digests (guest_of m)) { names = names })
 company-stands setup crew frame top r names m stands =
     let d = company-by (digest_in crew.digests m.asked) setup crew frame top r names m stands in record { told = d.told; table = d.table }
 
 password-by : (password : List ℕ) (setup : Setup) (crew : Crew) (frame top : ℕ) (r : Rest) (names : Option (ℕ × List ℕ)) (m : Member)
     → Stands names m (table_at crew frame top r)
     → Does setup crew frame top r (λ o t. password_step_by password o m t)
-      (record (to_password_by password setup frame crew.members crew.digests m) { names = names })
+      (record (to_password_by password setup frame crew.members crew.digests (guest_of m)) { names = names })
 password-by [] setup crew frame top r names m stands = company-stands setup crew frame top r names m stands
 password-by (b ∷ bs) setup crew frame top r names m stands =
     let t = table_at crew frame top r in
-    let marks : Marks = marks_in AuthGame frame m in
+    let marks : Marks = marks_in AuthGame frame (marks_of m) in
     record { told = refl; table = settled t (with_member (marked marks m) t) (on m.conn (marked marks) (renamed names crew.members)) (stands marks) }
 
 -- ---- the packets
 
 -- JOIN
-pub join_does : (setup : Setup) (crew : Crew) (frame top : ℕ) (r : Rest) (m : Member) (wanted name : List ℕ) (company : ℕ)
-    → Rise crew.members → find (is_on m.conn) crew.members ≡ Some m → name ≡ given_name (table_at crew frame top r) m.conn wanted
-    → Does setup crew frame top r (λ o t. joins o m wanted company t) (joining setup frame crew.members crew.digests m name company)
-join_does setup crew frame top r m wanted name company rise is given =
+pub join_does : (setup : Setup) (crew : Crew) (frame top : ℕ) (r : Rest) (m : Member) (wanted : List ℕ) (company : ℕ)
+    → Rise crew.members → find (is_on m.conn) crew.members ≡ Some m
+    → Does setup crew frame top r (λ o t. joins o m wanted company t) (joining setup frame crew.members crew.digests m (name_in crew.members m.conn wanted) company)
+join_does setup crew frame top r m wanted company rise is =
+    let name = name_in crew.members m.conn wanted in let given = name-in (table_at crew frame top r) m.conn wanted in
     let o = origin_at setup r in let t = table_at crew frame top r in
     let d = password-by setup.password setup crew frame top r (Some (m.conn, name)) (record m { name = name; asked = company })
         (as-named name company m t rise is) in
@@ -154,30 +173,31 @@ game_info_does setup crew frame top r live m lives =
       table = settled t t crew.members refl;
     }
 
-unnamed : (digest : Option (List ℕ)) (setup : Setup) (frame : ℕ) (ms : List Member) (m : Member)
-    → record (to_company_by digest setup frame ms m) { names = None } ≡ to_company_by digest setup frame ms m
-unnamed None setup frame ms m = refl
-unnamed (Some digest) setup frame ms m = refl
+unnamed : (digest : Option (List ℕ)) (setup : Setup) (frame : ℕ) (ms : List Member) (g : Guest)
+    → record (to_company_by digest setup frame ms g) { names = None } ≡ to_company_by digest setup frame ms g
+unnamed None setup frame ms g = refl
+unnamed (Some digest) setup frame ms g = refl
 
 -- GAME_PASSWORD
 pub game_password_does : (setup : Setup) (crew : Crew) (frame top : ℕ) (r : Rest) (m : Member) → Rise crew.members
     → find (is_on m.conn) crew.members ≡ Some m
-    → Does setup crew frame top r (λ o t. company_step o m t) (to_company setup frame crew.members crew.digests m)
+    → Does setup crew frame top r (λ o t. company_step o m t) (to_company setup frame crew.members crew.digests (guest_of m))
 game_password_does setup crew frame top r m rise is =
-    subst (λ p. Does setup crew frame top r (λ o t. company_step o m t) p) (unnamed (digest_in crew.digests m.asked) setup frame crew.members m)
+    subst (λ p. Does setup crew frame top r (λ o t. company_step o m t) p) (unnamed (digest_in crew.digests m.asked) setup frame crew.members (guest_of m))
     (company-stands setup crew frame top r None m (as-found m (table_at crew frame top r) rise is))
 
 -- COMPANY_PASSWORD
 pub company_password_does : (setup : Setup) (crew : Crew) (frame top : ℕ) (r : Rest) (m : Member) → Rise crew.members
     → find (is_on m.conn) crew.members ≡ Some m
-    → Does setup crew frame top r (λ o t. welcomes o m t) (welcoming setup frame crew.members m)
+    → Does setup crew frame top r (λ o t. welcomes o m t) (welcoming setup frame crew.members (guest_of m))
 company_password_does setup crew frame top r m rise is = welcome-stands setup crew frame top r None m (as-found m (table_at crew frame top r) rise is)
 
 -- SET_NAME
-pub rename_does : (setup : Setup) (crew : Crew) (frame top : ℕ) (r : Rest) (m : Member) (wanted name : List ℕ) → Rise crew.members
-    → find (is_on m.conn) crew.members ≡ Some m → name ≡ given_name (table_at crew frame top r) m.conn wanted
-    → Does setup crew frame top r (λ o t. renames m wanted t) (renaming crew.members m name)
-rename_does setup crew frame top r m wanted name rise is given =
+pub rename_does : (setup : Setup) (crew : Crew) (frame top : ℕ) (r : Rest) (m : Member) (wanted : List ℕ) → Rise crew.members
+    → find (is_on m.conn) crew.members ≡ Some m
+    → Does setup crew frame top r (λ o t. renames m wanted t) (renaming crew.members m (name_in crew.members m.conn wanted))
+rename_does setup crew frame top r m wanted rise is =
+    let name = name_in crew.members m.conn wanted in let given = name-in (table_at crew frame top r) m.conn wanted in
     let t = table_at crew frame top r in
     let rename : Member → Member = λ n. record n { name = name } in
     let x : Member = rename m in

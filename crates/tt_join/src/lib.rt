@@ -6,6 +6,9 @@
 #![tactic(auto)]
 
 mod input;
+mod joining;
+mod scene;
+mod tmp;
 
 pub use input::{Input, Now};
 pub use tt_members::{Audience, Conns, Step, What};
