@@ -1,1 +1,11 @@
+pub mod Behind
+pub mod Stamped
+pub mod Like
+pub mod Permitted
+pub mod Founding
+pub mod Placed
+pub mod Ticked
+pub mod Beating
+pub mod Moving
+pub mod Loading
 pub mod Welcomes

@@ -13,6 +13,7 @@ use Rattle.tt_log.specs.Ending.{ends_untold}
 use Rattle.tt_log.specs.PacketRules.{chats}
 use Rattle.tt_log.specs.Console.{orders, kicks_out}
 use Rattle.tt_log.specs.Watching.{sees_frame}
+use Rattle.tt_log.specs.Downloads.{IsQueue}
 use Rattle.tt_log.specs.Tick.{stamped, frame_runs, founders_moved, synced, mapped, timed, left_of}
 use Rattle.tt_log.specs.Events.{opened, heard}
 use Rattle.tt_members.specs.Crew.{Crew, Rest, origin_at, table_at, founders_in}
@@ -51,11 +52,12 @@ abbrev pub IsNextOpening : ℕ → Input → Type 0
 IsNextOpening openings (Open conn) = conn ≡ openings + 1
 IsNextOpening openings other = Unit {0}
 
--- a table of which these are the members' part, at a time, where something comes
+-- a table of which these are the members' part, at a time, where something comes; its queue stands as it does in every game
 pub record IsAt (setup : Setup) (crew : Crew) (now : Now) (input : Input) (r : Rest) : Type 0 where
   pub live : living_in (origin_at setup r) (table_at crew now.frame now.top r) ≡ now.live
   pub left : length (left_of (origin_at setup r) (table_at crew now.frame now.top r)) ≡ now.left
   pub founders : crew.founders ≡ founders_in (above (origin_at setup r) now.frame r.journal)
+  pub queued : IsQueue (table_at crew now.frame now.top r) crew.queue
   pub next : IsNextOpening r.openings input
 
 -- a plan tells what the rule of an input tells, and does what it does, whatever the rest of the table is

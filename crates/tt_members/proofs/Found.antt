@@ -145,4 +145,4 @@ pub rise_offered : (offer : Option Offer) (ms : List Member) → Rise ms → Ris
 rise_offered None ms rising = rising
 rise_offered (Some w) ms rising =
     subst (AreRising 0) (sym (one_conns w.conn (λ m. record m { waiting = m.waiting ++ (w.company, w.command) ∷ [] }) ms (λ m. refl)))
-        rising
+    rising

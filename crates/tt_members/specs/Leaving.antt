@@ -1,5 +1,5 @@
 -- How a member ends: what is told, and what changes.
-use Rattle.std.specs.Prelude.{ℕ, Bool, true, false, not, ◌==◌, List, [], ◌∷◌, ◌++◌, map, filter}
+use Rattle.std.specs.Prelude.{ℕ, ◌≤◌, Bool, true, false, not, ◌==◌, List, [], ◌∷◌, ◌++◌, map, filter}
 use Rattle.tt_game.specs.declared.message.GameMsg.TheVariants.{ServerError}
 use Rattle.tt_admin.specs.declared.message.AdminMsg.{AdminMsg}
 use Rattle.tt_admin.specs.declared.message.AdminMsg.TheVariants.{ServerClientQuit, ServerClientError}
@@ -9,11 +9,24 @@ use Rattle.tt_log.specs.Member.{Member, is_playing, is_welcomed}
 use Rattle.tt_log.specs.Ending.{Farewell, Quitting, Failing, news_of}
 use Rattle.tt_members.specs.declared.edit.Edit.{Edit}
 use Rattle.tt_members.specs.declared.edit.Edit.TheVariants.{Leave}
+use Rattle.tt_members.specs.declared.leaving.Parting.{Parting}
+use Rattle.tt_members.specs.declared.leaving.Parting.TheVariants.{Quits, Fails}
 use Rattle.tt_members.specs.declared.step.Audience.TheVariants.{One}
 use Rattle.tt_members.specs.declared.step.Step.{Step}
 use Rattle.tt_members.specs.Steps.{says, says_one, says_several, shows}
 use Rattle.tt_members.specs.Edits.{place_of}
 use Rattle.tt_members.specs.Queues.{unasking, unasked}
+
+-- ---- how a member goes, as the code says it
+
+abbrev pub farewell_of : Parting → Farewell
+farewell_of Quits = Quitting
+farewell_of (Fails code) = Failing code
+
+-- a reason has a code of at most 20
+abbrev pub IsParting : Parting → Type 0
+IsParting Quits = Unit {0}
+IsParting (Fails code) = code ≤ 20
 
 -- ---- connections
 

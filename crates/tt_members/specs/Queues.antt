@@ -2,7 +2,11 @@
 use Rattle.std.specs.Prelude.{ℕ, zero, suc, ◌+◌, min, List, [], ◌∷◌, drop, Option, Some, None}
 use Rattle.tt_game.specs.declared.message.GameMsg.TheVariants.{ServerWait}
 use Rattle.tt_log.specs.declared.deed.What.{What}
+use Rattle.tt_rules.specs.declared.status.Status.TheVariants.{MapWait}
 use Rattle.tt_log.specs.declared.deed.What.TheVariants.{Msg, MapBegin}
+use Rattle.tt_log.specs.Member.{is_in}
+use Rattle.tt_log.specs.Table.{Table}
+use Rattle.tt_log.specs.Downloads.{IsMember}
 use Rattle.tt_members.specs.declared.edit.Edit.{Edit}
 use Rattle.tt_members.specs.declared.edit.Edit.TheVariants.{Begin, Unask}
 use Rattle.tt_members.specs.declared.step.Audience.TheVariants.{One}
@@ -33,3 +37,16 @@ unasking (Some place) queue = moving place (drop (place + 1) queue)
 abbrev pub unasked : ℕ → ℕ → Option ℕ → List ℕ → List Edit
 unasked conn frame None queue = []
 unasked conn frame (Some place) queue = Unask conn ∷ beginning frame place (drop (place + 1) queue)
+
+-- ---- where a download may begin
+
+-- the one that comes to place 0 waits
+abbrev pub IsReady : ℕ → List ℕ → Table → Type 0
+IsReady zero [] t = Unit {0}
+IsReady zero (c ∷ cs) t = IsMember (is_in MapWait) t c
+IsReady (suc before) cs t = Unit {0}
+
+-- so it is behind the place that is free, if one is
+abbrev pub NextIsReady : Option ℕ → List ℕ → Table → Type 0
+NextIsReady None queue t = Unit {0}
+NextIsReady (Some place) queue t = IsReady place (drop (place + 1) queue) t

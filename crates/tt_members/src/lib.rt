@@ -7,6 +7,7 @@
 #![tactic(auto)]
 
 mod edit;
+mod leaving;
 mod marks;
 mod member;
 mod names;
@@ -17,6 +18,7 @@ mod step;
 mod waiting;
 
 pub use edit::{Beat, Edit, Offer};
+pub use leaving::{Parting, end, leave, move_up, others, playing, reason, unask};
 pub use marks::Marks;
 pub use member::Member;
 pub use names::{NameBad, name_for};

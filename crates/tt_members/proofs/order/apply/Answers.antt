@@ -11,7 +11,7 @@ returns-in-Mark-clause-rise c =
 pub returns-in-Begin-clause-rise : goal.returns-in-Begin-clause-rise
 returns-in-Begin-clause-rise c =
     subst Rise (sym c.change-in-Begin.ensures.members) (rise_by (Begin c.in-Begin.conn c.in-Begin.frame) c.args.members.now.items
-        c.requires)
+    c.requires)
 
 pub returns-in-Move-clause-rise : goal.returns-in-Move-clause-rise
 returns-in-Move-clause-rise c =
@@ -20,7 +20,7 @@ returns-in-Move-clause-rise c =
 pub returns-in-Load-clause-rise : goal.returns-in-Load-clause-rise
 returns-in-Load-clause-rise c =
     subst Rise (sym c.change-in-Load.ensures.members) (rise_by (Load c.in-Load.conn c.in-Load.pieces c.in-Load.status)
-        c.args.members.now.items c.requires)
+    c.args.members.now.items c.requires)
 
 pub returns-in-Draw-clause-rise : goal.returns-in-Draw-clause-rise
 returns-in-Draw-clause-rise c = subst Rise (sym c.draw_all.ensures.members) (rise_by Draw c.args.members.now.items c.requires)

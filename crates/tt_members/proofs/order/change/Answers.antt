@@ -12,7 +12,7 @@ returns-in-Some-clause-members c =
     let some = c.in-Some.ensures in
     ap (slice_set ms c.in-Some.at) (c.turn.ensures.turned ∙ ap (turned c.args.edit) c.index_mut.ensures.value)
     ∙ set_in c.args.conn c.in-Some.at (turned c.args.edit) d c.deref.result.now ms c.deref.ensures.value c.requires some.within (some.found
-        d)
+    d)
 
 pub returns-in_default-clause-members : goal.returns-in_default-clause-members
 returns-in_default-clause-members c =

@@ -9,7 +9,7 @@ returns-in-Some-clause-members c =
     let some = c.in-Some.ensures in
     c.remove.ensures.items
     ∙ remove_in c.args.conn c.in-Some.at d c.deref.result.now c.args.members.now.items c.deref.ensures.value c.requires some.within
-        (some.found d)
+    (some.found d)
 
 pub returns-in_default-clause-members : goal.returns-in_default-clause-members
 returns-in_default-clause-members c = sym (none_out c.args.conn c.deref.result.now c.args.members.now.items c.deref.ensures.value (search

@@ -10,7 +10,7 @@ returns-then-one-conn-clause-found c = λ d.
     let middle : ℕ = c.loop-low.low + (c.loop-low.high - c.loop-low.low) / 2 in
     let within : middle < length ms = omega (arith, c.loop-low-test.true, c.loop-low.invariant.within) in
     let here : (slice_index_or ms middle d).conn ≡ c.args.conn = ap (λ (m : Member). m.conn) (same_within middle d
-        c.index-members-middle.result ms within ∙ sym c.index-members-middle.is) ∙ sym c.conn-one.ensures.conn ∙ c.if-one-conn.true in
+    c.index-members-middle.result ms within ∙ sym c.index-members-middle.is) ∙ sym c.conn-one.ensures.conn ∙ c.if-one-conn.true in
     found_at 0 c.args.conn middle d ms c.requires within here
 
 pub loop-low-preserved-then-one-conn-2 : goal.loop-low-preserved-then-one-conn-2
@@ -20,7 +20,7 @@ loop-low-preserved-then-one-conn-2 c =
     let inside : middle < c.loop-low.high = omega (arith, c.loop-low-test.true) in
     let within : middle < length ms = omega (arith, inside, c.loop-low.invariant.within) in
     let here : (slice_index_or ms middle c.index-members-middle.result).conn ≡ c.conn-one.result = ap (λ (m : Member). m.conn) (sym
-        c.index-members-middle.is) ∙ sym c.conn-one.ensures.conn in
+    c.index-members-middle.is) ∙ sym c.conn-one.ensures.conn in
     record {
       order = omega (arith, inside);
       within = c.loop-low.invariant.within;
@@ -35,13 +35,17 @@ loop-low-preserved c =
     let inside : middle < c.loop-low.high = omega (arith, c.loop-low-test.true) in
     let within : middle < length ms = omega (arith, inside, c.loop-low.invariant.within) in
     let here : (slice_index_or ms middle c.index-members-middle.result).conn ≡ c.conn-one.result = ap (λ (m : Member). m.conn) (sym
-        c.index-members-middle.is) ∙ sym c.conn-one.ensures.conn in
+    c.index-members-middle.is) ∙ sym c.conn-one.ensures.conn in
     record {
       order = omega arith;
       within = omega (arith, within);
       below = c.loop-low.invariant.below;
-      above = all_above 0 c.args.conn middle c.index-members-middle.result ms c.requires within (omega (arith, here, c.if-one-conn.false,
-          c.if-one-conn-2.false));
+      above = all_above 0 c.args.conn middle c.index-members-middle.result ms c.requires within (omega (
+        arith,
+        here,
+        c.if-one-conn.false,
+        c.if-one-conn-2.false,
+      ));
     }
 
 pub returns-clause-none : goal.returns-clause-none
