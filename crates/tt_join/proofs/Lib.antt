@@ -8,4 +8,6 @@ pub mod Ticked
 pub mod Beating
 pub mod Moving
 pub mod Loading
+pub mod Counted
+pub mod Refusals
 pub mod Welcomes

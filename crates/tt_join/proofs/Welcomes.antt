@@ -1,25 +1,27 @@
 -- What packets do from the opening to the welcome, and another name, as plans.
-use Rattle.std.proofs.Common.{◌≡◌, ℕ, zero, suc, ◌+◌, length, List, [], ◌∷◌, ◌++◌, refl, sym, ap, ap₂, subst, ◌∙◌, true, false, Bool, Option, Some, None}
-use Rattle.std.specs.Prelude.{◌==◌, cond, filter, find, map, not}
-use Rattle.std.proofs.lemmas.List.{append-nil}
+use Rattle.std.proofs.Common.{◌≡◌, ℕ, zero, suc, ◌+◌, length, List, [], ◌∷◌, ◌++◌, refl, sym, ap, ap₂, subst, ◌∙◌, true, false, Bool, Option, Some, None, arith}
+use Rattle.std.specs.Prelude.{◌==◌, cond, filter, find, map, min, not, take}
+use Rattle.std.proofs.lemmas.List.{append-nil, take_all}
 use Rattle.tt_world.specs.declared.command.Entry.{Entry}
 use Rattle.tt_world.specs.declared.setup.Setup.{Setup}
 use Rattle.tt_rules.specs.declared.status.Status.TheVariants.{AuthGame, AuthCompany, Authorized}
-use Rattle.tt_game.specs.declared.message.GameMsg.TheVariants.{ServerWelcome}
+use Rattle.tt_game.specs.declared.message.GameMsg.TheVariants.{ServerWelcome, ServerGameInfo}
 use Rattle.tt_admin.specs.declared.message.AdminMsg.TheVariants.{ServerClientInfo, ServerClientUpdate}
 use Rattle.tt_log.specs.Admin.{client_updates}
-use Rattle.tt_log.specs.Member.{Member, is_playing}
+use Rattle.tt_log.specs.Judged.{is_empty}
+use Rattle.tt_log.specs.Member.{Member, is_playing, is_welcomed}
 use Rattle.tt_log.specs.Deed.{Deed, ◌▹◌, tells_playing}
 use Rattle.tt_log.specs.Watching.{sees_change}
 use Rattle.tt_log.specs.Names.{first_free_name, given_name, is_taken, numbered}
 use Rattle.tt_log.specs.PacketRules.{client_info, joins, password_step, password_step_by, company_step, company_step_by, welcomes, tells_game, renames}
-use Rattle.tt_log.specs.Table.{Table, is_on, living_in, playing, with_member}
+use Rattle.tt_log.specs.Table.{Table, count_living, is_on, living_in, playing, with_member}
 use Rattle.tt_members.specs.Crew.{Crew, Rest, origin_at, table_at}
 use Rattle.tt_members.specs.Done.{Does, renamed}
 use Rattle.tt_members.specs.Edits.{on, marked, marks_of}
 use Rattle.tt_members.specs.Leaving.{but, others, playing_in}
 use Rattle.tt_members.specs.Rules.{Rise}
 use Rattle.tt_members.specs.declared.marks.Marks.{Marks}
+use Rattle.tt_members.specs.declared.step.Step.{Step}
 use Rattle.tt_members.specs.Steps.{says_one, says_several, shows, steps_in}
 use Rattle.tt_join.specs.declared.joining.Guest.{Guest}
 use Rattle.tt_join.specs.Joining.{bare, name_in, digest_in, guest_of, marks_in, welcomed_marks, welcoming, to_company_by, to_company, to_password_by, joining, game_told, renaming}
@@ -86,6 +88,10 @@ name-in t conn wanted = ap (λ (later : List ℕ). elim (is_taken t conn wanted)
   | true ↦ later
   | false ↦ wanted
 ]) (taken-same t conn wanted 1 (length t.members))
+
+-- a name that was not refused is not empty
+pub some_bytes : (wanted : List ℕ) → is_empty wanted ≡ false → wanted ≡ [] → ⊥
+some_bytes wanted some is = let empty : is_empty wanted ≡ true = rw is refl in absurd cc
 
 -- ---- tables
 
@@ -162,14 +168,19 @@ join_does setup crew frame top r m wanted company rise is =
       table = d.table ∙ ap (λ (n : List ℕ). (password_step o (record m { name = n; asked = company }) t).table) given;
     }
 
+abbrev game_of : Setup → ℕ → List Bool → List Member → Member → List Step
+game_of setup frame live ms m = says_one m.conn (ServerGameInfo setup.name frame (min (length (filter is_welcomed ms)) 255) (count_living live)
+    setup.max_clients (not (is_empty setup.password))) ∷ []
+
 -- GAME_INFO
 pub game_info_does : (setup : Setup) (crew : Crew) (frame top : ℕ) (r : Rest) (live : List Bool) (m : Member)
-    → living_in (origin_at setup r) (table_at crew frame top r) ≡ live
+    → living_in (origin_at setup r) (table_at crew frame top r) ≡ live → length live ≡ 15
     → Does setup crew frame top r (λ o t. tells_game o m t) (game_told setup frame live crew.members m)
-game_info_does setup crew frame top r live m lives =
+game_info_does setup crew frame top r live m lives all =
     let t = table_at crew frame top r in
+    let whole : take 15 live ≡ live = take_all 15 live (omega (arith, all)) in
     record {
-      told = ap (λ (l : List Bool). steps_in r.admins (game_told setup frame l crew.members m).steps) (sym lives);
+      told = ap (λ (l : List Bool). steps_in r.admins (game_of setup frame l crew.members m)) (whole ∙ sym lives);
       table = settled t t crew.members refl;
     }
 

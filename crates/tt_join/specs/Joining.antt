@@ -1,5 +1,5 @@
 -- From the opening to the welcome, and names: what each packet changes and tells.
-use Rattle.std.specs.Prelude.{ℕ, min, Bool, false, not, ◌==◌, List, [], ◌∷◌, filter, find, length, Option, Some, None, option_map}
+use Rattle.std.specs.Prelude.{ℕ, min, Bool, false, not, ◌==◌, List, [], ◌∷◌, filter, find, length, take, Option, Some, None, option_map}
 use Rattle.tt_game.specs.declared.message.GameMsg.TheVariants.{ServerGameInfo, ServerNeedGamePassword, ServerNeedCompanyPassword}
 use Rattle.tt_game.specs.declared.message.GameMsg.TheVariants.{ServerWelcome}
 use Rattle.tt_game.specs.declared.message.GameMsg.TheVariants as game
@@ -110,10 +110,10 @@ abbrev pub joining : Setup → ℕ → List Member → List (ℕ × List ℕ) �
 joining setup frame ms digests m name company =
     record (to_password_by setup.password setup frame ms digests (guest_named m name company)) { names = Some (m.conn, name) }
 
--- GAME_INFO
+-- GAME_INFO: there are fifteen companies
 abbrev pub game_told : Setup → ℕ → List Bool → List Member → Member → Planned
 game_told setup frame live ms m = record nothing {
-  steps = says_one m.conn (ServerGameInfo setup.name frame (min (length (filter is_welcomed ms)) 255) (count_living live)
+  steps = says_one m.conn (ServerGameInfo setup.name frame (min (length (filter is_welcomed ms)) 255) (count_living (take 15 live))
       setup.max_clients (not (is_empty setup.password))) ∷ [];
 }
 

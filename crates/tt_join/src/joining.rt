@@ -1,5 +1,5 @@
 //! From the opening to the welcome, and another name: what each packet does, as a plan. Nothing but the plan is changed.
-ghost use Rattle.std.specs.Prelude.{ℕ, ◌≡◌, ◌≤◌, false, [], List, count_by, filter, length, min, OnOk};
+ghost use Rattle.std.specs.Prelude.{ℕ, ◌≡◌, ◌≤◌, false, [], List, filter, length, take, OnOk};
 ghost use Rattle.tt_log.specs.Judged.{is_empty};
 ghost use Rattle.tt_log.specs.Member.{is_welcomed};
 ghost use Rattle.tt_log.specs.Names.{is_too_long};
@@ -14,8 +14,7 @@ use tt_admin::AdminMsg;
 use tt_frame::{Digest, Name, OutOfMemory, Text};
 use tt_game::GameMsg;
 use tt_log::report::Report;
-use tt_members::{Audience, Conns, Edit, Marks, Member, NameBad, Plan, What, name_for};
-use crate::tmp::{others, playing};
+use tt_members::{Audience, Conns, Edit, Marks, Member, NameBad, Plan, What, name_for, others, playing};
 use tt_rules::{Live, Status};
 use tt_world::Setup;
 
@@ -102,7 +101,7 @@ fn field_of(name: &Name) -> Text<31>
 /// A member is welcome: those that play are told of it, and the admins that watch.
 fn welcome(scene: Scene<'_>, guest: Guest, plan: &mut Plan) -> Result<(), OutOfMemory>
     requires empty { plan.old ≡ nothing }
-    ensures plan { OnOk result (plan.new ≡ welcoming scene.entry.setup.now scene.entry.frame scene.entry.members.now.items guest) }
+    ensures plan { OnOk result (plan.new ≡ welcoming scene.entry.setup.now scene.entry.frame scene.entry.members.now guest) }
 {
     let Guest {
         conn,
@@ -122,7 +121,7 @@ fn welcome(scene: Scene<'_>, guest: Guest, plan: &mut Plan) -> Result<(), OutOfM
         id: field_of(&scene.setup.id),
     };
     plan.tell_one(conn, What::Msg(welcome))?;
-    let others = others(scene.members, conn)?;
+    let others = others(scene.alloc, scene.members, conn)?;
     let info = GameMsg::ServerClientInfo {
         client,
         company,
@@ -151,7 +150,7 @@ pub fn digest_of(digests: &[(u8, Digest)], company: u8) -> Option<Digest>
 /// The company step: a company with a password asks for it.
 fn to_company(scene: Scene<'_>, guest: Guest, plan: &mut Plan) -> Result<(), OutOfMemory>
     requires empty { plan.old ≡ nothing }
-    ensures plan { OnOk result (plan.new ≡ to_company scene.entry.setup.now scene.entry.frame scene.entry.members.now.items scene.entry.digests.now guest) }
+    ensures plan { OnOk result (plan.new ≡ to_company scene.entry.setup.now scene.entry.frame scene.entry.members.now scene.entry.digests.now guest) }
 {
     if digest_of(scene.digests, guest.marks.asked).is_none() {
         return welcome(scene, guest, plan);
@@ -169,7 +168,7 @@ fn to_company(scene: Scene<'_>, guest: Guest, plan: &mut Plan) -> Result<(), Out
 /// The password step: a game with a password asks for it.
 fn to_password(scene: Scene<'_>, guest: Guest, plan: &mut Plan) -> Result<(), OutOfMemory>
     requires empty { plan.old ≡ nothing }
-    ensures plan { OnOk result (plan.new ≡ to_password_by scene.entry.setup.now.password scene.entry.setup.now scene.entry.frame scene.entry.members.now.items scene.entry.digests.now guest) }
+    ensures plan { OnOk result (plan.new ≡ to_password_by scene.entry.setup.now.password scene.entry.setup.now scene.entry.frame scene.entry.members.now scene.entry.digests.now guest) }
 {
     if scene.setup.password.bytes().is_empty() {
         return to_company(scene, guest, plan);
@@ -207,8 +206,8 @@ pub fn join(
 ) -> Result<(), OutOfMemory>
     requires empty { plan.old ≡ nothing }
     requires some { is_empty wanted.now ≡ false }
-    requires short { is_too_long (name_in scene.members.now.items m.now.conn wanted.now) ≡ false }
-    ensures plan { OnOk result (plan.new ≡ joining scene.entry.setup.now scene.entry.frame scene.entry.members.now.items scene.entry.digests.now m.now (name_in scene.entry.members.now.items m.now.conn wanted.now) company) }
+    requires short { is_too_long (name_in scene.members.now m.now.conn wanted.now) ≡ false }
+    ensures plan { OnOk result (plan.new ≡ joining scene.entry.setup.now scene.entry.frame scene.entry.members.now scene.entry.digests.now m.now (name_in scene.entry.members.now m.now.conn wanted.now) company) }
 {
     let name = given_name(scene.members, m, wanted);
     to_password(scene, guest_named(m, name.copy(), company), plan)?;
@@ -219,7 +218,7 @@ pub fn join(
 /// GAME_PASSWORD: the company step.
 pub fn game_password(scene: Scene<'_>, m: &Member, plan: &mut Plan) -> Result<(), OutOfMemory>
     requires empty { plan.old ≡ nothing }
-    ensures plan { OnOk result (plan.new ≡ to_company scene.entry.setup.now scene.entry.frame scene.entry.members.now.items scene.entry.digests.now (guest_of m.now)) }
+    ensures plan { OnOk result (plan.new ≡ to_company scene.entry.setup.now scene.entry.frame scene.entry.members.now scene.entry.digests.now (guest_of m.now)) }
 {
     to_company(scene, guest_of(m), plan)
 }
@@ -227,28 +226,27 @@ pub fn game_password(scene: Scene<'_>, m: &Member, plan: &mut Plan) -> Result<()
 /// COMPANY_PASSWORD: the welcome.
 pub fn company_password(scene: Scene<'_>, m: &Member, plan: &mut Plan) -> Result<(), OutOfMemory>
     requires empty { plan.old ≡ nothing }
-    ensures plan { OnOk result (plan.new ≡ welcoming scene.entry.setup.now scene.entry.frame scene.entry.members.now.items (guest_of m.now)) }
+    ensures plan { OnOk result (plan.new ≡ welcoming scene.entry.setup.now scene.entry.frame scene.entry.members.now (guest_of m.now)) }
 {
     welcome(scene, guest_of(m), plan)
 }
 
 /// How many members are welcome.
 fn count_welcomed(members: &[Member]) -> usize
-    ensures count { result ≡ count_by is_welcomed members.now }
+    ensures count { result ≡ length (filter is_welcomed members.now) }
 {
-    members.iter().filter(|m| m.is_welcomed()).count()
+    let mut count = 0;
+    for m in members.iter() {
+        if m.is_welcomed() {
+            count += 1;
+        }
+    }
+    count
 }
 
-/// How many members are welcome, as far as that is told.
-fn told_welcomed(members: &[Member]) -> u8
-    ensures count { result ≡ min (length (filter is_welcomed members.now)) 255 }
-{
-    count_welcomed(members).min(MOST_TOLD) as u8
-}
-
-/// How many companies live.
+/// How many of the fifteen companies live.
 fn count_living(live: &Live) -> u8
-    ensures count { result ≡ count_living live.now }
+    ensures count { result ≡ count_living (take 15 live.now) }
 {
     let mut count = 0;
     for n in 0..COMPANIES {
@@ -267,13 +265,13 @@ pub fn game_info(
     plan: &mut Plan,
 ) -> Result<(), OutOfMemory>
     requires empty { plan.old ≡ nothing }
-    ensures plan { OnOk result (plan.new ≡ game_told scene.entry.setup.now scene.entry.frame live.now scene.entry.members.now.items m.now) }
+    ensures plan { OnOk result (plan.new ≡ game_told scene.entry.setup.now scene.entry.frame live.now scene.entry.members.now m.now) }
 {
     let setup: &Setup = scene.setup;
     let info = GameMsg::ServerGameInfo {
         name: field_of(&setup.name),
         frame: scene.frame,
-        clients: told_welcomed(scene.members),
+        clients: count_welcomed(scene.members).min(MOST_TOLD) as u8,
         companies: count_living(live),
         max: setup.max_clients,
         password: !setup.password.bytes().is_empty(),
@@ -283,24 +281,24 @@ pub fn game_info(
 
 /// SET_NAME: all that play are told, and the admins that watch.
 pub fn set_name(
-    members: &Vec<Member>,
+    scene: Scene<'_>,
     m: &Member,
     wanted: &Text<24>,
     plan: &mut Plan,
 ) -> Result<(), OutOfMemory>
     requires empty { plan.old ≡ nothing }
     requires some { is_empty wanted.now ≡ false }
-    requires short { is_too_long (name_in members.now.items m.now.conn wanted.now) ≡ false }
-    ensures plan { OnOk result (plan.new ≡ renaming members.now.items m.now (name_in members.now.items m.now.conn wanted.now)) }
+    requires short { is_too_long (name_in scene.members.now m.now.conn wanted.now) ≡ false }
+    ensures plan { OnOk result (plan.new ≡ renaming scene.entry.members.now m.now (name_in scene.entry.members.now m.now.conn wanted.now)) }
 {
-    let name = given_name(members, m, wanted);
+    let name = given_name(scene.members, m, wanted);
     let (client, company) = (m.client(), m.marks().company);
     let info = GameMsg::ServerClientInfo {
         client,
         company,
         name: name.copy(),
     };
-    let all = Conns::new(playing(members)?);
+    let all = Conns::new(playing(scene.alloc, scene.members)?);
     plan.tell(Audience::Several(all), What::Msg(info))?;
     let report = AdminMsg::ServerClientUpdate {
         client,

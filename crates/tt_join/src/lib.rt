@@ -7,8 +7,8 @@
 
 mod input;
 mod joining;
+mod refusing;
 mod scene;
-mod tmp;
 
 pub use input::{Input, Now};
 pub use tt_members::{Audience, Conns, Step, What};
