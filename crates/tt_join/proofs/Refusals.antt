@@ -1,5 +1,5 @@
 -- Refusals, one after another.
-use Rattle.std.proofs.Common.{◌≡◌, ℕ, suc, ◌+◌, Bool, true, false, List, [], ◌∷◌, length, Option, Some, None, refl, ap, sym, ◌∙◌, arith}
+use Rattle.std.proofs.Common.{◌≡◌, ℕ, suc, ◌+◌, Bool, true, false, List, [], ◌∷◌, length, Option, Some, None, refl, sym, ◌∙◌, arith}
 use Rattle.std.specs.Prelude.{◌==◌, ◌||◌, cond, is_some, nat_lt, not}
 use Rattle.std.specs.List.{list_any, prefix_len}
 use Rattle.tt_rules.specs.Companies.{least_free}
@@ -33,7 +33,8 @@ room-one false k n any is = grind arith
 
 room-from : (live : List Bool) → nat_lt (prefix_len (λ (lives : Bool). not (not lives)) live) (length live) ≡ list_any not live
 room-from [] = grind arith
-room-from (lives ∷ more) = room-one lives (prefix_len (λ (one : Bool). not (not one)) more) (length more) (list_any not more) (room-from more)
+room-from (lives ∷ more) = room-one lives (prefix_len (λ (one : Bool). not (not one)) more) (length more) (list_any not more) (room-from
+    more)
 
 some-where : (b : Bool) (n : ℕ) → is_some (cond b (Some n) None) ≡ b
 some-where true n = refl

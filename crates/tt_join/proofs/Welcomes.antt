@@ -1,10 +1,11 @@
 -- What packets do from the opening to the welcome, and another name, as plans.
-use Rattle.std.proofs.Common.{◌≡◌, ℕ, zero, suc, ◌+◌, length, List, [], ◌∷◌, ◌++◌, refl, sym, ap, ap₂, subst, ◌∙◌, true, false, Bool, Option, Some, None, arith}
+use Rattle.std.proofs.Common.{◌≡◌, ℕ, zero, suc, ◌+◌, length, List, [], ◌∷◌, ◌++◌, refl, sym, ap, ap₂, subst, ◌∙◌, true, false, Bool}
+use Rattle.std.proofs.Common.{Option, Some, None, arith}
 use Rattle.std.specs.Prelude.{◌==◌, cond, filter, find, map, min, not, take}
 use Rattle.std.proofs.lemmas.List.{append-nil, take_all}
 use Rattle.tt_world.specs.declared.command.Entry.{Entry}
 use Rattle.tt_world.specs.declared.setup.Setup.{Setup}
-use Rattle.tt_rules.specs.declared.status.Status.TheVariants.{AuthGame, AuthCompany, Authorized}
+use Rattle.tt_rules.specs.declared.status.Status.TheVariants.{AuthGame, AuthCompany}
 use Rattle.tt_game.specs.declared.message.GameMsg.TheVariants.{ServerWelcome, ServerGameInfo}
 use Rattle.tt_admin.specs.declared.message.AdminMsg.TheVariants.{ServerClientInfo, ServerClientUpdate}
 use Rattle.tt_log.specs.Admin.{client_updates}
@@ -13,7 +14,8 @@ use Rattle.tt_log.specs.Member.{Member, is_playing, is_welcomed}
 use Rattle.tt_log.specs.Deed.{Deed, ◌▹◌, tells_playing}
 use Rattle.tt_log.specs.Watching.{sees_change}
 use Rattle.tt_log.specs.Names.{first_free_name, given_name, is_taken, numbered}
-use Rattle.tt_log.specs.PacketRules.{client_info, joins, password_step, password_step_by, company_step, company_step_by, welcomes, tells_game, renames}
+use Rattle.tt_log.specs.PacketRules.{client_info, joins, password_step, password_step_by, company_step, company_step_by, welcomes}
+use Rattle.tt_log.specs.PacketRules.{tells_game, renames}
 use Rattle.tt_log.specs.Table.{Table, count_living, is_on, living_in, playing, with_member}
 use Rattle.tt_members.specs.Crew.{Crew, Rest, origin_at, table_at}
 use Rattle.tt_members.specs.Done.{Does, renamed}
@@ -24,7 +26,8 @@ use Rattle.tt_members.specs.declared.marks.Marks.{Marks}
 use Rattle.tt_members.specs.declared.step.Step.{Step}
 use Rattle.tt_members.specs.Steps.{says_one, says_several, shows, steps_in}
 use Rattle.tt_join.specs.declared.joining.Guest.{Guest}
-use Rattle.tt_join.specs.Joining.{bare, name_in, digest_in, guest_of, marks_in, welcomed_marks, welcoming, to_company_by, to_company, to_password_by, joining, game_told, renaming}
+use Rattle.tt_join.specs.Joining.{bare, name_in, digest_in, guest_of, marks_in, welcomed_marks, welcoming, to_company_by, to_company}
+use Rattle.tt_join.specs.Joining.{to_password_by, joining, game_told, renaming}
 use Rattle.tt_members.proofs.Found.{with_found}
 
 -- another name, whatever it is
@@ -56,7 +59,8 @@ quiet-one false false x n xs ys here quiet plays same = rw plays same
 pub quiet-others : (x : Member) (ms : List Member) → is_playing x ≡ false
     → playing_in (map (λ n. cond (n.conn == x.conn) x n) ms) ≡ others x.conn ms
 quiet-others x [] quiet = refl
-quiet-others x (n ∷ ms) quiet = quiet-one (n.conn == x.conn) (is_playing n) x n (map (λ k. cond (k.conn == x.conn) x k) ms) ms refl quiet refl
+quiet-others x (n ∷ ms) quiet = quiet-one (n.conn == x.conn) (is_playing n) x n (map (λ k. cond (k.conn == x.conn) x k) ms) ms refl quiet
+    refl
     (quiet-others x ms quiet)
 
 -- those that play behind another name of one
@@ -111,7 +115,8 @@ as-named : (name : List ℕ) (asked : ℕ) (m : Member) (t : Table) → Rise t.m
     → Stands (Some (m.conn, name)) (record m { name = name; asked = asked }) t
 as-named name asked m t rise is = λ marks.
     with_found 0 m.conn (λ n. marked marks (record n { name = name })) m t rise is refl
-    ∙ ap (λ (ms : List Member). record t { members = ms }) (sym (on-both m.conn (marked marks) (λ n. record n { name = name }) t.members (λ k. refl)))
+    ∙ ap (λ (ms : List Member). record t { members = ms }) (sym (on-both m.conn (marked marks) (λ n. record n { name = name }) t.members (λ
+    k. refl)))
 
 -- ---- the welcome, and the requests for passwords
 
@@ -124,52 +129,66 @@ welcome-stands setup crew frame top r names m stands =
     record {
       told = ap (λ cs. steps_in r.admins (says_one m.conn (ServerWelcome m.client setup.seed setup.id) ∷ says_several cs (client_info x)
           ∷ shows client_updates (ServerClientInfo x.client x.name x.company) ∷ [])) (sym (quiet-others x crew.members refl));
-      table = settled t (with_member x t) (on m.conn (marked (welcomed_marks frame (marks_of m))) (renamed names crew.members)) (stands (welcomed_marks frame (marks_of m)));
+      table = settled t (with_member x t) (on m.conn (marked (welcomed_marks frame (marks_of m))) (renamed names crew.members)) (stands
+          (welcomed_marks frame (marks_of m)));
     }
 
 company-by : (digest : Option (List ℕ)) (setup : Setup) (crew : Crew) (frame top : ℕ) (r : Rest) (names : Option (ℕ × List ℕ)) (m : Member)
     → Stands names m (table_at crew frame top r)
-    → Does setup crew frame top r (λ o t. company_step_by digest o m t) (record (to_company_by digest setup frame crew.members (guest_of m)) { names = names })
+    → Does setup crew frame top r (λ o t. company_step_by digest o m t) (record (to_company_by digest setup frame crew.members (guest_of
+    m)) { names = names })
 company-by None setup crew frame top r names m stands = welcome-stands setup crew frame top r names m stands
 company-by (Some digest) setup crew frame top r names m stands =
     let t = table_at crew frame top r in
     let marks : Marks = marks_in AuthCompany frame (marks_of m) in
-    record { told = refl; table = settled t (with_member (marked marks m) t) (on m.conn (marked marks) (renamed names crew.members)) (stands marks) }
+    record {
+      told = refl;
+      table = settled t (with_member (marked marks m) t) (on m.conn (marked marks) (renamed names crew.members))
+          (stands marks);
+    }
 
 company-stands : (setup : Setup) (crew : Crew) (frame top : ℕ) (r : Rest) (names : Option (ℕ × List ℕ)) (m : Member)
     → Stands names m (table_at crew frame top r)
-    → Does setup crew frame top r (λ o t. company_step o m t) (record (to_company setup frame crew.members crew.digests (guest_of m)) { names = names })
+    → Does setup crew frame top r (λ o t. company_step o m t) (record (to_company setup frame crew.members crew.digests (guest_of m)) {
+      names = names;
+    })
 company-stands setup crew frame top r names m stands =
     let d = company-by (digest_in crew.digests m.asked) setup crew frame top r names m stands in record { told = d.told; table = d.table }
 
 password-by : (password : List ℕ) (setup : Setup) (crew : Crew) (frame top : ℕ) (r : Rest) (names : Option (ℕ × List ℕ)) (m : Member)
     → Stands names m (table_at crew frame top r)
     → Does setup crew frame top r (λ o t. password_step_by password o m t)
-      (record (to_password_by password setup frame crew.members crew.digests (guest_of m)) { names = names })
+    (record (to_password_by password setup frame crew.members crew.digests (guest_of m)) { names = names })
 password-by [] setup crew frame top r names m stands = company-stands setup crew frame top r names m stands
 password-by (b ∷ bs) setup crew frame top r names m stands =
     let t = table_at crew frame top r in
     let marks : Marks = marks_in AuthGame frame (marks_of m) in
-    record { told = refl; table = settled t (with_member (marked marks m) t) (on m.conn (marked marks) (renamed names crew.members)) (stands marks) }
+    record {
+      told = refl;
+      table = settled t (with_member (marked marks m) t) (on m.conn (marked marks) (renamed names crew.members))
+          (stands marks);
+    }
 
 -- ---- the packets
 
 -- JOIN
 pub join_does : (setup : Setup) (crew : Crew) (frame top : ℕ) (r : Rest) (m : Member) (wanted : List ℕ) (company : ℕ)
     → Rise crew.members → find (is_on m.conn) crew.members ≡ Some m
-    → Does setup crew frame top r (λ o t. joins o m wanted company t) (joining setup frame crew.members crew.digests m (name_in crew.members m.conn wanted) company)
+    → Does setup crew frame top r (λ o t. joins o m wanted company t) (joining setup frame crew.members crew.digests m (name_in
+    crew.members m.conn wanted) company)
 join_does setup crew frame top r m wanted company rise is =
     let name = name_in crew.members m.conn wanted in let given = name-in (table_at crew frame top r) m.conn wanted in
     let o = origin_at setup r in let t = table_at crew frame top r in
     let d = password-by setup.password setup crew frame top r (Some (m.conn, name)) (record m { name = name; asked = company })
-        (as-named name company m t rise is) in
+    (as-named name company m t rise is) in
     record {
       told = d.told ∙ ap (λ (n : List ℕ). (password_step o (record m { name = n; asked = company }) t).told) given;
       table = d.table ∙ ap (λ (n : List ℕ). (password_step o (record m { name = n; asked = company }) t).table) given;
     }
 
 abbrev game_of : Setup → ℕ → List Bool → List Member → Member → List Step
-game_of setup frame live ms m = says_one m.conn (ServerGameInfo setup.name frame (min (length (filter is_welcomed ms)) 255) (count_living live)
+game_of setup frame live ms m = says_one m.conn (ServerGameInfo setup.name frame (min (length (filter is_welcomed ms)) 255) (count_living
+    live)
     setup.max_clients (not (is_empty setup.password))) ∷ []
 
 -- GAME_INFO
@@ -194,14 +213,16 @@ pub game_password_does : (setup : Setup) (crew : Crew) (frame top : ℕ) (r : Re
     → find (is_on m.conn) crew.members ≡ Some m
     → Does setup crew frame top r (λ o t. company_step o m t) (to_company setup frame crew.members crew.digests (guest_of m))
 game_password_does setup crew frame top r m rise is =
-    subst (λ p. Does setup crew frame top r (λ o t. company_step o m t) p) (unnamed (digest_in crew.digests m.asked) setup frame crew.members (guest_of m))
+    subst (λ p. Does setup crew frame top r (λ o t. company_step o m t) p) (unnamed (digest_in crew.digests m.asked) setup frame
+    crew.members (guest_of m))
     (company-stands setup crew frame top r None m (as-found m (table_at crew frame top r) rise is))
 
 -- COMPANY_PASSWORD
 pub company_password_does : (setup : Setup) (crew : Crew) (frame top : ℕ) (r : Rest) (m : Member) → Rise crew.members
     → find (is_on m.conn) crew.members ≡ Some m
     → Does setup crew frame top r (λ o t. welcomes o m t) (welcoming setup frame crew.members (guest_of m))
-company_password_does setup crew frame top r m rise is = welcome-stands setup crew frame top r None m (as-found m (table_at crew frame top r) rise is)
+company_password_does setup crew frame top r m rise is = welcome-stands setup crew frame top r None m (as-found m (table_at crew frame top
+    r) rise is)
 
 -- SET_NAME
 pub rename_does : (setup : Setup) (crew : Crew) (frame top : ℕ) (r : Rest) (m : Member) (wanted : List ℕ) → Rise crew.members
@@ -214,7 +235,8 @@ rename_does setup crew frame top r m wanted rise is =
     let x : Member = rename m in
     let found = with_found 0 m.conn rename m t rise is refl in
     let plays : playing (with_member x t) ≡ playing_in crew.members = ap playing found ∙ named-playing m.conn name crew.members in
-    let told = ap (λ cs. steps_in r.admins (says_several cs (client_info x) ∷ shows client_updates (ServerClientUpdate x.client x.name x.company) ∷ [])) (sym plays) in
+    let told = ap (λ cs. steps_in r.admins (says_several cs (client_info x) ∷ shows client_updates (ServerClientUpdate x.client x.name
+    x.company) ∷ [])) (sym plays) in
     record {
       told = told ∙ ap (λ (n : List ℕ). (renames_to m n t).told) given;
       table = settled t (with_member x t) (on m.conn rename crew.members) found ∙ ap (λ (n : List ℕ). (renames_to m n t).table) given;

@@ -82,7 +82,8 @@ welcomed_marks frame marks = record (marks_in Authorized frame marks) { company 
 abbrev pub welcoming : Setup → ℕ → List Member → Guest → Planned
 welcoming setup frame ms g = let company = first_company g.marks.asked in record nothing {
   edits = Mark g.conn (welcomed_marks frame g.marks) ∷ [];
-  steps = says_one g.conn (ServerWelcome g.client setup.seed setup.id) ∷ says_several (others g.conn ms) (game.ServerClientInfo g.client company g.name)
+  steps = says_one g.conn (ServerWelcome g.client setup.seed setup.id) ∷ says_several (others g.conn ms) (game.ServerClientInfo g.client
+      company g.name)
       ∷ shows client_updates (ServerClientInfo g.client g.name company) ∷ [];
 }
 

@@ -14,7 +14,9 @@ use tt_admin::AdminMsg;
 use tt_frame::{Digest, Name, OutOfMemory, Text};
 use tt_game::GameMsg;
 use tt_log::report::Report;
-use tt_members::{Audience, Conns, Edit, Marks, Member, NameBad, Plan, What, name_for, others, playing};
+use tt_members::{
+    Audience, Conns, Edit, Marks, Member, NameBad, Plan, What, name_for, others, playing,
+};
 use tt_rules::{Live, Status};
 use tt_world::Setup;
 
@@ -150,7 +152,8 @@ pub fn digest_of(digests: &[(u8, Digest)], company: u8) -> Option<Digest>
 /// The company step: a company with a password asks for it.
 fn to_company(scene: Scene<'_>, guest: Guest, plan: &mut Plan) -> Result<(), OutOfMemory>
     requires empty { plan.old ≡ nothing }
-    ensures plan { OnOk result (plan.new ≡ to_company scene.entry.setup.now scene.entry.frame scene.entry.members.now scene.entry.digests.now guest) }
+    ensures plan { OnOk result (plan.new
+        ≡ to_company scene.entry.setup.now scene.entry.frame scene.entry.members.now scene.entry.digests.now guest) }
 {
     if digest_of(scene.digests, guest.marks.asked).is_none() {
         return welcome(scene, guest, plan);
@@ -168,7 +171,9 @@ fn to_company(scene: Scene<'_>, guest: Guest, plan: &mut Plan) -> Result<(), Out
 /// The password step: a game with a password asks for it.
 fn to_password(scene: Scene<'_>, guest: Guest, plan: &mut Plan) -> Result<(), OutOfMemory>
     requires empty { plan.old ≡ nothing }
-    ensures plan { OnOk result (plan.new ≡ to_password_by scene.entry.setup.now.password scene.entry.setup.now scene.entry.frame scene.entry.members.now scene.entry.digests.now guest) }
+    ensures plan { OnOk result (plan.new
+        ≡ to_password_by scene.entry.setup.now.password scene.entry.setup.now scene.entry.frame scene.entry.members.now
+            scene.entry.digests.now guest) }
 {
     if scene.setup.password.bytes().is_empty() {
         return to_company(scene, guest, plan);
@@ -207,7 +212,9 @@ pub fn join(
     requires empty { plan.old ≡ nothing }
     requires some { is_empty wanted.now ≡ false }
     requires short { is_too_long (name_in scene.members.now m.now.conn wanted.now) ≡ false }
-    ensures plan { OnOk result (plan.new ≡ joining scene.entry.setup.now scene.entry.frame scene.entry.members.now scene.entry.digests.now m.now (name_in scene.entry.members.now m.now.conn wanted.now) company) }
+    ensures plan { OnOk result (plan.new
+        ≡ joining scene.entry.setup.now scene.entry.frame scene.entry.members.now scene.entry.digests.now m.now
+        (name_in scene.entry.members.now m.now.conn wanted.now) company) }
 {
     let name = given_name(scene.members, m, wanted);
     to_password(scene, guest_named(m, name.copy(), company), plan)?;
@@ -218,7 +225,8 @@ pub fn join(
 /// GAME_PASSWORD: the company step.
 pub fn game_password(scene: Scene<'_>, m: &Member, plan: &mut Plan) -> Result<(), OutOfMemory>
     requires empty { plan.old ≡ nothing }
-    ensures plan { OnOk result (plan.new ≡ to_company scene.entry.setup.now scene.entry.frame scene.entry.members.now scene.entry.digests.now (guest_of m.now)) }
+    ensures plan { OnOk result (plan.new
+        ≡ to_company scene.entry.setup.now scene.entry.frame scene.entry.members.now scene.entry.digests.now (guest_of m.now)) }
 {
     to_company(scene, guest_of(m), plan)
 }

@@ -76,7 +76,7 @@ fn join_refused(
 ) -> Option<u8>
     ensures refused { (o : Origin) (t : Table) → result
         ≡ join_refused (made_from scene.entry.setup.now o) live.now (with_crew scene.entry.members.now scene.entry.digests.now t)
-            m.now revision.now grf name.now company }
+        m.now revision.now grf name.now company }
     ensures code { IfSome result (λ code. code ≤ 20) }
 {
     if !is_same_game(scene.setup, revision, grf) {
@@ -139,11 +139,7 @@ fn game_password_refused(setup: &Setup, digest: &Digest) -> Option<u8>
 }
 
 /// The refusal of a digest of a company's password.
-fn company_password_refused(
-    digests: &[(u8, Digest)],
-    m: &Member,
-    digest: &Digest,
-) -> Option<u8>
+fn company_password_refused(digests: &[(u8, Digest)], m: &Member, digest: &Digest) -> Option<u8>
     ensures refused { (t : Table) → result ≡ company_password_refused (with_crew t.members digests.now t) m.now digest.now }
     ensures code { IfSome result (λ code. code ≤ 20) }
 {

@@ -1,5 +1,4 @@
-use Rattle.std.proofs.Common.{◌≡◌, Bool, true, length, take, arith, ap, ◌∙◌, false, sym}
-use Rattle.std.specs.Prelude.{cond, filter}
+use Rattle.std.proofs.Common.{◌≡◌, true, take, arith, ap, ◌∙◌, false, sym}
 use Rattle.tt_rules.specs.Companies.{is_living}
 use Rattle.tt_log.specs.Table.{count_living}
 use Rattle.tt_join.proofs.Counted.{living-more}
@@ -15,7 +14,7 @@ pub loop-n-preserved : goal.loop-n-preserved
 loop-n-preserved c =
     let more = living-more c.args.live.now c.loop-n.n in
     elim c.if-has.branch [
-      then-has w ↦
+      | then-has w ↦
           let lives : is_living c.args.live.now c.loop-n.n ≡ true = sym c.has.ensures.lives ∙ w.if-has.true in
           let one = rw lives at more in
           record { most = omega arith; counted = omega (arith, one) }

@@ -1,5 +1,4 @@
 use Rattle.std.proofs.Common.{◌≡◌, ap, ap₂, ◌∙◌, false, true, sym, Err}
-use Rattle.tt_log.specs.Judged.{is_empty}
 use Rattle.tt_log.specs.Names.{is_too_long}
 use Rattle.tt_join.specs.Joining.{bare, name_in}
 use Rattle.tt_join.proofs.joining.given_name.Goals as goal

@@ -1,4 +1,4 @@
-use Rattle.std.proofs.Common.{◌≡◌, ap, sym, ◌∙◌}
+use Rattle.std.proofs.Common.{ap, sym, ◌∙◌}
 use Rattle.tt_log.specs.Judged.{refused}
 use Rattle.tt_join.specs.Joining.{made_from, with_crew}
 use Rattle.tt_join.proofs.refusing.refused.Goals as goal
