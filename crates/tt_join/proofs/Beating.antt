@@ -57,9 +57,9 @@ drawn_like setup frame ms = pairs_map (IsLike setup frame) drawn ms ms
 -- ---- stamping
 
 stamps_told : (setup : Setup) (crew : Crew) (now : Now) (r : Rest) → stamped (table_of crew now r) ≡ record {
-      table = stamped_table crew now r;
-      told = steps_in r.admins (stamping (playing_in crew.members) (stamps_of (now.top + 1) crew));
-    }
+  table = stamped_table crew now r;
+  told = steps_in r.admins (stamping (playing_in crew.members) (stamps_of (now.top + 1) crew));
+}
 stamps_told setup crew now r =
     entries_told (stamps_of (now.top + 1) crew) (stamped_table crew now r)
     ∙ ap (λ (conns : List ℕ). record {

@@ -95,5 +95,5 @@ founded_at o low frame live fs journal new below is =
     ∙ ap (λ (gs : List (ℕ × ℕ)). assigned live (clients_at frame gs)) (founders_append journal new)
     ∙ ap (assigned live) (clients_append frame (founders_in journal) (founders_in new))
     ∙ ap (λ (gs : List (ℕ × ℕ)). assigned live (clients gs ++ clients_at frame (founders_in new)))
-      (sym (founders_above o low frame journal below) ∙ ap (for_frame frame) (sym is))
+    (sym (founders_above o low frame journal below) ∙ ap (for_frame frame) (sym is))
     ∙ ap (assigned live) (sym (clients_append frame fs (founders_in new)))

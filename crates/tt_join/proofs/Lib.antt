@@ -11,3 +11,4 @@ pub mod Loading
 pub mod Counted
 pub mod Refusals
 pub mod Welcomes
+pub mod Played

@@ -63,18 +63,19 @@ quiet-others x (n ∷ ms) quiet = quiet-one (n.conn == x.conn) (is_playing n) x 
     refl
     (quiet-others x ms quiet)
 
--- those that play behind another name of one
-named-one : (b p : Bool) (name : List ℕ) (n : Member) (xs ys : List Member) → is_playing n ≡ p → playing_in xs ≡ playing_in ys
-    → playing_in (cond b (record n { name = name }) n ∷ xs) ≡ playing_in (n ∷ ys)
-named-one true true name n xs ys plays same = rw plays (ap (λ cs. n.conn ∷ cs) same)
-named-one true false name n xs ys plays same = rw plays same
-named-one false true name n xs ys plays same = rw plays (ap (λ cs. n.conn ∷ cs) same)
-named-one false false name n xs ys plays same = rw plays same
+-- those that play behind a change of one that leaves its connection and whether it plays
+same-one : (b p : Bool) (f : Member → Member) (n : Member) (xs ys : List Member) → (f n).conn ≡ n.conn → is_playing (f n) ≡ p → is_playing n ≡ p
+    → playing_in xs ≡ playing_in ys → playing_in (cond b (f n) n ∷ xs) ≡ playing_in (n ∷ ys)
+same-one true true f n xs ys keeps stays plays same = rw (stays, plays) (ap₂ (λ c cs. c ∷ cs) keeps same)
+same-one true false f n xs ys keeps stays plays same = rw (stays, plays) same
+same-one false true f n xs ys keeps stays plays same = rw plays (ap (λ cs. n.conn ∷ cs) same)
+same-one false false f n xs ys keeps stays plays same = rw plays same
 
-pub named-playing : (conn : ℕ) (name : List ℕ) (ms : List Member) → playing_in (on conn (λ m. record m { name = name }) ms) ≡ playing_in ms
-named-playing conn name [] = refl
-named-playing conn name (n ∷ ms) = named-one (is_on conn n) (is_playing n) name n (on conn (λ m. record m { name = name }) ms) ms refl
-    (named-playing conn name ms)
+pub same-playing : (conn : ℕ) (f : Member → Member) (ms : List Member) → ((k : Member) → (f k).conn ≡ k.conn)
+    → ((k : Member) → is_playing (f k) ≡ is_playing k) → playing_in (on conn f ms) ≡ playing_in ms
+same-playing conn f [] keeps stays = refl
+same-playing conn f (n ∷ ms) keeps stays = same-one (is_on conn n) (is_playing n) f n (on conn f ms) ms (keeps n) (stays n) refl
+    (same-playing conn f ms keeps stays)
 
 -- ---- names
 
@@ -100,7 +101,7 @@ some_bytes wanted some is = let empty : is_empty wanted ≡ true = rw is refl in
 -- ---- tables
 
 -- a table in which only the members change
-settled : (t u : Table) (ms : List Member) → u ≡ record t { members = ms } → record t { members = ms; journal = t.journal ++ [] } ≡ u
+pub settled : (t u : Table) (ms : List Member) → u ≡ record t { members = ms } → record t { members = ms; journal = t.journal ++ [] } ≡ u
 settled t u ms is = ap (λ (j : List Entry). record t { members = ms; journal = j }) (append-nil t.journal) ∙ sym is
 
 -- a member may have another name, and another company that it asked for, before it gets marks: then these are the members
@@ -234,7 +235,7 @@ rename_does setup crew frame top r m wanted rise is =
     let rename : Member → Member = λ n. record n { name = name } in
     let x : Member = rename m in
     let found = with_found 0 m.conn rename m t rise is refl in
-    let plays : playing (with_member x t) ≡ playing_in crew.members = ap playing found ∙ named-playing m.conn name crew.members in
+    let plays : playing (with_member x t) ≡ playing_in crew.members = ap playing found ∙ same-playing m.conn rename crew.members (λ k. refl) (λ k. refl) in
     let told = ap (λ cs. steps_in r.admins (says_several cs (client_info x) ∷ shows client_updates (ServerClientUpdate x.client x.name
     x.company) ∷ [])) (sym plays) in
     record {

@@ -5,10 +5,14 @@
 //! leaves are what the rule of the game's book says of the whole table.
 #![tactic(auto)]
 
+mod entering;
 mod input;
 mod joining;
+mod members;
+mod playing;
 mod refusing;
 mod scene;
 
 pub use input::{Input, Now};
-pub use tt_members::{Audience, Conns, Step, What};
+pub use members::Members;
+pub use tt_members::{Audience, Conns, Member, Plan, Step, What};
