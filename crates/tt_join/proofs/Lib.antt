@@ -12,3 +12,6 @@ pub mod Calm
 pub mod Ticked
 pub mod Welcomes
 pub mod Enters
+pub mod Counted
+pub mod Refusals
+pub mod Played

@@ -6,12 +6,15 @@
 #![tactic(auto)]
 
 mod entering;
-mod input;
-mod members;
 mod founding;
 mod input;
+mod joining;
 mod loading;
+mod members;
 mod permitting;
+mod playing;
+mod refusing;
+mod scene;
 mod stamping;
 
 pub use input::{Input, Now};
