@@ -29,8 +29,13 @@ silent es ss us none = ap (λ (xs : List Entry). es ++ xs)
 
 pub done_more : (p : Planned) (es : List Edit) (ss : List Step) (t : Table) → p.asks ≡ None → p.arrives ≡ None → stamped_in ss ≡ []
     → done (adds es ss p) t ≡ edited es (done p t)
-done_more p es ss t asks arrives none = rw (asks, arrives, members_append p.edits es (offered p.offers (renamed p.names t.members)),
-    queue_append p.edits es t.queue, silent t.journal p.steps ss none) refl
+done_more p es ss t asks arrives none = rw (
+  asks,
+  arrives,
+  members_append p.edits es (offered p.offers (renamed p.names t.members)),
+  queue_append p.edits es t.queue,
+  silent t.journal p.steps ss none,
+) refl
 
 -- a rule behind a plan
 pub more : (t : Table) (p : Planned) (d : Deed) (rule : Table → Deed) (es : List Edit) (ss : List Step) → p.asks ≡ None → p.arrives ≡ None

@@ -12,14 +12,16 @@ use Rattle.tt_log.specs.Deed.{Deed, ◌▹◌}
 use Rattle.tt_log.specs.Tick.{drawn, stamped, tells_entries, frame_runs_by, frame_runs}
 use Rattle.tt_log.specs.History.{AreRising}
 use Rattle.tt_members.specs.declared.step.Step.{Step}
-use Rattle.tt_members.specs.Crew.{Crew, Rest, origin_at, table_at}
+use Rattle.tt_world.specs.declared.command.Command.{Command}
+use Rattle.tt_join.proofs.Founded.{clients_append}
+use Rattle.tt_members.specs.Crew.{Crew, Rest, founders_in, origin_at, table_at}
 use Rattle.tt_members.specs.Edits.{words_by, words_after, permitted}
 use Rattle.tt_members.specs.Steps.{step_in, steps_in, stamped_in, says_one}
 use Rattle.tt_members.specs.Rules.{Rise}
 use Rattle.tt_members.specs.Leaving.{playing_in}
 use Rattle.tt_members.specs.Done.{done}
 use Rattle.tt_join.specs.declared.input.Now.{Now}
-use Rattle.tt_join.specs.Ticking.{step_if, stamps_of, stamping, token_told, permitting, beating_by, beating}
+use Rattle.tt_join.specs.Ticking.{seen, clients_at, assigned, founders_of, step_if, stamps_of, stamping, token_told, permitting, beating_by, beating}
 use Rattle.tt_members.proofs.Behind.{stamped_append}
 use Rattle.tt_join.proofs.Added.{IsDoing}
 use Rattle.tt_join.proofs.Stamped.{entries_told, stamping_stamps}
@@ -58,9 +60,9 @@ drawn_like setup frame ms = pairs_map (IsLike setup frame) drawn ms ms
 -- ---- stamping
 
 stamps_told : (setup : Setup) (crew : Crew) (now : Now) (r : Rest) → stamped (table_of crew now r) ≡ record {
-      table = stamped_table crew now r;
-      told = steps_in r.admins (stamping (playing_in crew.members) (stamps_of (now.top + 1) crew));
-    }
+  table = stamped_table crew now r;
+  told = steps_in r.admins (stamping (playing_in crew.members) (stamps_of (now.top + 1) crew));
+}
 stamps_told setup crew now r =
     entries_told (stamps_of (now.top + 1) crew) (stamped_table crew now r)
     ∙ ap (λ (conns : List ℕ). record {
@@ -161,3 +163,38 @@ behind_by false setup crew now r rise = record {
 pub behind_beat : (setup : Setup) (crew : Crew) (now : Now) (r : Rest) → Rise crew.members
     → IsBehind setup crew now r (done (beating setup crew now) (table_of crew now r))
 behind_beat setup crew now r rise = behind_by (nat_lt now.top (now.frame + 1)) setup crew now r rise
+
+-- ---- what is stamped by the steps
+
+stamps_by : (b : Bool) (setup : Setup) (crew : Crew) (now : Now) → stamped_in (beating_by b setup crew now).steps ≡ stamps_of (now.top + 1) crew
+stamps_by true setup crew now =
+    let top : ℕ = now.frame + 1 + setup.frame_freq in
+    let told : List Step = stamping (playing_in crew.members) (stamps_of (now.top + 1) crew) in
+    let frames : List Step = permitting (now.frame + 1) top crew.tokens crew.members in
+    stamped_append told frames
+    ∙ ap (λ (es : List Entry). stamped_in told ++ es) (permitting_silent (now.frame + 1) top crew.tokens crew.members)
+    ∙ append-nil (stamped_in told) ∙ stamping_stamps (playing_in crew.members) (stamps_of (now.top + 1) crew)
+stamps_by false setup crew now = stamping_stamps (playing_in crew.members) (stamps_of (now.top + 1) crew)
+
+pub beat_stamps : (setup : Setup) (crew : Crew) (now : Now) → stamped_in (beating setup crew now).steps ≡ stamps_of (now.top + 1) crew
+beat_stamps setup crew now = stamps_by (nat_lt now.top (now.frame + 1)) setup crew now
+
+-- the queue and the founders have no part in it
+same_by : (b : Bool) (setup : Setup) (now : Now) (ms : List Member) (queue : List ℕ) (own : List Command) (words : ℕ × ℕ) (founders : List (ℕ × ℕ))
+    → beating_by b setup (seen ms [] own words []) now ≡ beating_by b setup (seen ms queue own words founders) now
+same_by true setup now ms queue own words founders = refl
+same_by false setup now ms queue own words founders = refl
+
+pub same_beat : (setup : Setup) (now : Now) (ms : List Member) (queue : List ℕ) (own : List Command) (words : ℕ × ℕ) (founders : List (ℕ × ℕ))
+    → beating setup (seen ms [] own words []) now ≡ beating setup (seen ms queue own words founders) now
+same_beat setup now ms queue own words founders = same_by (nat_lt now.top (now.frame + 1)) setup now ms queue own words founders
+
+-- whose company is founded, by the steps so far
+pub founders_are : (setup : Setup) (crew : Crew) (now : Now) (clients : List ℕ) (steps : List Step) → steps ≡ (beating setup crew now).steps
+    → clients ≡ clients_at (now.frame + 1) crew.founders ++ clients_at (now.frame + 1) (founders_in (stamped_in steps))
+    → assigned now.live clients ≡ founders_of crew now
+founders_are setup crew now clients steps same are =
+    ap (assigned now.live) (are
+    ∙ ap (λ (es : List Entry). clients_at (now.frame + 1) crew.founders ++ clients_at (now.frame + 1) (founders_in es))
+    (ap stamped_in same ∙ beat_stamps setup crew now)
+    ∙ sym (clients_append (now.frame + 1) crew.founders (founders_in (stamps_of (now.top + 1) crew))))

@@ -81,7 +81,7 @@ founders_append [] ys = refl
 founders_append (e ∷ xs) ys = ap (λ (fs : List (ℕ × ℕ)). founder_by e.command.code e ++ fs) (founders_append xs ys)
     ∙ sym (append_assoc (founder_by e.command.code e) (founders_in xs) (founders_in ys))
 
-clients_append : (frame : ℕ) (fs gs : List (ℕ × ℕ)) → clients_at frame (fs ++ gs) ≡ clients_at frame fs ++ clients_at frame gs
+pub clients_append : (frame : ℕ) (fs gs : List (ℕ × ℕ)) → clients_at frame (fs ++ gs) ≡ clients_at frame fs ++ clients_at frame gs
 clients_append frame fs gs = ap clients (filter-append (λ (f : ℕ × ℕ). f.0 == frame) fs gs)
     ∙ map-append (λ (f : ℕ × ℕ). f.1) (for_frame frame fs) (for_frame frame gs)
 
@@ -95,5 +95,5 @@ founded_at o low frame live fs journal new below is =
     ∙ ap (λ (gs : List (ℕ × ℕ)). assigned live (clients_at frame gs)) (founders_append journal new)
     ∙ ap (assigned live) (clients_append frame (founders_in journal) (founders_in new))
     ∙ ap (λ (gs : List (ℕ × ℕ)). assigned live (clients gs ++ clients_at frame (founders_in new)))
-      (sym (founders_above o low frame journal below) ∙ ap (for_frame frame) (sym is))
+    (sym (founders_above o low frame journal below) ∙ ap (for_frame frame) (sym is))
     ∙ ap (assigned live) (sym (clients_append frame fs (founders_in new)))

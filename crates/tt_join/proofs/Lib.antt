@@ -4,8 +4,9 @@ pub mod Stamped
 pub mod Like
 pub mod Placed
 pub mod Permitted
-pub mod Beating
 pub mod Founded
+pub mod Beating
+pub mod Ran
 pub mod FoundingLists
 pub mod Moving
 pub mod Loaded
@@ -13,3 +14,8 @@ pub mod Calm
 pub mod Limited
 pub mod Ticked
 pub mod Welcomes
+pub mod Enters
+pub mod Counted
+pub mod Refusals
+pub mod Played
+pub mod Heard

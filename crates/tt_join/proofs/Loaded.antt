@@ -35,7 +35,7 @@ few_pieces (suc n) [] = omega arith
 few_pieces zero (b ∷ bs) = omega arith
 few_pieces (suc n) (b ∷ bs) =
     let later : length (pieces_of n (drop 1400 (b ∷ bs))) ≡ min n ((length (b ∷ bs) - 1400 + 1399) / 1400) =
-        few_pieces n (drop 1400 (b ∷ bs)) ∙ ap (λ (len : ℕ). min n ((len + 1399) / 1400)) (length-drop 1400 (b ∷ bs)) in
+    few_pieces n (drop 1400 (b ∷ bs)) ∙ ap (λ (len : ℕ). min n ((len + 1399) / 1400)) (length-drop 1400 (b ∷ bs)) in
     ap suc later ∙ one_more n (length (b ∷ bs)) (omega arith)
 
 -- ---- the member that downloads
@@ -142,7 +142,7 @@ pub map_tells : (setup : Setup) (frame : ℕ) (left : List ℕ) (ms : List Membe
     → Tells (mapped left) (loading_edits (length left) (loader t.queue ms)) (loading_steps (loader t.queue ms)) t
 map_tells setup frame left ms t rising like =
     let tells = loads_by setup frame left (loader t.queue ms) (downloader t) ms t rising (is_loading t.queue t)
-        (both_loaders setup frame t.queue ms t like) in
+    (both_loaders setup frame t.queue ms t like) in
     record { told = tells.told; table = tells.table }
 
 pub loading_silent : (x : Option Member) → stamped_in (loading_steps x) ≡ []
@@ -184,8 +184,8 @@ stays_by setup frame left (Some m) None ms t rising there same like = absurd sam
 stays_by setup frame left (Some m) (Some n) ms t rising there same like =
     let pieces : ℕ = m.pieces + pieces_for left in
     let after : AreQuiet setup frame ms (on n.conn (loaded pieces (status_for left n.status)) t.members) =
-        pairs_on (IsLike setup frame) (IsQuiet setup frame) (loaded pieces (status_for left n.status)) 0 n ms t.members rising
-        (there n refl).there (like_quiet setup frame) (λ k l. quiet_done (nat_lt (4 * 1400) left) setup frame pieces k n (there n refl).status l) like in
+    pairs_on (IsLike setup frame) (IsQuiet setup frame) (loaded pieces (status_for left n.status)) 0 n ms t.members rising
+    (there n refl).there (like_quiet setup frame) (λ k l. quiet_done (nat_lt (4 * 1400) left) setup frame pieces k n (there n refl).status l) like in
     subst (λ (s : Status). AreQuiet setup frame ms (on m.conn (loaded pieces (status_for left s)) t.members)) same.status
     (subst (λ (conn : ℕ). AreQuiet setup frame ms (on conn (loaded pieces (status_for left n.status)) t.members)) same.conn after)
 

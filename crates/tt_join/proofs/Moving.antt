@@ -55,10 +55,10 @@ moves_one : (setup : Setup) (frame company : ℕ) (m n : Member) (ms : List Memb
     → Tells (moves n company) (moving_edits company (Some m)) (moving_steps (playing_in ms) company (Some m)) t
 moves_one setup frame company m n ms t rising like there same =
     let put : (with_member (moved company n) t).members ≡ on n.conn (moved company) t.members =
-        put_among 0 (moved company) n t.members rising there in
+    put_among 0 (moved company) n t.members rising there in
     let plays : playing_in (with_member (moved company n) t).members ≡ playing_in ms =
-        ap playing_in put ∙ like_playing setup frame ms (on n.conn (moved company) t.members)
-        (company_like setup frame n.conn company ms t.members like) in
+    ap playing_in put ∙ like_playing setup frame ms (on n.conn (moved company) t.members)
+    (company_like setup frame n.conn company ms t.members like) in
     record {
       told = ap (λ (conns : List ℕ). news t.admins conns company m.client m.name) (sym plays)
           ∙ ap₂ (λ (client : ℕ) (name : List ℕ). news t.admins (playing_in (with_member (moved company n) t).members) company client name)
@@ -82,10 +82,10 @@ founder_tells : (setup : Setup) (frame client company : ℕ) (ms : List Member) 
     (moving_steps (playing_in ms) company (member_by client ms)) t
 founder_tells setup frame client company ms t rising like =
     let found : BothFound (IsLike setup frame) (member_by client ms) (member_with client t) =
-        both_found (IsLike setup frame) (λ m. m.client == client) ms t.members
-        (λ m n (k : IsLike setup frame m n). ap (λ (c : ℕ). c == client) k.client) like in
+    both_found (IsLike setup frame) (λ m. m.client == client) ms t.members
+    (λ m n (k : IsLike setup frame m n). ap (λ (c : ℕ). c == client) k.client) like in
     let tells = moves_found setup frame company (member_by client ms) (member_with client t) ms t rising like
-        (λ n is. found-among (λ m. m.client == client) n t.members is) found in
+    (λ n is. found-among (λ m. m.client == client) n t.members is) found in
     record { told = tells.told; table = tells.table }
 
 -- ---- all of them
@@ -107,9 +107,9 @@ all_tell setup frame (f ∷ fs) ms t rising like =
     let x : Option Member = member_by f.0 ms in
     let one = founder_tells setup frame f.0 f.1 ms t rising like in
     let later = all_tell setup frame fs ms (edited (moving_edits f.1 x) t)
-        (subst (AreRising 0) (sym (one_conns f.1 x t.members)) rising) (one_stays setup frame f.1 x ms t.members like) in
+    (subst (AreRising 0) (sym (one_conns f.1 x t.members)) rising) (one_stays setup frame f.1 x ms t.members like) in
     let tells = both (λ u. where_some (member_with f.0 u) (λ m. moves m f.1) u) (all_moved fs) (moving_edits f.1 x) (founding_edits ms fs)
-        (moving_steps (playing_in ms) f.1 x) (founding_steps (playing_in ms) ms fs) t one later in
+    (moving_steps (playing_in ms) f.1 x) (founding_steps (playing_in ms) ms fs) t one later in
     record { told = tells.told; table = tells.table }
 
 -- how they stand behind it: alike, in their order, and the queue as it was

@@ -121,17 +121,17 @@ told_all n pre (m ∷ ms) t words low rising =
     let next : ℕ × ℕ = words_by m words in
     let first : List Step = step_if (is_playing m) (says_one m.conn (ServerFrame t.frame t.top (token_told (m.token == 0) words))) in
     let lower : AreUpTo m.conn pre = all-so (λ (k : Member). k.conn ≤ n) (λ (k : Member). k.conn ≤ m.conn) pre
-        (λ k (l : k.conn ≤ n). omega (arith, l, rising.0)) low in
+    (λ k (l : k.conn ≤ n). omega (arith, l, rising.0)) low in
     let own : x.conn ≡ m.conn = permitted_conn (is_playing m) (m.token == 0) t.frame t.top words m in
     let here : x.conn ≤ m.conn = omega (arith, own) in
     let later : frames_told ms (with_words t (pre ++ x ∷ ms) next) ≡ all_told t (pre ++ x ∷ []) ms next =
-        ap (λ (ks : List Member). frames_told ms (with_words t ks next)) (sym (append_assoc pre (x ∷ []) ms))
-        ∙ told_all m.conn (pre ++ x ∷ []) ms t next (all-append (λ (k : Member). k.conn ≤ m.conn) pre (x ∷ []) lower (here, tt)) rising.1 in
+    ap (λ (ks : List Member). frames_told ms (with_words t ks next)) (sym (append_assoc pre (x ∷ []) ms))
+    ∙ told_all m.conn (pre ++ x ∷ []) ms t next (all-append (λ (k : Member). k.conn ≤ m.conn) pre (x ∷ []) lower (here, tt)) rising.1 in
     ap (λ (d : Deed). d ▹ frames_told ms) (tells_one n m pre ms t words low rising.0 rising.1)
     ∙ ap (λ (d : Deed). record { table = d.table; told = steps_in t.admins first ++ d.told }) later
     ∙ ap₂ (λ (ks : List Member) (ss : List book.Step). record { table = with_words t ks (words_after ms next); told = ss })
-        (append_assoc pre (x ∷ []) (permitted t.frame t.top next ms))
-        (sym (map-append (step_in t.admins) first (permitting t.frame t.top next ms)))
+    (append_assoc pre (x ∷ []) (permitted t.frame t.top next ms))
+    (sym (map-append (step_in t.admins) first (permitting t.frame t.top next ms)))
 
 pub frames_are : (t : Table) → AreRising 0 (map (λ (k : Member). k.conn) t.members) → frames_told t.members t ≡ all_told t [] t.members t.tokens
 frames_are t rising = told_all 0 [] t.members t t.tokens tt rising
@@ -179,9 +179,10 @@ pub all_permitted_like : (setup : Setup) (frame top : ℕ) (words : ℕ × ℕ) 
 all_permitted_like setup frame top words [] [] l = tt
 all_permitted_like setup frame top words [] (n ∷ ns) l = absurd l
 all_permitted_like setup frame top words (m ∷ ms) [] l = absurd l
-all_permitted_like setup frame top words (m ∷ ms) (n ∷ ns) l =
-    (permitted_like (is_playing n) (n.token == 0) setup frame top words m n refl l.0,
-      all_permitted_like setup frame top (words_by n words) ms ns l.1)
+all_permitted_like setup frame top words (m ∷ ms) (n ∷ ns) l = (
+  permitted_like (is_playing n) (n.token == 0) setup frame top words m n refl l.0,
+  all_permitted_like setup frame top (words_by n words) ms ns l.1,
+)
 
 -- who waits has no part in it
 

@@ -83,11 +83,13 @@ pub pairs_on : (R Q : Member → Member → Type 0) (f : Member → Member) (n :
 pairs_on R Q f n x ms [] rising there so here p = absurd there
 pairs_on R Q f n x [] (k ∷ ns) rising there so here p = absurd p
 pairs_on R Q f n x (m ∷ ms) (k ∷ ns) rising (inl own) so here p =
-    let at : x.conn ≤ k.conn = omega (arith, ap (λ (y : Member). y.conn) own) in
-    (pairs_on_head R Q (is_on x.conn k) f m k (λ is. subst (λ (y : Member). Q m (f y)) (sym own) (here m (subst (R m) own p.0))) p.0 (so m k),
-      subst (Pairs Q ms) (sym (none_below k.conn x.conn f ns rising.1 at)) (pairs_so R Q ms ns so p.1))
+    let at : x.conn ≤ k.conn = omega (arith, ap (λ (y : Member). y.conn) own) in (
+      pairs_on_head R Q (is_on x.conn k) f m k (λ is. subst (λ (y : Member). Q m (f y)) (sym own) (here m (subst (R m) own p.0))) p.0 (so m k),
+      subst (Pairs Q ms) (sym (none_below k.conn x.conn f ns rising.1 at)) (pairs_so R Q ms ns so p.1),
+    )
 pairs_on R Q f n x (m ∷ ms) (k ∷ ns) rising (inr later) so here p =
     let above : k.conn < x.conn = among_above k.conn x ns rising.1 later in
-    let other : (k.conn == x.conn) ≡ false = grind (arith, above) in
-    (pairs_on_head R Q (is_on x.conn k) f m k (λ is. let both : true ≡ false = sym is ∙ other in absurd cc) p.0 (so m k),
-      pairs_on R Q f k.conn x ms ns rising.1 later so here p.1)
+    let other : (k.conn == x.conn) ≡ false = grind (arith, above) in (
+      pairs_on_head R Q (is_on x.conn k) f m k (λ is. let both : true ≡ false = sym is ∙ other in absurd cc) p.0 (so m k),
+      pairs_on R Q f k.conn x ms ns rising.1 later so here p.1,
+    )

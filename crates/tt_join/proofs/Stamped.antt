@@ -14,8 +14,11 @@ use Rattle.tt_join.specs.Ticking.{log_of, stamping}
 
 pub entries_told : (es : List Entry) (t : Table) → tells_entries es t ≡ record { table = t; told = steps_in t.admins (stamping (playing t) es) }
 entries_told [] t = refl
-entries_told (e ∷ es) t = ap (λ (d : Deed). record { table = d.table; told = (tells_what (playing t) (Stamp e) t).told
-    ++ (sees_stamp e t).told ++ d.told }) (entries_told es t)
+entries_told (e ∷ es) t = ap (λ (d : Deed). record {
+  table = d.table;
+  told = (tells_what (playing t) (Stamp e) t).told
+      ++ (sees_stamp e t).told ++ d.told;
+}) (entries_told es t)
 
 pub stamping_stamps : (conns : List ℕ) (es : List Entry) → stamped_in (stamping conns es) ≡ es
 stamping_stamps conns [] = refl

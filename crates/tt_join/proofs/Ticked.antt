@@ -56,9 +56,9 @@ founders_tell setup crew now r t at behind =
     let o : Origin = origin_at setup r in
     let stamps : List Entry = stamps_of (now.top + 1) crew in
     let are : foundings (living_in o (table_of crew now r)) (at_frame o t.frame t.journal) ≡ founders_of crew now =
-        ap (λ (live : List Bool). foundings live (at_frame o t.frame t.journal)) at.live
-        ∙ ap₂ (λ (f : ℕ) (es : List Entry). foundings now.live (at_frame o f es)) behind.frame behind.journal
-        ∙ founded_at o now.frame (now.frame + 1) now.live crew.founders r.journal stamps (omega arith) at.founders in
+    ap (λ (live : List Bool). foundings live (at_frame o t.frame t.journal)) at.live
+    ∙ ap₂ (λ (f : ℕ) (es : List Entry). foundings now.live (at_frame o f es)) behind.frame behind.journal
+    ∙ founded_at o now.frame (now.frame + 1) now.live crew.founders r.journal stamps (omega arith) at.founders in
     let tells = all_tell setup (now.frame + 1) (founders_of crew now) crew.members t behind.rise behind.like in
     record {
       told = tells.told ∙ ap (λ (fs : List (ℕ × ℕ)). (all_moved fs t).told) (sym are);
@@ -78,7 +78,7 @@ sync_tells : (setup : Setup) (crew : Crew) (now : Now) (r : Rest) (t : Table) �
     → Tells (synced (origin_at setup r)) [] (syncing setup (now.frame + 1) (playing_in crew.members)) t
 sync_tells setup crew now r t behind =
     let tells = sync_by ((now.frame + 1) % setup.sync_freq == 0) (playing_in crew.members) t
-        (like_playing setup (now.frame + 1) crew.members t.members behind.like) in
+    (like_playing setup (now.frame + 1) crew.members t.members behind.like) in
     let rule : ℕ → Deed = λ (f : ℕ). where_ (f % setup.sync_freq == 0) (λ u. tells_what (playing u) Sync u) t in
     record {
       told = tells.told ∙ ap (λ (f : ℕ). (rule f).told) (sym behind.frame);
@@ -218,10 +218,10 @@ ends_whole setup crew now r p d left many ending far =
     let x : Option Member = loader crew.queue crew.members in
     let l : Limiting = ends_of setup (now.frame + 1) crew.members crew.queue in
     let pieces = more t p d (mapped left) (loading_edits now.left x) (loading_steps x) far.asks far.arrives (loading_silent x) far.doing
-        (pieces_tell setup crew now r (done p t) left many far.behind) in
+    (pieces_tell setup crew now r (done p t) left many far.behind) in
     let quiet = subst (IsQuietBehind setup crew now)
-        (sym (done_more p (loading_edits now.left x) (loading_steps x) t far.asks far.arrives (loading_silent x)))
-        (behind_pieces setup crew now r (done p t) far.behind) in
+    (sym (done_more p (loading_edits now.left x) (loading_steps x) t far.asks far.arrives (loading_silent x)))
+    (behind_pieces setup crew now r (done p t) far.behind) in
     more t (with_pieces crew now p) (d ▹ mapped left) (timed (origin_at setup r)) l.edits l.steps far.asks far.arrives ending.silent pieces
     (ending.tells (done (with_pieces crew now p) t) quiet)
 

@@ -5,13 +5,20 @@
 //! leaves are what the rule of the game's book says of the whole table.
 #![tactic(auto)]
 
+mod entering;
 mod founding;
 mod input;
+mod joining;
 mod limits;
 mod loading;
+mod members;
 mod permitting;
+mod playing;
+mod refusing;
+mod scene;
 mod stamping;
 mod ticking;
 
 pub use input::{Input, Now};
-pub use tt_members::{Audience, Conns, Step, What};
+pub use members::Members;
+pub use tt_members::{Audience, Conns, Member, Plan, Step, What};

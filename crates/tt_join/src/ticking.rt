@@ -22,6 +22,21 @@ use tt_world::{Command, Setup};
 /// The type of updates of companies.
 const COMPANY_UPDATES: u16 = 2;
 
+/// What of the members a tick looks at.
+#[derive(Clone, Copy)]
+pub struct View<'a> {
+    /// The members, in order of arrival.
+    pub members: &'a [Member],
+    /// The queue of downloads.
+    pub queue: &'a Queue,
+    /// The server's own list of commands that wait.
+    pub own: &'a [Command],
+    /// The random words of the tokens.
+    pub words: (u32, u32),
+    /// Who ordered a company that is stamped and not founded yet: the frame, and the client.
+    pub founders: &'a [(u32, u32)],
+}
+
 /// The frame passes the greatest permitted one: those that play are told how far they may run.
 fn pass(
     frame: u32,
@@ -48,27 +63,27 @@ fn pass(
 fn beat(
     alloc: Global,
     setup: &Setup,
-    now: Now,
+    time: &Now,
     own: &[Command],
     words: (u32, u32),
     members: &[Member],
     plan: &mut Plan,
 ) -> Result<(), OutOfMemory>
     requires plan { plan.old ≡ nothing }
-    requires frame { now.frame ≤ now.top }
-    requires top { now.top ≤ 4_000_000_064 }
-    ensures beats { OnOk result (plan.new ≡ beating setup.now (seen members.now [] own.now words []) now) }
+    requires frame { time.now.frame ≤ time.now.top }
+    requires top { time.now.top ≤ 4_000_000_064 }
+    ensures beats { OnOk result (plan.new ≡ beating setup.now (seen members.now [] own.now words []) time.now) }
 {
-    let frame = now.frame + 1;
-    stamp(alloc, now.top + 1, own, members, plan)?;
+    let frame = time.frame + 1;
+    stamp(alloc, time.top + 1, own, members, plan)?;
     plan.change(Edit::Draw)?;
-    if frame > now.top {
+    if frame > time.top {
         let top = frame + u32::from(setup.frame_freq);
         return pass(frame, top, words, members, plan);
     }
     plan.run(Beat {
         frame,
-        top: now.top,
+        top: time.top,
     });
     Ok(())
 }
@@ -91,4 +106,42 @@ fn sync(
     }
     let conns = Conns::new(playing(alloc, members)?);
     plan.tell(Audience::Several(conns), What::Sync)
+}
+
+/// All that a frame more does to members: the plan of it, in a plan that holds nothing yet.
+pub fn tick(
+    alloc: Global,
+    setup: &Setup,
+    time: &Now,
+    view: View<'_>,
+    plan: &mut Plan,
+) -> Result<(), OutOfMemory>
+    requires plan { plan.old ≡ nothing }
+    requires rise { Rise view.members.now }
+    requires sync { 1 ≤ setup.now.sync_freq }
+    requires frame { time.now.frame ≤ time.now.top }
+    requires top { time.now.top ≤ 4_000_000_064 }
+    ensures ticks { OnOk result (plan.new ≡ ticking setup.now
+        (seen view.entry.members.now view.entry.queue.now.conns view.entry.own.now view.entry.words view.entry.founders.now) time.now) }
+{
+    let View {
+        members,
+        queue,
+        own,
+        words,
+        founders,
+    } = view;
+    let live = time.live;
+    let frame = time.frame + 1;
+    beat(alloc, setup, time, own, words, members, plan)?;
+    let clients = founders_at(alloc, frame, founders, plan.steps())?;
+    plan.tell(
+        Audience::Watching(COMPANY_UPDATES),
+        What::ToAdmin(Report::CompanyNews),
+    )?;
+    found(alloc, live, clients.as_slice(), members, plan)?;
+    sync(alloc, setup, frame, members, plan)?;
+    tell_pieces(time.left, queue, members, plan)?;
+    limit(alloc, setup, frame, members, queue, plan)?;
+    Ok(())
 }

@@ -40,7 +40,7 @@ pub stamped_append : (ss us : List Step) → stamped_in (ss ++ us) ≡ stamped_i
 stamped_append [] us = refl
 stamped_append (s ∷ ss) us =
     ap (λ (es : List Entry). stamp_of s.what ++ es) (stamped_append ss us) ∙ sym (append_assoc (stamp_of s.what) (stamped_in ss)
-        (stamped_in us))
+    (stamped_in us))
 
 -- steps that stamp nothing, one behind the other
 pub silent_append : (ss us : List Step) → stamped_in ss ≡ [] → stamped_in us ≡ [] → stamped_in (ss ++ us) ≡ []
@@ -49,7 +49,7 @@ silent_append ss us one two = stamped_append ss us ∙ ap₂ (λ (xs ys : List E
 pub edited_append : (es fs : List Edit) (t : Table) → edited (es ++ fs) t ≡ edited fs (edited es t)
 edited_append es fs t =
     ap₂ (λ (ms : List Member) (queue : List ℕ). record t { members = ms; queue = queue }) (members_append es fs t.members) (queue_append es
-        fs t.queue)
+    fs t.queue)
 
 pub steps_append : (admins : List Admin) (ss us : List Step) → steps_in admins (ss ++ us) ≡ steps_in admins ss ++ steps_in admins us
 steps_append admins ss us = map-append (step_in admins) ss us
@@ -90,8 +90,18 @@ pub does_plain : (setup : Setup) (crew : Crew) (frame top : ℕ) (r : Rest) (rul
     → Does setup crew frame top r rule p
 does_plain setup crew frame top r rule p plain silent tells = record {
   told = tells.told;
-  table = rw (plain.names, plain.offers, plain.asks, plain.counts, plain.arrives, plain.orders, plain.locks, plain.words, plain.beat,
-      silent)
+  table = rw (
+    plain.names,
+    plain.offers,
+    plain.asks,
+    plain.counts,
+    plain.arrives,
+    plain.orders,
+    plain.locks,
+    plain.words,
+    plain.beat,
+    silent,
+  )
       (ap (λ (es : List Entry). record (edited p.edits (table_at crew frame top r)) { journal = es }) (append-nil r.journal) ∙ tells.table);
 }
 

@@ -101,8 +101,10 @@ left_by n conn (Some place) t rising is ready =
     let moved = moves_up n place behind u rising (ready_same place behind t u refl ready) in
     record {
       told = moved.told;
-      table = ap (λ (p : Option ℕ). record t { members = members_after more t.members; queue = queue_after more (without_place p t.queue)
-          }) is
+      table = ap (λ (p : Option ℕ). record t {
+        members = members_after more t.members;
+        queue = queue_after more (without_place p t.queue);
+      }) is
           ∙ moved.table;
     }
 
@@ -240,7 +242,7 @@ farewell_silent false f m conns = refl
 pub leaving_silent : (m : Member) (f : Farewell) (conns queue : List ℕ) → stamped_in (leaving m f conns queue) ≡ []
 leaving_silent m f conns queue =
     silent_append (farewell_if (is_welcomed m) f m conns) (unasking (place_of m.conn queue) queue) (farewell_silent (is_welcomed m) f m
-        conns)
+    conns)
     (unasking_silent (place_of m.conn queue) queue)
 
 pub ending_silent : (m : Member) (code : ℕ) (conns queue : List ℕ) → stamped_in (ending m code conns queue) ≡ []

@@ -28,7 +28,7 @@ find_changed x c f [] keeps = refl
 find_changed x c f (k ∷ ms) keeps =
     changed_head (is_on x (cond (is_on c k) (f k) k)) (is_on x k) (cond (is_on c k) (f k) k) k (λ n. cond (is_on c n) (f n) n)
     (find (is_on x) (on c f ms)) (find (is_on x) ms) (ap (λ (n : ℕ). n == x) (one_conn (is_on c k) f k keeps)) refl (find_changed x c f ms
-        keeps)
+    keeps)
 
 -- the one that is changed
 pub found_changed : (conn : ℕ) (f : Member → Member) (m : Member) (ms : List Member) → ((k : Member) → (f k).conn ≡ k.conn)
@@ -41,7 +41,7 @@ found_changed conn f m ms keeps is =
 other_head : (b d : Bool) (conn c : ℕ) (f : Member → Member) (k : Member) (few all : Option Member) → (k.conn == conn) ≡ b → (k.conn == c)
     ≡ d
     → (conn == c) ≡ false → (f k).conn ≡ k.conn → few ≡ all → cond (is_on c (cond b (f k) k)) (Some (cond b (f k) k)) few ≡ cond d (Some k)
-        all
+    all
 other_head true true conn c f k few all e g apart keeps same = grind (arith, e, g, apart)
 other_head true false conn c f k few all e g apart keeps same =
     let h : ((f k).conn == c) ≡ false = ap (λ (n : ℕ). n == c) keeps ∙ g in
@@ -103,7 +103,7 @@ pub offer_table : (w : Offer) (m : Member) (t : Table) → Rise t.members → me
 offer_table w m t rise is same =
     with_found 0 m.conn (λ k. record k { waiting = k.waiting ++ (w.company, w.command) ∷ [] }) m t rise is refl
     ∙ ap (λ (c : ℕ). record t { members = on c (λ k. record k { waiting = k.waiting ++ (w.company, w.command) ∷ [] }) t.members }) (sym
-        same)
+    same)
 
 -- who is found by a connection is found by its own
 pub own_found : (conn : ℕ) (m : Member) (t : Table) → member_of t conn ≡ Some m → member_of t m.conn ≡ Some m

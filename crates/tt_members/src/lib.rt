@@ -6,6 +6,7 @@
 //! said that it is what the book's rule does. The rules themselves stand in `tt_join`.
 #![tactic(auto)]
 
+mod commit;
 mod edit;
 mod leaving;
 mod marks;
@@ -17,6 +18,7 @@ mod queue;
 mod step;
 mod waiting;
 
+pub use commit::count_founders;
 pub use edit::{Beat, Edit, Offer};
 pub use leaving::{Parting, end, leave, move_up, others, playing, reason, unask};
 pub use marks::Marks;

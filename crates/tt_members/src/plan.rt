@@ -20,17 +20,17 @@ use tt_world::Command;
 /// Its lists can be kept and filled again. Contracts see all that it holds as plain data.
 #[derive(Drop)]
 pub struct Plan {
-    names: Option<(u32, Text<24>)>,
-    offers: Option<Offer>,
-    edits: Vec<Edit>,
-    asks: Option<u32>,
-    counts: bool,
-    arrives: Option<Member>,
-    orders: Option<Command>,
-    locks: Option<(u8, Option<Digest>)>,
-    words: Option<(u32, u32)>,
-    beat: Option<Beat>,
-    steps: Steps,
+    pub(crate) names: Option<(u32, Text<24>)>,
+    pub(crate) offers: Option<Offer>,
+    pub(crate) edits: Vec<Edit>,
+    pub(crate) asks: Option<u32>,
+    pub(crate) counts: bool,
+    pub(crate) arrives: Option<Member>,
+    pub(crate) orders: Option<Command>,
+    pub(crate) locks: Option<(u8, Option<Digest>)>,
+    pub(crate) words: Option<(u32, u32)>,
+    pub(crate) beat: Option<Beat>,
+    pub(crate) steps: Steps,
 }
 
 impl Model for Plan {

@@ -1,0 +1,145 @@
+//! The members of a game: what something does that comes to them is planned without a change, and put in force without memory.
+ghost use Rattle.std.specs.Prelude.{◌≡◌, ◌≤◌, ◌<◌, [], OnOk, IfOk, length};
+ghost use Rattle.tt_members.specs.Crew.{founders_in};
+ghost use Rattle.tt_members.specs.Done.{committed};
+ghost use Rattle.tt_members.specs.Planned.{nothing};
+ghost use Rattle.tt_members.specs.Steps.{stamped_in};
+ghost use Rattle.tt_join.specs.Members.{IsNext, is_locked};
+
+use std::alloc::Global;
+use std::marker::Model;
+use tt_frame::{Digest, OutOfMemory};
+use tt_members::{Member, Plan, Queue};
+use tt_world::{Command, Setup};
+
+/// The members of a game, in order of arrival, with what only they need. Contracts see the setup, their part of the game's
+/// table, and for how many more of each list there is room.
+#[derive(Drop)]
+pub struct Members {
+    alloc: Global,
+    setup: Setup,
+    members: Vec<Member>,
+    queue: Queue,
+    digests: Vec<(u8, Digest)>,
+    own: Vec<Command>,
+    tokens: (u32, u32),
+    clients: u32,
+    founders: Vec<(u32, u32)>,
+    spare: Option<Plan>,
+}
+
+impl Model for Members {
+    ghost use Rattle.std.specs.Prelude.{◌-◌, vec_len, vec_capacity};
+    ghost use Rattle.tt_members.specs.Rules.{Rise};
+    ghost use Rattle.tt_join.specs.Members.{Kept};
+
+    ghost Value = { Kept };
+
+    ghost view = { λ m. record {
+      setup = m.setup;
+      crew = record {
+        members = m.members.items;
+        queue = m.queue.conns;
+        digests = m.digests.items;
+        own = m.own.items;
+        tokens = m.tokens;
+        clients = m.clients;
+        founders = m.founders.items;
+      };
+      room = record {
+        members = vec_capacity m.members - vec_len m.members;
+        queue = m.queue.room;
+        digests = vec_capacity m.digests - vec_len m.digests;
+        own = vec_capacity m.own - vec_len m.own;
+        founders = vec_capacity m.founders - vec_len m.founders;
+      };
+    } };
+
+    ghost invariant = { λ m. Rise m.members.items };
+}
+
+impl Members {
+    /// Nobody is there. It takes no memory yet.
+    pub fn new(alloc: Global, setup: &Setup) -> Members
+        ensures setup { result.setup ≡ setup.now }
+        ensures members { result.crew.members ≡ [] }
+        ensures queue { result.crew.queue ≡ [] }
+        ensures digests { result.crew.digests ≡ [] }
+        ensures own { result.crew.own ≡ [] }
+        ensures tokens { result.crew.tokens ≡ (setup.now.seed, setup.now.seed) }
+        ensures clients { result.crew.clients ≡ 1 }
+        ensures founders { result.crew.founders ≡ [] }
+    {
+        Members {
+            alloc,
+            setup: setup.copy(),
+            members: Vec::new(alloc),
+            queue: Queue::new(alloc),
+            digests: Vec::new(alloc),
+            own: Vec::new(alloc),
+            tokens: (setup.seed, setup.seed),
+            clients: 1,
+            founders: Vec::new(alloc),
+            spare: None,
+        }
+    }
+
+    /// The members, in order of arrival.
+    pub fn all(&self) -> &[Member]
+        ensures all { result.now ≡ self.now.crew.members }
+    {
+        self.members.as_slice()
+    }
+
+    /// Whether a company has a password.
+    pub fn locked(&self, company: u8) -> bool
+        ensures locked { result ≡ is_locked self.now.crew.digests company }
+    {
+        has_digest(&self.digests, company)
+    }
+
+    /// Room for one more in each list.
+    fn reserve(&mut self) -> Result<(), OutOfMemory>
+        ensures crew { self.new.crew ≡ self.old.crew }
+        ensures setup { self.new.setup ≡ self.old.setup }
+        ensures members { OnOk result (1 ≤ self.new.room.members) }
+        ensures queue { OnOk result (1 ≤ self.new.room.queue) }
+        ensures digests { OnOk result (1 ≤ self.new.room.digests) }
+        ensures own { OnOk result (1 ≤ self.new.room.own) }
+    {
+        self.members.reserve(1)?;
+        self.queue.reserve()?;
+        self.digests.reserve(1)?;
+        self.own.reserve(1)?;
+        Ok(())
+    }
+
+    /// Puts a plan in force. It takes no memory.
+    pub fn commit(&mut self, plan: Plan)
+        requires { IsNext self.old plan }
+        ensures committed { self.new.crew ≡ committed plan self.old.crew }
+        ensures setup { self.new.setup ≡ self.old.setup }
+    {
+        let mut plan = plan;
+        plan.put_members(&mut self.members, &mut self.queue);
+        plan.put_digests(&mut self.digests);
+        plan.put_orders(&mut self.own);
+        plan.put_founders(&mut self.founders);
+        self.tokens = plan.words_behind(self.tokens);
+        self.clients = plan.clients_behind(self.clients);
+        plan.clear();
+        self.spare = Some(plan);
+    }
+}
+
+/// Whether one of some digests is a company's.
+fn has_digest(digests: &[(u8, Digest)], company: u8) -> bool
+    ensures has { result ≡ is_locked digests.now company }
+{
+    for digest in digests.iter() {
+        if digest.0 == company {
+            return true;
+        }
+    }
+    false
+}
