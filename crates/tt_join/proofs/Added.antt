@@ -1,10 +1,8 @@
 -- A rule behind a plan: changes and steps that are added to it.
-use Rattle.std.proofs.Common.{◌≡◌, ℕ, List, [], ◌∷◌, ◌++◌, refl, sym, subst, ap, ap₂, ◌∙◌, append_assoc, append-nil, Option, None}
+use Rattle.std.proofs.Common.{◌≡◌, List, [], ◌++◌, refl, ap, ap₂, ◌∙◌, append-nil, None}
 use Rattle.std.proofs.lemmas.List.{map-append}
 use Rattle.tt_world.specs.declared.command.Entry.{Entry}
 use Rattle.tt_log.specs.declared.deed.Step as book
-use Rattle.tt_log.specs.Admin.{Admin}
-use Rattle.tt_log.specs.Member.{Member}
 use Rattle.tt_log.specs.Table.{Table}
 use Rattle.tt_log.specs.Deed.{Deed, ◌▹◌}
 use Rattle.tt_members.specs.declared.edit.Edit.{Edit}

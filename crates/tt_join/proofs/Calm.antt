@@ -1,9 +1,10 @@
 -- The queue in a tick: none of those that wait is late, so a member that ends is the first one, or doesn't stand in it.
-use Rattle.std.proofs.Common.{◌≡◌, ◌⊎◌, inl, inr, ℕ, ◌+◌, ◌-◌, ◌≤◌, ◌<◌, zero, suc, List, [], ◌∷◌, ◌++◌, refl, sym, subst, ap, ap₂, ◌∙◌, true, false, Bool}
-use Rattle.std.proofs.Common.{Option, Some, None, arith, length, take, drop, get_or}
-use Rattle.std.specs.Prelude.{◌==◌, ◌||◌, not, nat_lt, map, filter, find, cond, position}
+use Rattle.std.proofs.Common.{◌≡◌, ◌⊎◌, inl, inr, ℕ, ◌+◌, ◌-◌, ◌≤◌, ◌<◌, zero, suc, List, [], ◌∷◌, refl, sym, subst, ap, ◌∙◌}
+use Rattle.std.proofs.Common.{true, false, Bool}
+use Rattle.std.proofs.Common.{Option, Some, None, arith, length, get_or}
+use Rattle.std.specs.Prelude.{◌==◌, not, nat_lt, find, cond}
 use Rattle.std.specs.List.{AllByRecursion, position_or_len}
-use Rattle.std.proofs.lemmas.Bool.{eqb-true, lt-ltb, le-ltb, ltb-false}
+use Rattle.std.proofs.lemmas.Bool.{eqb-true, le-ltb, ltb-false}
 use Rattle.std.proofs.lemmas.List.Quantifiers.{position-Some}
 use Rattle.tt_world.specs.declared.setup.Setup.{Setup}
 use Rattle.tt_rules.specs.declared.status.Status.{Status}
@@ -18,7 +19,6 @@ use Rattle.tt_log.specs.Tick.{late, late_in}
 use Rattle.tt_log.specs.Downloads.{IsMember, IsQueue, is_downloading}
 use Rattle.tt_log.proofs.Lists.{all-so}
 use Rattle.tt_log.proofs.Crew.{find-others}
-use Rattle.tt_members.specs.declared.edit.Edit.{Edit}
 use Rattle.tt_members.specs.Edits.{on, loading, members_after, queue_after, place_of, without_place}
 use Rattle.tt_members.specs.Queues.{beginning, unasked, NextIsReady}
 use Rattle.tt_members.specs.Leaving.{left}
@@ -27,7 +27,8 @@ use Rattle.tt_members.proofs.Left.{ready_left}
 
 -- ---- places
 
-nowhere_len : (conn : ℕ) (queue : List ℕ) → AllByRecursion (λ c. (c == conn) ≡ false) queue → position_or_len (λ c. c == conn) queue ≡ length queue
+nowhere_len : (conn : ℕ) (queue : List ℕ) → AllByRecursion (λ c. (c == conn) ≡ false) queue → position_or_len (λ c. c == conn) queue ≡
+    length queue
 nowhere_len conn [] all = refl
 nowhere_len conn (c ∷ cs) all = rw (all.0, nowhere_len conn cs all.1) (omega arith)
 
@@ -37,13 +38,15 @@ nowhere conn queue all =
     let low : nat_lt (length queue) (length queue) ≡ false = le-ltb (length queue) (length queue) (omega arith) in
     rw (nowhere_len conn queue all, low) refl
 
-absent_by : (b : Bool) (conn c : ℕ) (cs : List ℕ) → (c == conn) ≡ b → length (c ∷ cs) ≤ cond (not b) (1 + position_or_len (λ c. c == conn) cs) 0
+absent_by : (b : Bool) (conn c : ℕ) (cs : List ℕ) → (c == conn) ≡ b → length (c ∷ cs) ≤ cond (not b) (1 + position_or_len (λ c. c == conn)
+    cs) 0
     → (length cs ≤ position_or_len (λ c. c == conn) cs → AllByRecursion (λ c. (c == conn) ≡ false) cs)
     → AllByRecursion (λ c. (c == conn) ≡ false) (c ∷ cs)
 absent_by true conn c cs is high later = absurd (omega (arith, high))
 absent_by false conn c cs is high later = (is, later (omega (arith, high)))
 
-absent_len : (conn : ℕ) (queue : List ℕ) → length queue ≤ position_or_len (λ c. c == conn) queue → AllByRecursion (λ c. (c == conn) ≡ false) queue
+absent_len : (conn : ℕ) (queue : List ℕ) → length queue ≤ position_or_len (λ c. c == conn) queue → AllByRecursion (λ c. (c == conn) ≡
+    false) queue
 absent_len conn [] high = tt
 absent_len conn (c ∷ cs) high = absent_by (c == conn) conn c cs refl high (absent_len conn cs)
 
@@ -86,7 +89,8 @@ abbrev pub Calm : Setup → Table → Type 0
 Calm setup t = IsQueue t t.queue ⊎ AllByRecursion (IsCalm setup t) t.queue
 
 -- who is late is on no calm connection
-apart : (setup : Setup) (t : Table) (m : Member) (code c : ℕ) → member_of t m.conn ≡ Some m → late setup t.frame m ≡ Some code → IsCalm setup t c
+apart : (setup : Setup) (t : Table) (m : Member) (code c : ℕ) → member_of t m.conn ≡ Some m → late setup t.frame m ≡ Some code → IsCalm
+    setup t c
     → (c == m.conn) ≡ false
 apart setup t m code c there is calm = by_test (c == m.conn) refl
   where
@@ -103,14 +107,17 @@ apart setup t m code c there is calm = by_test (c == m.conn) refl
 waits_calm : (setup : Setup) (t : Table) (c : ℕ) → IsMember (is_in MapWait) t c → IsCalm setup t c
 waits_calm setup t c is = (is.0, is.1, late_waits is.0.status setup t.frame is.0 is.2)
 
-all_apart : (setup : Setup) (t : Table) (m : Member) (code : ℕ) (cs : List ℕ) → member_of t m.conn ≡ Some m → late setup t.frame m ≡ Some code
+all_apart : (setup : Setup) (t : Table) (m : Member) (code : ℕ) (cs : List ℕ) → member_of t m.conn ≡ Some m → late setup t.frame m ≡ Some
+    code
     → AllByRecursion (IsCalm setup t) cs → AllByRecursion (λ c. (c == m.conn) ≡ false) cs
-all_apart setup t m code cs there is calm = all-so (IsCalm setup t) (λ c. (c == m.conn) ≡ false) cs (λ c k. apart setup t m code c there is k) calm
+all_apart setup t m code cs there is calm = all-so (IsCalm setup t) (λ c. (c == m.conn) ≡ false) cs (λ c k. apart setup t m code c there is
+    k) calm
 
 -- ---- behind an end
 
 -- a member on another connection than the one that leaves
-stays_on : (conn c : ℕ) (test : Member → Bool) (t : Table) → (c == conn) ≡ false → IsMember test t c → IsMember test (without_member conn t) c
+stays_on : (conn c : ℕ) (test : Member → Bool) (t : Table) → (c == conn) ≡ false → IsMember test t c → IsMember test (without_member conn
+    t) c
 stays_on conn c test t other is =
     let aside : (conn == c) ≡ false = grind (arith, other) in
     (is.0, find-others conn c t.members aside ∙ is.1, is.2)
@@ -165,10 +172,14 @@ calm_begun : (setup : Setup) (place : ℕ) (cs ds : List ℕ) (t : Table) → Al
     → AllByRecursion (IsCalm setup (edited (beginning t.frame place cs) t)) ds
 calm_begun setup place cs [] t all = tt
 calm_begun setup zero [] (d ∷ ds) t all = all
-calm_begun setup zero (c ∷ cs) (d ∷ ds) t all =
-    ((cond (is_on c all.0.0) (loading t.frame all.0.0) all.0.0, found_behind d c t.frame all.0.0 t.members all.0.1,
-        begun_late (is_on c all.0.0) setup t.frame all.0.0 all.0.2),
-      calm_begun setup zero (c ∷ cs) ds t all.1)
+calm_begun setup zero (c ∷ cs) (d ∷ ds) t all = (
+  (
+    cond (is_on c all.0.0) (loading t.frame all.0.0) all.0.0,
+    found_behind d c t.frame all.0.0 t.members all.0.1,
+    begun_late (is_on c all.0.0) setup t.frame all.0.0 all.0.2,
+  ),
+  calm_begun setup zero (c ∷ cs) ds t all.1,
+)
 calm_begun setup (suc k) [] (d ∷ ds) t all = all
 calm_begun setup (suc k) (c ∷ cs) (d ∷ ds) t all = all
 

@@ -13,6 +13,7 @@ pub mod Loaded
 pub mod Calm
 pub mod Limited
 pub mod Ticked
+pub mod TickOrder
 pub mod Welcomes
 pub mod Enters
 pub mod Counted

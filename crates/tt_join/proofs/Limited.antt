@@ -1,7 +1,8 @@
 -- The ends of a tick, member by member.
-use Rattle.std.proofs.Common.{◌≡◌, ◌⊎◌, inl, inr, ℕ, ◌+◌, ◌-◌, ◌≤◌, ◌<◌, zero, suc, List, [], ◌∷◌, ◌++◌, refl, sym, subst, ap, ap₂, ◌∙◌, true, false, Bool}
+use Rattle.std.proofs.Common.{◌≡◌, ℕ, ◌+◌, ◌≤◌, zero, suc, List, [], ◌∷◌, ◌++◌, refl, sym, subst, ap, ap₂, ◌∙◌}
+use Rattle.std.proofs.Common.{true, false, Bool}
 use Rattle.std.proofs.Common.{Option, Some, None, arith, append_assoc, append-nil, drop}
-use Rattle.std.specs.Prelude.{◌==◌, ◌||◌, not, map, filter, find, cond, is_some, option_map}
+use Rattle.std.specs.Prelude.{◌==◌, ◌||◌, not, map, filter, find, cond, is_some}
 use Rattle.std.specs.List.{AllByRecursion, list_any}
 use Rattle.tt_world.specs.declared.setup.Setup.{Setup}
 use Rattle.tt_world.specs.declared.command.Entry.{Entry}
@@ -15,20 +16,19 @@ use Rattle.tt_log.specs.Deed.{Deed, ◌▹◌, where_some}
 use Rattle.tt_log.specs.Ending.{Failing, ends}
 use Rattle.tt_log.specs.Tick.{late, limited, each_limited, timed}
 use Rattle.tt_members.specs.declared.edit.Edit.{Edit}
-use Rattle.tt_members.specs.declared.edit.Edit.TheVariants.{Begin, Leave, Unask}
 use Rattle.tt_members.specs.declared.step.Step.{Step}
-use Rattle.tt_members.specs.Edits.{on, loading, members_by, members_after, queue_after, place_of}
+use Rattle.tt_members.specs.Edits.{on, loading, members_after, queue_after, place_of}
 use Rattle.tt_members.specs.declared.step.Audience.TheVariants.{One}
 use Rattle.tt_log.specs.declared.deed.What.TheVariants.{End}
 use Rattle.tt_members.specs.Rules.{Rise}
-use Rattle.tt_members.specs.Steps.{step_in, steps_in, stamped_in, says, says_one}
+use Rattle.tt_members.specs.Steps.{steps_in, stamped_in, says, says_one}
 use Rattle.tt_members.specs.Queues.{beginning, unasked, unasking}
-use Rattle.tt_members.specs.Leaving.{playing_in, but, others, farewell_if, leaving, left, ending}
+use Rattle.tt_members.specs.Leaving.{playing_in, but, others, farewell_if, left, ending}
 use Rattle.tt_members.proofs.Behind.{edited, members_append, queue_append, edited_append, steps_append, stamped_append, Tells}
 use Rattle.tt_members.proofs.Found.{rise_after}
 use Rattle.tt_members.proofs.Left.{but_members, ends_by, ending_silent}
-use Rattle.tt_join.specs.Ticking.{Limiting, plays_by, plays_after, begins_on, began, limit_of, limited_by, limiting, ends_of}
-use Rattle.tt_join.proofs.Like.{IsQuiet, AreQuiet, quiet_playing}
+use Rattle.tt_join.specs.Ticking.{Limiting, plays_after, begins_on, began, limit_of, limited_by, limiting, ends_of}
+use Rattle.tt_join.proofs.Like.{AreQuiet}
 use Rattle.tt_join.proofs.Placed.{conns_of}
 use Rattle.tt_join.proofs.Calm.{Calm, calm_ready, calm_left, late_begun, found_behind}
 
@@ -93,7 +93,8 @@ find_head true false c x k ms other e f same = same
 find_head false true c x k ms other e f same = rw f refl
 find_head false false c x k ms other e f same = rw f same
 
-find_filter : (c x : ℕ) (ms : List Member) → (x == c) ≡ false → find (is_on x) (filter (λ (n : Member). not (is_on c n)) ms) ≡ find (is_on x) ms
+find_filter : (c x : ℕ) (ms : List Member) → (x == c) ≡ false → find (is_on x) (filter (λ (n : Member). not (is_on c n)) ms) ≡ find (is_on
+    x) ms
 find_filter c x [] other = refl
 find_filter c x (k ∷ ms) other = find_head (k.conn == c) (k.conn == x) c x k ms other refl refl (find_filter c x ms other)
 
@@ -120,7 +121,8 @@ seen_twice false false frame c m e = rw e refl
 
 stand_begin : (place : ℕ) (cs : List ℕ) (frame : ℕ) (b : Bool) (m : Member) (ms : List Member)
     → find (is_on m.conn) ms ≡ Some (cond b (loading frame m) m)
-    → find (is_on m.conn) (members_after (beginning frame place cs) ms) ≡ Some (cond (b || began m.conn (beginning frame place cs)) (loading frame m) m)
+    → find (is_on m.conn) (members_after (beginning frame place cs) ms) ≡ Some (cond (b || began m.conn (beginning frame place cs))
+        (loading frame m) m)
 stand_begin place [] frame b m ms is = rw (or_false b) is
 stand_begin zero (c ∷ cs) frame b m ms is =
     found_behind m.conn c frame (cond b (loading frame m) m) ms is
@@ -150,7 +152,8 @@ stand_rest n conn es t (m ∷ ms) rising low s =
     (stand_one conn es t m other s.0, stand_rest m.conn conn es t ms rising.1 (omega (arith, rising.0, low)) s.1)
 
 own_behind : (n : ℕ) (k : Member) (xs ms : List Member) → AreRising n (conns_of xs) → k.conn ≤ n
-    → AllByRecursion (λ (m : Member). find (is_on m.conn) ms ≡ Some m) xs → AllByRecursion (λ (m : Member). find (is_on m.conn) (k ∷ ms) ≡ Some m) xs
+    → AllByRecursion (λ (m : Member). find (is_on m.conn) ms ≡ Some m) xs → AllByRecursion (λ (m : Member). find (is_on m.conn) (k ∷ ms) ≡
+        Some m) xs
 own_behind n k [] ms rising low own = tt
 own_behind n k (x ∷ xs) ms rising low own =
     let other : (k.conn == x.conn) ≡ false = grind (arith, rising.0, low) in
@@ -190,7 +193,8 @@ late_then true code x is = absurd cc
 late_then false code x is = is
 
 -- one member, by what becomes of it
-one_limited : (o : Origin) (t : Table) (m : Member) (ns : List Member) (es : List Edit) (x : Option ℕ) → member_of t m.conn ≡ Some (seen es t.frame m)
+one_limited : (o : Origin) (t : Table) (m : Member) (ns : List Member) (es : List Edit) (x : Option ℕ) → member_of t m.conn ≡ Some (seen es
+    t.frame m)
     → limit_of o.setup t.frame es m ≡ x
     → each_limited o (m ∷ ns) t ≡ where_some x (ends (seen es t.frame m)) t ▹ each_limited o ns
 one_limited o t m ns es x there is =
@@ -209,7 +213,8 @@ passes o t n m ns l f g is d =
       table = d.table ∙ ap (λ (x : Deed). x.table) (sym same);
     }
 
-goes_on : (o : Origin) (t : Table) (n : ℕ) (m : Member) (ns : List Member) (l : Limiting) → IsGoing o t n (m ∷ ns) l → IsGoing o t m.conn ns l
+goes_on : (o : Origin) (t : Table) (n : ℕ) (m : Member) (ns : List Member) (l : Limiting) → IsGoing o t n (m ∷ ns) l → IsGoing o t m.conn
+    ns l
 goes_on o t n m ns l g = record { rest = g.rest.1; plays = g.plays; waits = g.waits; stand = g.stand.1; calm = g.calm }
 
 -- it ends, where these play and wait by then
@@ -261,14 +266,15 @@ ends_then o t n m ns l f code rise g limit is d =
     let behind : edited (l.edits ++ new) t ≡ edited new u = edited_append l.edits new t in
     let tells = ends_by m code u (rise_after l.edits t.members rise) (calm_ready o.setup u m code is.there is.late g.calm) in
     let same : each_limited o (m ∷ ns) u ≡ ends m code u ▹ each_limited o ns =
-        one_limited o u m ns l.edits (Some code) g.stand.0 limit
-        ∙ ap (λ (k : Member). ends k code u ▹ each_limited o ns)
-        (not_begun (began m.conn l.edits) t.frame code m (late o.setup t.frame m) limit) in
+    one_limited o u m ns l.edits (Some code) g.stand.0 limit
+    ∙ ap (λ (k : Member). ends k code u ▹ each_limited o ns)
+    (not_begun (began m.conn l.edits) t.frame code m (late o.setup t.frame m) limit) in
     record {
       told = d.told
           ∙ ap (λ (ss : List book.Step). ss ++ (each_limited o ns (edited (l.edits ++ new) t)).told) (steps_append t.admins l.steps said)
           ∙ append_assoc (steps_in t.admins l.steps) (steps_in t.admins said) (each_limited o ns (edited (l.edits ++ new) t)).told
-          ∙ ap₂ (λ (ss : List book.Step) (v : Table). steps_in t.admins l.steps ++ (ss ++ (each_limited o ns v).told)) tells.told (behind ∙ tells.table)
+          ∙ ap₂ (λ (ss : List book.Step) (v : Table). steps_in t.admins l.steps ++ (ss ++ (each_limited o ns v).told)) tells.told (behind ∙
+              tells.table)
           ∙ ap (λ (x : Deed). steps_in t.admins l.steps ++ x.told) (sym same);
       table = d.table ∙ ap (λ (v : Table). (each_limited o ns v).table) (behind ∙ tells.table) ∙ ap (λ (x : Deed). x.table) (sym same);
     }
@@ -282,7 +288,8 @@ by_limit o t n m ns l None rise g is later =
 by_limit o t n m ns l (Some code) rise g is later =
     let late = is_late o t n m ns l code g is in
     let next : Limiting = ended l t.frame m code (playing_in (members_after l.edits t.members)) (queue_after l.edits t.queue) in
-    let same : next ≡ ended l t.frame m code l.plays l.waits = ap₂ (λ (ps qs : List ℕ). ended l t.frame m code ps qs) (sym g.plays) (sym g.waits) in
+    let same : next ≡ ended l t.frame m code l.plays l.waits = ap₂ (λ (ps qs : List ℕ). ended l t.frame m code ps qs) (sym g.plays) (sym
+        g.waits) in
     subst (λ (k : Limiting). IsDone o t (m ∷ ns) l (limiting o.setup t.frame ns k)) same
     (ends_then o t n m ns l (limiting o.setup t.frame ns next) code rise g is late (later next (ends_on o t n m ns l code g late)))
 
@@ -298,7 +305,7 @@ pub all_end : (o : Origin) (t : Table) → Rise t.members → Calm o.setup t
 all_end o t rise calm =
     let first : Limiting = record { edits = []; steps = []; plays = playing_in t.members; waits = t.queue } in
     let done = all_limited o t 0 t.members first rise
-        (record { rest = rise; plays = refl; waits = refl; stand = own_found 0 t.members rise; calm = calm }) in
+    (record { rest = rise; plays = refl; waits = refl; stand = own_found 0 t.members rise; calm = calm }) in
     record { told = done.told; table = done.table }
 
 -- ---- they stamp nothing
@@ -307,12 +314,15 @@ silent_by : (x : Option ℕ) (frame : ℕ) (m : Member) (l : Limiting) → stamp
 silent_by None frame m l = refl
 silent_by (Some code) frame m l =
     stamped_append l.steps (ending m code (but m.conn l.plays) l.waits)
-    ∙ ap (λ (es : List Entry). stamped_in l.steps ++ es) (ending_silent m code (but m.conn l.plays) l.waits) ∙ append-nil (stamped_in l.steps)
+    ∙ ap (λ (es : List Entry). stamped_in l.steps ++ es) (ending_silent m code (but m.conn l.plays) l.waits) ∙ append-nil (stamped_in
+        l.steps)
 
-pub limiting_silent : (setup : Setup) (frame : ℕ) (ms : List Member) (l : Limiting) → stamped_in (limiting setup frame ms l).steps ≡ stamped_in l.steps
+pub limiting_silent : (setup : Setup) (frame : ℕ) (ms : List Member) (l : Limiting) → stamped_in (limiting setup frame ms l).steps ≡
+    stamped_in l.steps
 limiting_silent setup frame [] l = refl
 limiting_silent setup frame (m ∷ ms) l =
-    limiting_silent setup frame ms (limited_by (limit_of setup frame l.edits m) frame m l) ∙ silent_by (limit_of setup frame l.edits m) frame m l
+    limiting_silent setup frame ms (limited_by (limit_of setup frame l.edits m) frame m l) ∙ silent_by (limit_of setup frame l.edits m)
+        frame m l
 
 -- ---- by members that are as quiet
 
@@ -327,7 +337,8 @@ ending_same code m n conns queue conn client welcomed =
     ap₂ (λ (c : ℕ) (ss : List Step). says_one c (ServerError code) ∷ says (One c) End ∷ ss ++ unasking (place_of c queue) queue) conn
     (ap (λ (b : Bool). farewell_if b (Failing code) n conns) welcomed ∙ farewell_same (is_welcomed m) code m n conns client)
 
-limited_same : (x : Option ℕ) (frame : ℕ) (m n : Member) (l : Limiting) → n.conn ≡ m.conn → n.client ≡ m.client → is_welcomed n ≡ is_welcomed m
+limited_same : (x : Option ℕ) (frame : ℕ) (m n : Member) (l : Limiting) → n.conn ≡ m.conn → n.client ≡ m.client → is_welcomed n ≡
+    is_welcomed m
     → limited_by x frame n l ≡ limited_by x frame m l
 limited_same None frame m n l conn client welcomed = refl
 limited_same (Some code) frame m n l conn client welcomed =
@@ -351,7 +362,7 @@ quiet_limiting setup frame [] (n ∷ ns) l q = absurd q
 quiet_limiting setup frame (m ∷ ms) [] l q = absurd q
 quiet_limiting setup frame (m ∷ ms) (n ∷ ns) l q =
     let same : limit_of setup frame l.edits n ≡ limit_of setup frame l.edits m =
-        ap₂ (λ (c : ℕ) (x : Option ℕ). cond (began c l.edits) None x) q.0.conn q.0.late in
+    ap₂ (λ (c : ℕ) (x : Option ℕ). cond (began c l.edits) None x) q.0.conn q.0.late in
     ap (λ (x : Option ℕ). limiting setup frame ns (limited_by x frame n l)) same
     ∙ ap (limiting setup frame ns) (limited_same (limit_of setup frame l.edits m) frame m n l q.0.conn q.0.client q.0.welcomed)
     ∙ quiet_limiting setup frame ms ns (limited_by (limit_of setup frame l.edits m) frame m l) q.1
@@ -374,7 +385,8 @@ pub limiting_behind : (setup : Setup) (frame : ℕ) (ms : List Member) (es : Lis
 limiting_behind setup frame [] es ss l none = refl
 limiting_behind setup frame (m ∷ ms) es ss l none =
     let same : limit_of setup frame (es ++ l.edits) m ≡ limit_of setup frame l.edits m =
-        ap (λ (b : Bool). cond b None (late setup frame m)) (began_append m.conn es l.edits ∙ ap (λ (b : Bool). b || began m.conn l.edits) (none m.conn)) in
+    ap (λ (b : Bool). cond b None (late setup frame m)) (began_append m.conn es l.edits ∙ ap (λ (b : Bool). b || began m.conn l.edits)
+        (none m.conn)) in
     ap (λ (x : Option ℕ). limiting setup frame ms (limited_by x frame m (behind es ss l))) same
     ∙ ap (limiting setup frame ms) (limited_behind (limit_of setup frame l.edits m) frame m es ss l)
     ∙ limiting_behind setup frame ms es ss (limited_by (limit_of setup frame l.edits m) frame m l) none
@@ -399,6 +411,6 @@ nobody_ends setup frame [] l none = refl
 nobody_ends setup frame (m ∷ ms) l none =
     let rest : Bool = list_any (λ k. is_some (late setup frame k)) ms in
     let first : limit_of setup frame l.edits m ≡ None =
-        nothing_by (began m.conn l.edits) (late setup frame m) (on_time (late setup frame m) rest none) in
+    nothing_by (began m.conn l.edits) (late setup frame m) (on_time (late setup frame m) rest none) in
     ap (λ (x : Option ℕ). limiting setup frame ms (limited_by x frame m l)) first
     ∙ nobody_ends setup frame ms l (later_by (late setup frame m) rest none)

@@ -1,5 +1,5 @@
 -- What is stamped is told.
-use Rattle.std.proofs.Common.{◌≡◌, ℕ, List, [], ◌∷◌, ◌++◌, refl, ap, ◌∙◌, append-nil}
+use Rattle.std.proofs.Common.{◌≡◌, ℕ, List, [], ◌∷◌, ◌++◌, refl, ap}
 use Rattle.tt_world.specs.declared.command.Entry.{Entry}
 use Rattle.tt_log.specs.declared.deed.What.TheVariants.{Stamp, ToAdmin}
 use Rattle.tt_log.specs.Admin.{command_updates}
@@ -12,7 +12,8 @@ use Rattle.tt_members.specs.declared.step.Audience.TheVariants.{Several, Watchin
 use Rattle.tt_members.specs.Steps.{steps_in, stamped_in, says}
 use Rattle.tt_join.specs.Ticking.{log_of, stamping}
 
-pub entries_told : (es : List Entry) (t : Table) → tells_entries es t ≡ record { table = t; told = steps_in t.admins (stamping (playing t) es) }
+pub entries_told : (es : List Entry) (t : Table) → tells_entries es t ≡ record { table = t; told = steps_in t.admins (stamping (playing t)
+    es) }
 entries_told [] t = refl
 entries_told (e ∷ es) t = ap (λ (d : Deed). record {
   table = d.table;
@@ -27,4 +28,5 @@ stamping_stamps conns (e ∷ es) = ap (λ (xs : List Entry). e ∷ xs) (stamping
 pub stamping_append : (conns : List ℕ) (es fs : List Entry) → stamping conns (es ++ fs) ≡ stamping conns es ++ stamping conns fs
 stamping_append conns [] fs = refl
 stamping_append conns (e ∷ es) fs =
-    ap (λ (ss : List Step). says (Several conns) (Stamp e) ∷ says (Watching command_updates) (ToAdmin (log_of e)) ∷ ss) (stamping_append conns es fs)
+    ap (λ (ss : List Step). says (Several conns) (Stamp e) ∷ says (Watching command_updates) (ToAdmin (log_of e)) ∷ ss) (stamping_append
+        conns es fs)

@@ -1,11 +1,11 @@
 -- The parts of a tick, one behind the other.
-use Rattle.std.proofs.Common.{◌≡◌, ℕ, ◌+◌, ◌<◌, List, [], ◌∷◌, ◌++◌, refl, sym, subst, ap, ap₂, ◌∙◌, Bool, true, false, arith, append_assoc, Option, None}
+use Rattle.std.proofs.Common.{◌≡◌, ℕ, ◌+◌, List, [], ◌∷◌, ◌++◌, refl, sym, subst, ap, ap₂, ◌∙◌, Bool, true, false, arith, append_assoc}
+use Rattle.std.proofs.Common.{Option, None}
 use Rattle.std.specs.Prelude.{◌==◌, ◌||◌, ◌%◌, nat_lt, length}
 use Rattle.std.specs.List.{AllByRecursion}
-use Rattle.std.proofs.Common.{◌⊎◌, inl, Some, append-nil}
+use Rattle.std.proofs.Common.{inl, Some, append-nil}
 use Rattle.tt_world.specs.declared.setup.Setup.{Setup}
 use Rattle.tt_world.specs.declared.command.Entry.{Entry}
-use Rattle.tt_rules.specs.Companies.{living}
 use Rattle.tt_log.specs.declared.deed.What.TheVariants.{ToAdmin, Sync}
 use Rattle.tt_log.specs.declared.report.Report.TheVariants.{CompanyNews}
 use Rattle.tt_log.specs.Admin.{company_updates}
@@ -13,7 +13,7 @@ use Rattle.tt_rules.specs.declared.status.Status.TheVariants.{MapWait}
 use Rattle.tt_log.specs.Member.{Member, is_in}
 use Rattle.tt_log.specs.Downloads.{IsMember, IsQueue, is_downloading}
 use Rattle.tt_log.specs.Origin.{Origin, at_frame}
-use Rattle.tt_log.specs.Table.{Table, is_on, member_of, playing, living_in, world_of, with_member}
+use Rattle.tt_log.specs.Table.{Table, is_on, member_of, playing, living_in}
 use Rattle.tt_log.specs.Deed.{Deed, ◌▹◌, where_, tells_what}
 use Rattle.tt_log.specs.Watching.{sees_frame}
 use Rattle.tt_log.specs.Tick.{stamped, frame_runs, foundings, all_moved, founders_moved, synced, mapped, timed, left_of}
@@ -24,19 +24,20 @@ use Rattle.tt_members.specs.declared.step.Audience.TheVariants.{Several, Watchin
 use Rattle.tt_members.specs.Crew.{Crew, Rest, origin_at}
 use Rattle.tt_members.specs.Rules.{Rise}
 use Rattle.tt_members.specs.Planned.{Planned}
-use Rattle.tt_members.specs.Edits.{members_after, queue_after}
+use Rattle.tt_members.specs.Edits.{members_after}
 use Rattle.tt_members.specs.Steps.{steps_in, stamped_in, says}
 use Rattle.tt_members.specs.Leaving.{playing_in}
 use Rattle.tt_members.specs.Done.{done, Does}
 use Rattle.tt_join.specs.declared.input.Now.{Now}
 use Rattle.tt_join.specs.declared.input.Input.TheVariants.{Tick}
-use Rattle.tt_join.specs.Inputs.{members_follow, members_ticked, IsAt, Plans}
-use Rattle.tt_join.specs.Ticking.{step_if, stamps_of, founders_of, founding_steps, founding_edits, syncing, loader, loading_steps, loading_edits}
+use Rattle.tt_join.specs.Inputs.{members_ticked, IsAt, Plans}
+use Rattle.tt_join.specs.Ticking.{step_if, stamps_of, founders_of, founding_steps, founding_edits, syncing, loader, loading_steps}
+use Rattle.tt_join.specs.Ticking.{loading_edits}
 use Rattle.tt_join.specs.Ticking.{member_by, moving_edits, began, limiting, limiting_at}
-use Rattle.tt_join.specs.Ticking.{Limiting, ends_of, adds, beating_by, beating, with_founders, with_sync, with_pieces, with_ends, ticking}
+use Rattle.tt_join.specs.Ticking.{Limiting, ends_of, adds, beating_by, beating, with_founders, with_sync, with_pieces, ticking}
 use Rattle.tt_members.proofs.Behind.{edited, Tells}
 use Rattle.tt_join.proofs.Added.{IsDoing, done_more, more}
-use Rattle.tt_join.proofs.Like.{AreLike, IsQuiet, AreQuiet, BothFound, both_found, like_playing, quiet_playing}
+use Rattle.tt_join.proofs.Like.{IsQuiet, AreQuiet, BothFound, both_found, like_playing, quiet_playing}
 use Rattle.tt_join.proofs.Limited.{began_append, all_end, limiting_silent, quiet_limiting, limiting_behind}
 use Rattle.tt_join.proofs.Beating.{table_of, IsBehind, beats, behind_beat}
 use Rattle.tt_join.proofs.Founded.{founded_at}
@@ -121,7 +122,8 @@ pub record IsQuietBehind (setup : Setup) (crew : Crew) (now : Now) (t : Table) :
 behind_pieces : (setup : Setup) (crew : Crew) (now : Now) (r : Rest) (t : Table) → IsBehind setup crew now r t
     → IsQuietBehind setup crew now (edited (loading_edits now.left (loader crew.queue crew.members)) t)
 behind_pieces setup crew now r t behind = record {
-  quiet = subst (λ (q : List ℕ). AreQuiet setup (now.frame + 1) crew.members (members_after (loading_edits now.left (loader q crew.members)) t.members))
+  quiet = subst (λ (q : List ℕ). AreQuiet setup (now.frame + 1) crew.members (members_after (loading_edits now.left (loader q
+      crew.members)) t.members))
       behind.queue (map_stays setup (now.frame + 1) now.left crew.members t behind.rise behind.like);
   rise = map_rises now.left crew.queue crew.members t.members behind.rise;
   queue = map_queues now.left (loader crew.queue crew.members) t.queue ∙ behind.queue;
@@ -230,7 +232,8 @@ abbrev pub without_ends : Setup → Crew → Now → Planned
 without_ends setup crew now = with_pieces crew now (with_sync setup crew now (with_founders crew now (beating setup crew now)))
 
 -- a tick is what its plan does
-pub ticks : (setup : Setup) (crew : Crew) (now : Now) (r : Rest) → Rise crew.members → IsAt setup crew now Tick r → IsEnding setup crew now r
+pub ticks : (setup : Setup) (crew : Crew) (now : Now) (r : Rest) → Rise crew.members → IsAt setup crew now Tick r → IsEnding setup crew now
+    r
     → Does setup crew now.frame now.top r members_ticked (only_ends setup crew now (without_ends setup crew now))
 ticks setup crew now r rise at ending =
     let t : Table = table_of crew now r in
@@ -240,7 +243,8 @@ ticks setup crew now r rise at ending =
     let synced_behind : Table → Deed = λ u. moved u ▹ synced o in
     let left : List ℕ = left_of o t in
     let p : Planned = with_founders crew now (beating setup crew now) in
-    let far = far_sync setup crew now r p (d ▹ moved) (far_founders setup crew now r (beating setup crew now) d at (far_frame setup crew now r rise)) in
+    let far = far_sync setup crew now r p (d ▹ moved) (far_founders setup crew now r (beating setup crew now) d at (far_frame setup crew
+        now r rise)) in
     let whole = ends_whole setup crew now r (with_sync setup crew now p) (d ▹ moved ▹ synced o) left at.left ending far in
     record {
       told = whole.told ∙ told_as_one d moved (synced o) (mapped left) (timed o);
@@ -252,12 +256,14 @@ ticks setup crew now r rise at ending =
         let x : Deed = a d.table in
         let y : Deed = b x.table in
         let z : Deed = c y.table in
-        ap (λ ss. ss ++ (e z.table).told) (ap (λ ss. ss ++ z.told) (append_assoc d.told x.told y.told) ∙ append_assoc d.told (x.told ++ y.told) z.told)
+        ap (λ ss. ss ++ (e z.table).told) (ap (λ ss. ss ++ z.told) (append_assoc d.told x.told y.told) ∙ append_assoc d.told (x.told ++
+            y.told) z.told)
         ∙ append_assoc d.told (x.told ++ y.told ++ z.told) (e z.table).told
 
 -- ---- the ends
 
-member_quiet : (setup : Setup) (frame : ℕ) (x y : Option Member) (test : Member → Bool) → ((m n : Member) → IsQuiet setup frame m n → test n ≡ test m)
+member_quiet : (setup : Setup) (frame : ℕ) (x y : Option Member) (test : Member → Bool) → ((m n : Member) → IsQuiet setup frame m n → test
+    n ≡ test m)
     → BothFound (IsQuiet setup frame) x y → (m : Member) × (x ≡ Some m) × (test m ≡ true) → (n : Member) × (y ≡ Some n) × (test n ≡ true)
 member_quiet setup frame None None test same both is = absurd cc
 member_quiet setup frame None (Some n) test same both is = absurd both
@@ -267,24 +273,29 @@ member_quiet setup frame (Some m) (Some n) test same both is =
     (n, refl, same m n both ∙ ap test (sym own) ∙ is.2)
 
 is_member_quiet : (setup : Setup) (frame c : ℕ) (test : Member → Bool) (t u : Table)
-    → ((m n : Member) → IsQuiet setup frame m n → test n ≡ test m) → AreQuiet setup frame t.members u.members → IsMember test t c → IsMember test u c
+    → ((m n : Member) → IsQuiet setup frame m n → test n ≡ test m) → AreQuiet setup frame t.members u.members → IsMember test t c →
+        IsMember test u c
 is_member_quiet setup frame c test t u same quiet is =
     member_quiet setup frame (member_of t c) (member_of u c) test same
-    (both_found (IsQuiet setup frame) (is_on c) t.members u.members (λ m n (k : IsQuiet setup frame m n). ap (λ (x : ℕ). x == c) k.conn) quiet) is
+    (both_found (IsQuiet setup frame) (is_on c) t.members u.members (λ m n (k : IsQuiet setup frame m n). ap (λ (x : ℕ). x == c) k.conn)
+        quiet) is
 
 all_waiting : (setup : Setup) (frame : ℕ) (cs : List ℕ) (t u : Table) → AreQuiet setup frame t.members u.members
     → AllByRecursion (IsMember (is_in MapWait) t) cs → AllByRecursion (IsMember (is_in MapWait) u) cs
 all_waiting setup frame [] t u quiet all = tt
-all_waiting setup frame (c ∷ cs) t u quiet all =
-    (is_member_quiet setup frame c (is_in MapWait) t u (λ m n (k : IsQuiet setup frame m n). k.waiting) quiet all.0,
-      all_waiting setup frame cs t u quiet all.1)
+all_waiting setup frame (c ∷ cs) t u quiet all = (
+  is_member_quiet setup frame c (is_in MapWait) t u (λ m n (k : IsQuiet setup frame m n). k.waiting) quiet all.0,
+  all_waiting setup frame cs t u quiet all.1,
+)
 
 -- the queue stands behind quiet changes as it did
-queue_quiet : (setup : Setup) (frame : ℕ) (queue : List ℕ) (t u : Table) → AreQuiet setup frame t.members u.members → IsQueue t queue → IsQueue u queue
+queue_quiet : (setup : Setup) (frame : ℕ) (queue : List ℕ) (t u : Table) → AreQuiet setup frame t.members u.members → IsQueue t queue →
+    IsQueue u queue
 queue_quiet setup frame [] t u quiet q = tt
-queue_quiet setup frame (c ∷ cs) t u quiet q =
-    (is_member_quiet setup frame c is_downloading t u (λ m n (k : IsQuiet setup frame m n). k.downloading) quiet q.0,
-      all_waiting setup frame cs t u quiet q.1)
+queue_quiet setup frame (c ∷ cs) t u quiet q = (
+  is_member_quiet setup frame c is_downloading t u (λ m n (k : IsQuiet setup frame m n). k.downloading) quiet q.0,
+  all_waiting setup frame cs t u quiet q.1,
+)
 
 -- the ends of the members as they were are those of the members as they are
 same_ends : (setup : Setup) (frame : ℕ) (ms ns : List Member) (queue : List ℕ) → AreQuiet setup frame ms ns
@@ -301,7 +312,8 @@ ends_tell setup crew now r t at q =
     let queued = subst (IsQueue t) (sym q.queue) (queue_quiet setup frame crew.queue (table_of crew now r) t q.quiet at.queued) in
     let all = all_end (origin_at setup r) t q.rise (inl queued) in
     let same : ends_of setup t.frame t.members t.queue ≡ ends_of setup frame crew.members crew.queue =
-        ap₂ (λ (f : ℕ) (cs : List ℕ). ends_of setup f t.members cs) q.frame q.queue ∙ same_ends setup frame crew.members t.members crew.queue q.quiet in
+    ap₂ (λ (f : ℕ) (cs : List ℕ). ends_of setup f t.members cs) q.frame q.queue ∙ same_ends setup frame crew.members t.members crew.queue
+        q.quiet in
     subst (λ (l : Limiting). Tells (timed (origin_at setup r)) l.edits l.steps t) same all
 
 pub is_ending : (setup : Setup) (crew : Crew) (now : Now) (r : Rest) → IsAt setup crew now Tick r → IsEnding setup crew now r

@@ -17,7 +17,8 @@ returns c =
     let frame : ℕ = c.args.time.now.frame + 1 in
     let crew : Crew = seen ms queue own words founders in
     record {
-      ticks = tick_ran c.args.setup.now crew c.args.time.now c.as_slice.result.now c.beat.new.plan c.tell.new.self c.found.new.plan c.sync.new.plan
+      ticks = tick_ran c.args.setup.now crew c.args.time.now c.as_slice.result.now c.beat.new.plan c.tell.new.self c.found.new.plan
+          c.sync.new.plan
           c.tell_pieces.new.plan c.limit.new.plan
           (c.in_ok-beat.ensures.beats ∙ same_beat c.args.setup.now c.args.time.now ms queue own words founders)
           (c.as_slice.ensures.value ∙ c.in_ok-clients.ensures.clients
@@ -25,6 +26,7 @@ returns c =
           (record { plain = c.in_ok-tell.ensures.plain; edits = c.in_ok-tell.ensures.edits; steps = c.in_ok-tell.ensures.steps })
           (record { plain = c.in_ok-found.ensures.plain; edits = c.in_ok-found.ensures.edits; steps = c.in_ok-found.ensures.steps })
           (record { plain = c.in_ok-sync.ensures.plain; edits = c.in_ok-sync.ensures.edits; steps = c.in_ok-sync.ensures.steps })
-          (record { plain = c.in_ok-tell_pieces.ensures.plain; edits = c.in_ok-tell_pieces.ensures.edits; steps = c.in_ok-tell_pieces.ensures.steps })
+          (record { plain = c.in_ok-tell_pieces.ensures.plain; edits = c.in_ok-tell_pieces.ensures.edits; steps =
+              c.in_ok-tell_pieces.ensures.steps })
           (record { plain = c.in_ok-limit.ensures.plain; edits = c.in_ok-limit.ensures.edits; steps = c.in_ok-limit.ensures.steps });
     }
