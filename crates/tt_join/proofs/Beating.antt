@@ -80,7 +80,7 @@ permitting_silent : (frame top : ℕ) (words : ℕ × ℕ) (ms : List Member) �
 permitting_silent frame top words [] = refl
 permitting_silent frame top words (m ∷ ms) =
     permitting_one (is_playing m) (says_one m.conn (ServerFrame frame top (token_told (m.token == 0) words))) (permitting frame top
-        (words_by m words) ms)
+    (words_by m words) ms)
     m.conn frame top (token_told (m.token == 0) words) refl (permitting_silent frame top (words_by m words) ms)
 
 -- ---- the frame
@@ -101,7 +101,7 @@ beats_by true setup crew now r rise =
     record {
       told = map-append (step_in r.admins) told frames
           ∙ ap (λ (ss : List Step). steps_in r.admins told ++ steps_in r.admins ss) (sym (drawn_permitted frame top crew.tokens
-              crew.members))
+          crew.members))
           ∙ ap (λ (d : Deed). steps_in r.admins told ++ d.told) (sym are);
       table = ap₂ (λ (es : List Entry) (words : ℕ × ℕ). record t {
         members = permitted frame top crew.tokens (map drawn crew.members);

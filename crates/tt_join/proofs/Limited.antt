@@ -122,7 +122,7 @@ seen_twice false false frame c m e = rw e refl
 stand_begin : (place : ℕ) (cs : List ℕ) (frame : ℕ) (b : Bool) (m : Member) (ms : List Member)
     → find (is_on m.conn) ms ≡ Some (cond b (loading frame m) m)
     → find (is_on m.conn) (members_after (beginning frame place cs) ms) ≡ Some (cond (b || began m.conn (beginning frame place cs))
-        (loading frame m) m)
+    (loading frame m) m)
 stand_begin place [] frame b m ms is = rw (or_false b) is
 stand_begin zero (c ∷ cs) frame b m ms is =
     found_behind m.conn c frame (cond b (loading frame m) m) ms is
@@ -153,7 +153,7 @@ stand_rest n conn es t (m ∷ ms) rising low s =
 
 own_behind : (n : ℕ) (k : Member) (xs ms : List Member) → AreRising n (conns_of xs) → k.conn ≤ n
     → AllByRecursion (λ (m : Member). find (is_on m.conn) ms ≡ Some m) xs → AllByRecursion (λ (m : Member). find (is_on m.conn) (k ∷ ms) ≡
-        Some m) xs
+    Some m) xs
 own_behind n k [] ms rising low own = tt
 own_behind n k (x ∷ xs) ms rising low own =
     let other : (k.conn == x.conn) ≡ false = grind (arith, rising.0, low) in
@@ -274,7 +274,7 @@ ends_then o t n m ns l f code rise g limit is d =
           ∙ ap (λ (ss : List book.Step). ss ++ (each_limited o ns (edited (l.edits ++ new) t)).told) (steps_append t.admins l.steps said)
           ∙ append_assoc (steps_in t.admins l.steps) (steps_in t.admins said) (each_limited o ns (edited (l.edits ++ new) t)).told
           ∙ ap₂ (λ (ss : List book.Step) (v : Table). steps_in t.admins l.steps ++ (ss ++ (each_limited o ns v).told)) tells.told (behind ∙
-              tells.table)
+          tells.table)
           ∙ ap (λ (x : Deed). steps_in t.admins l.steps ++ x.told) (sym same);
       table = d.table ∙ ap (λ (v : Table). (each_limited o ns v).table) (behind ∙ tells.table) ∙ ap (λ (x : Deed). x.table) (sym same);
     }
@@ -289,7 +289,7 @@ by_limit o t n m ns l (Some code) rise g is later =
     let late = is_late o t n m ns l code g is in
     let next : Limiting = ended l t.frame m code (playing_in (members_after l.edits t.members)) (queue_after l.edits t.queue) in
     let same : next ≡ ended l t.frame m code l.plays l.waits = ap₂ (λ (ps qs : List ℕ). ended l t.frame m code ps qs) (sym g.plays) (sym
-        g.waits) in
+    g.waits) in
     subst (λ (k : Limiting). IsDone o t (m ∷ ns) l (limiting o.setup t.frame ns k)) same
     (ends_then o t n m ns l (limiting o.setup t.frame ns next) code rise g is late (later next (ends_on o t n m ns l code g late)))
 
@@ -315,14 +315,14 @@ silent_by None frame m l = refl
 silent_by (Some code) frame m l =
     stamped_append l.steps (ending m code (but m.conn l.plays) l.waits)
     ∙ ap (λ (es : List Entry). stamped_in l.steps ++ es) (ending_silent m code (but m.conn l.plays) l.waits) ∙ append-nil (stamped_in
-        l.steps)
+    l.steps)
 
 pub limiting_silent : (setup : Setup) (frame : ℕ) (ms : List Member) (l : Limiting) → stamped_in (limiting setup frame ms l).steps ≡
     stamped_in l.steps
 limiting_silent setup frame [] l = refl
 limiting_silent setup frame (m ∷ ms) l =
     limiting_silent setup frame ms (limited_by (limit_of setup frame l.edits m) frame m l) ∙ silent_by (limit_of setup frame l.edits m)
-        frame m l
+    frame m l
 
 -- ---- by members that are as quiet
 
@@ -386,7 +386,7 @@ limiting_behind setup frame [] es ss l none = refl
 limiting_behind setup frame (m ∷ ms) es ss l none =
     let same : limit_of setup frame (es ++ l.edits) m ≡ limit_of setup frame l.edits m =
     ap (λ (b : Bool). cond b None (late setup frame m)) (began_append m.conn es l.edits ∙ ap (λ (b : Bool). b || began m.conn l.edits)
-        (none m.conn)) in
+    (none m.conn)) in
     ap (λ (x : Option ℕ). limiting setup frame ms (limited_by x frame m (behind es ss l))) same
     ∙ ap (limiting setup frame ms) (limited_behind (limit_of setup frame l.edits m) frame m es ss l)
     ∙ limiting_behind setup frame ms es ss (limited_by (limit_of setup frame l.edits m) frame m l) none

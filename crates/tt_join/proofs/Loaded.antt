@@ -98,8 +98,10 @@ is_loading (conn ∷ conns) t n found = loading_of conn (member_of t conn) t n r
 
 -- what next_pieces leaves, where bytes are left behind it or not
 pieces_by : (b : Bool) (pieces : ℕ) (n : Member) (t : Table) → AreRising 0 (conns_of t.members) → Among n t.members
-    → tells_what (n.conn ∷ []) MapPieces (with_member (record n { pieces = pieces }) t) ▹ where_ (not b) (finishes_map (record n { pieces =
-        pieces }))
+    → tells_what (n.conn ∷ []) MapPieces (with_member (record n { pieces = pieces }) t) ▹ where_ (not b) (finishes_map (record n {
+      pieces =
+          pieces;
+    }))
     ≡ record {
       table = record t { members = on n.conn (loaded pieces (cond b n.status DoneMap)) t.members };
       told = steps_in t.admins (says (One n.conn) MapPieces ∷ []);
@@ -133,11 +135,15 @@ loads_by setup frame left (Some m) (Some n) ms t rising there same =
     let are = pieces_are left n t rising (there n refl).there in
     record {
       told = ap (λ (conn : ℕ). steps_in t.admins (says (One conn) MapPieces ∷ [])) (sym same.conn) ∙ ap (λ (d : Deed). d.told) (sym are);
-      table = ap₂ (λ (conn pieces : ℕ). record t { members = on conn (loaded (pieces + pieces_for (length left)) (status_for (length left)
-          m.status)) t.members })
+      table = ap₂ (λ (conn pieces : ℕ). record t {
+        members = on conn (loaded (pieces + pieces_for (length left)) (status_for (length left)
+            m.status)) t.members;
+      })
           (sym same.conn) (sym same.pieces)
-          ∙ ap (λ (s : Status). record t { members = on n.conn (loaded (n.pieces + pieces_for (length left)) (status_for (length left) s))
-              t.members })
+          ∙ ap (λ (s : Status). record t {
+            members = on n.conn (loaded (n.pieces + pieces_for (length left)) (status_for (length left) s))
+                t.members;
+          })
           (sym same.status)
           ∙ ap (λ (d : Deed). d.table) (sym are);
     }
@@ -191,7 +197,7 @@ stays_by setup frame left (Some m) (Some n) ms t rising there same like =
     let after : AreQuiet setup frame ms (on n.conn (loaded pieces (status_for left n.status)) t.members) =
     pairs_on (IsLike setup frame) (IsQuiet setup frame) (loaded pieces (status_for left n.status)) 0 n ms t.members rising
     (there n refl).there (like_quiet setup frame) (λ k l. quiet_done (nat_lt (4 * 1400) left) setup frame pieces k n (there n refl).status
-        l) like in
+    l) like in
     subst (λ (s : Status). AreQuiet setup frame ms (on m.conn (loaded pieces (status_for left s)) t.members)) same.status
     (subst (λ (conn : ℕ). AreQuiet setup frame ms (on conn (loaded pieces (status_for left n.status)) t.members)) same.conn after)
 

@@ -135,7 +135,7 @@ founding_queue [] ms queue = refl
 founding_queue (f ∷ fs) ms queue =
     let first : List Edit = moving_edits f.1 (member_by f.0 ms) in
     queue_append first (founding_edits ms fs) queue ∙ founding_queue fs ms (queue_after first queue) ∙ one_queue f.1 (member_by f.0 ms)
-        queue
+    queue
 
 one_silent : (conns : List ℕ) (company : ℕ) (x : Option Member) → stamped_in (moving_steps conns company x) ≡ []
 one_silent conns company None = refl

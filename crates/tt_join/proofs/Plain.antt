@@ -6,8 +6,17 @@ use Rattle.tt_members.specs.Planned.{Planned, IsPlain}
 use Rattle.tt_join.specs.Ticking.{adds}
 
 pub plain_is : (p q : Planned) → IsPlain p q → q ≡ record p { edits = q.edits; steps = q.steps }
-plain_is p q plain = rw (plain.names, plain.offers, plain.asks, plain.counts, plain.arrives, plain.orders, plain.locks, plain.words,
-    plain.beat) refl
+plain_is p q plain = rw (
+  plain.names,
+  plain.offers,
+  plain.asks,
+  plain.counts,
+  plain.arrives,
+  plain.orders,
+  plain.locks,
+  plain.words,
+  plain.beat,
+) refl
 
 -- the same, where they were added
 pub added : (p q : Planned) (es : List Edit) (ss : List Step) → IsPlain p q → q.edits ≡ p.edits ++ es → q.steps ≡ p.steps ++ ss → q ≡ adds

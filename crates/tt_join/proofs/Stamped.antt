@@ -12,8 +12,11 @@ use Rattle.tt_members.specs.declared.step.Audience.TheVariants.{Several, Watchin
 use Rattle.tt_members.specs.Steps.{steps_in, stamped_in, says}
 use Rattle.tt_join.specs.Ticking.{log_of, stamping}
 
-pub entries_told : (es : List Entry) (t : Table) → tells_entries es t ≡ record { table = t; told = steps_in t.admins (stamping (playing t)
-    es) }
+pub entries_told : (es : List Entry) (t : Table) → tells_entries es t ≡ record {
+  table = t;
+  told = steps_in t.admins (stamping (playing t)
+      es);
+}
 entries_told [] t = refl
 entries_told (e ∷ es) t = ap (λ (d : Deed). record {
   table = d.table;
@@ -29,4 +32,4 @@ pub stamping_append : (conns : List ℕ) (es fs : List Entry) → stamping conns
 stamping_append conns [] fs = refl
 stamping_append conns (e ∷ es) fs =
     ap (λ (ss : List Step). says (Several conns) (Stamp e) ∷ says (Watching command_updates) (ToAdmin (log_of e)) ∷ ss) (stamping_append
-        conns es fs)
+    conns es fs)

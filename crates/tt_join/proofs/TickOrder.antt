@@ -28,10 +28,13 @@ beat_steady : (b : Bool) (setup : Setup) (crew : Crew) (now : Now) → IsSteady 
 beat_steady true setup crew now = record { names = refl; offers = refl; arrives = refl; counts = refl }
 beat_steady false setup crew now = record { names = refl; offers = refl; arrives = refl; counts = refl }
 
-pub tick_orders : (setup : Setup) (crew : Crew) (now : Now) → Rise crew.members → crew.clients < 2 ^ 32 → IsOrdered crew (ticking setup crew now)
+pub tick_orders : (setup : Setup) (crew : Crew) (now : Now) → Rise crew.members → crew.clients < 2 ^ 32 → IsOrdered crew (ticking setup
+    crew now)
 tick_orders setup crew now rise few =
-    let s : IsSteady (beating_by (nat_lt now.top (now.frame + 1)) setup crew now) = beat_steady (nat_lt now.top (now.frame + 1)) setup crew now in
-    steady_orders crew (ticking setup crew now) (record { names = s.names; offers = s.offers; arrives = s.arrives; counts = s.counts }) rise few
+    let s : IsSteady (beating_by (nat_lt now.top (now.frame + 1)) setup crew now) = beat_steady (nat_lt now.top (now.frame + 1)) setup crew
+    now in
+    steady_orders crew (ticking setup crew now) (record { names = s.names; offers = s.offers; arrives = s.arrives; counts = s.counts })
+    rise few
 
 seen_by : (b : Bool) (setup : Setup) (crew : Crew) (now : Now)
     → beating_by b setup (seen crew.members crew.queue crew.own crew.tokens crew.founders) now ≡ beating_by b setup crew now

@@ -244,7 +244,7 @@ ticks setup crew now r rise at ending =
     let left : List ℕ = left_of o t in
     let p : Planned = with_founders crew now (beating setup crew now) in
     let far = far_sync setup crew now r p (d ▹ moved) (far_founders setup crew now r (beating setup crew now) d at (far_frame setup crew
-        now r rise)) in
+    now r rise)) in
     let whole = ends_whole setup crew now r (with_sync setup crew now p) (d ▹ moved ▹ synced o) left at.left ending far in
     record {
       told = whole.told ∙ told_as_one d moved (synced o) (mapped left) (timed o);
@@ -257,7 +257,7 @@ ticks setup crew now r rise at ending =
         let y : Deed = b x.table in
         let z : Deed = c y.table in
         ap (λ ss. ss ++ (e z.table).told) (ap (λ ss. ss ++ z.told) (append_assoc d.told x.told y.told) ∙ append_assoc d.told (x.told ++
-            y.told) z.told)
+        y.told) z.told)
         ∙ append_assoc d.told (x.told ++ y.told ++ z.told) (e z.table).told
 
 -- ---- the ends
@@ -274,11 +274,11 @@ member_quiet setup frame (Some m) (Some n) test same both is =
 
 is_member_quiet : (setup : Setup) (frame c : ℕ) (test : Member → Bool) (t u : Table)
     → ((m n : Member) → IsQuiet setup frame m n → test n ≡ test m) → AreQuiet setup frame t.members u.members → IsMember test t c →
-        IsMember test u c
+    IsMember test u c
 is_member_quiet setup frame c test t u same quiet is =
     member_quiet setup frame (member_of t c) (member_of u c) test same
     (both_found (IsQuiet setup frame) (is_on c) t.members u.members (λ m n (k : IsQuiet setup frame m n). ap (λ (x : ℕ). x == c) k.conn)
-        quiet) is
+    quiet) is
 
 all_waiting : (setup : Setup) (frame : ℕ) (cs : List ℕ) (t u : Table) → AreQuiet setup frame t.members u.members
     → AllByRecursion (IsMember (is_in MapWait) t) cs → AllByRecursion (IsMember (is_in MapWait) u) cs
@@ -313,7 +313,7 @@ ends_tell setup crew now r t at q =
     let all = all_end (origin_at setup r) t q.rise (inl queued) in
     let same : ends_of setup t.frame t.members t.queue ≡ ends_of setup frame crew.members crew.queue =
     ap₂ (λ (f : ℕ) (cs : List ℕ). ends_of setup f t.members cs) q.frame q.queue ∙ same_ends setup frame crew.members t.members crew.queue
-        q.quiet in
+    q.quiet in
     subst (λ (l : Limiting). Tells (timed (origin_at setup r)) l.edits l.steps t) same all
 
 pub is_ending : (setup : Setup) (crew : Crew) (now : Now) (r : Rest) → IsAt setup crew now Tick r → IsEnding setup crew now r

@@ -228,8 +228,11 @@ abbrev pub with_pieces : Crew → Now → Planned → Planned
 with_pieces crew now p = adds (loading_edits now.left (loader crew.queue crew.members)) (loading_steps (loader crew.queue crew.members)) p
 
 abbrev pub with_ends : Setup → Crew → Now → Planned → Planned
-with_ends setup crew now p = let l = limits_of setup (now.frame + 1) crew.members crew.queue p in record p { edits = l.edits; steps =
-    l.steps }
+with_ends setup crew now p = let l = limits_of setup (now.frame + 1) crew.members crew.queue p in record p {
+  edits = l.edits;
+  steps =
+      l.steps;
+}
 
 abbrev pub ticking : Setup → Crew → Now → Planned
 ticking setup crew now = with_ends setup crew now (with_pieces crew now (with_sync setup crew now (with_founders crew now

@@ -69,7 +69,8 @@ pub fn founders_at(
     known: &[(u32, u32)],
     steps: &[Step],
 ) -> Result<Vec<u32>, OutOfMemory>
-    ensures clients { IfOk result (λ clients. clients.items ≡ clients_at frame known.now ++ clients_at frame (founders_in (stamped_in steps.now))) }
+    ensures clients { IfOk result (λ clients. clients.items
+        ≡ clients_at frame known.now ++ clients_at frame (founders_in (stamped_in steps.now))) }
 {
     let mut clients = known_at(alloc, frame, known)?;
     add_stamped(frame, steps, &mut clients)?;

@@ -26,7 +26,11 @@ returns c =
           (record { plain = c.in_ok-tell.ensures.plain; edits = c.in_ok-tell.ensures.edits; steps = c.in_ok-tell.ensures.steps })
           (record { plain = c.in_ok-found.ensures.plain; edits = c.in_ok-found.ensures.edits; steps = c.in_ok-found.ensures.steps })
           (record { plain = c.in_ok-sync.ensures.plain; edits = c.in_ok-sync.ensures.edits; steps = c.in_ok-sync.ensures.steps })
-          (record { plain = c.in_ok-tell_pieces.ensures.plain; edits = c.in_ok-tell_pieces.ensures.edits; steps =
-              c.in_ok-tell_pieces.ensures.steps })
+          (record {
+            plain = c.in_ok-tell_pieces.ensures.plain;
+            edits = c.in_ok-tell_pieces.ensures.edits;
+            steps =
+                c.in_ok-tell_pieces.ensures.steps;
+          })
           (record { plain = c.in_ok-limit.ensures.plain; edits = c.in_ok-limit.ensures.edits; steps = c.in_ok-limit.ensures.steps });
     }
