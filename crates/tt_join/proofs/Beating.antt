@@ -1,26 +1,29 @@
 -- Stamping and the frame: a plan does them.
 use Rattle.std.proofs.Common.{◌≡◌, ℕ, ◌+◌, List, [], ◌∷◌, ◌++◌, refl, sym, subst, ap, ap₂, ◌∙◌, Bool, true, false, append-nil}
-use Rattle.std.specs.Prelude.{◌==◌, nat_lt, map, filter}
+use Rattle.std.specs.Prelude.{◌==◌, nat_lt, map}
 use Rattle.std.proofs.lemmas.List.{map-append}
 use Rattle.tt_world.specs.declared.setup.Setup.{Setup}
 use Rattle.tt_world.specs.declared.command.Entry.{Entry}
 use Rattle.tt_game.specs.declared.message.GameMsg.TheVariants.{ServerFrame}
-use Rattle.tt_log.specs.declared.deed.Step as book
 use Rattle.tt_log.specs.Member.{Member, is_playing}
 use Rattle.tt_log.specs.Table.{Table}
 use Rattle.tt_log.specs.Deed.{Deed, ◌▹◌}
-use Rattle.tt_log.specs.Tick.{drawn, stamped, tells_entries, frame_runs_by, frame_runs}
+use Rattle.tt_log.specs.Tick.{drawn, stamped, frame_runs_by, frame_runs}
 use Rattle.tt_log.specs.History.{AreRising}
 use Rattle.tt_members.specs.declared.step.Step.{Step}
-use Rattle.tt_members.specs.Crew.{Crew, Rest, origin_at, table_at}
-use Rattle.tt_members.specs.Edits.{words_by, words_after, permitted}
+use Rattle.tt_world.specs.declared.command.Command.{Command}
+use Rattle.tt_join.proofs.Founded.{clients_append}
+use Rattle.tt_members.specs.Crew.{Crew, Rest, founders_in, origin_at, table_at}
+use Rattle.tt_members.specs.Edits.{words_by, permitted}
 use Rattle.tt_members.specs.Steps.{step_in, steps_in, stamped_in, says_one}
 use Rattle.tt_members.specs.Rules.{Rise}
 use Rattle.tt_members.specs.Leaving.{playing_in}
 use Rattle.tt_members.specs.Done.{done}
 use Rattle.tt_join.specs.declared.input.Now.{Now}
-use Rattle.tt_join.specs.Ticking.{step_if, stamps_of, stamping, token_told, permitting, beating_by, beating}
-use Rattle.tt_join.proofs.Behind.{stamped_append, IsDoing}
+use Rattle.tt_join.specs.Ticking.{seen, clients_at, assigned, founders_of, step_if, stamps_of, stamping, token_told, permitting, beating_by}
+use Rattle.tt_join.specs.Ticking.{beating}
+use Rattle.tt_members.proofs.Behind.{stamped_append}
+use Rattle.tt_join.proofs.Added.{IsDoing}
 use Rattle.tt_join.proofs.Stamped.{entries_told, stamping_stamps}
 use Rattle.tt_join.proofs.Like.{IsLike, AreLike, own_like, pairs_own, pairs_map, like_playing}
 use Rattle.tt_join.proofs.Permitted.{frames_are, all_permitted_like, drawn_permitted, drawn_words, drawn_conns, permitted_conns}
@@ -67,7 +70,8 @@ stamps_told setup crew now r =
       told = steps_in r.admins (stamping conns (stamps_of (now.top + 1) crew));
     }) (like_playing setup now.frame crew.members (map drawn crew.members) (drawn_like setup now.frame crew.members))
 
-permitting_one : (b : Bool) (s : Step) (ss : List Step) (conn frame top token : ℕ) → s ≡ says_one conn (ServerFrame frame top token) → stamped_in ss ≡ []
+permitting_one : (b : Bool) (s : Step) (ss : List Step) (conn frame top token : ℕ) → s ≡ says_one conn (ServerFrame frame top token) →
+    stamped_in ss ≡ []
     → stamped_in (step_if b s ++ ss) ≡ []
 permitting_one true s ss conn frame top token is later = rw is later
 permitting_one false s ss conn frame top token is later = later
@@ -75,7 +79,8 @@ permitting_one false s ss conn frame top token is later = later
 permitting_silent : (frame top : ℕ) (words : ℕ × ℕ) (ms : List Member) → stamped_in (permitting frame top words ms) ≡ []
 permitting_silent frame top words [] = refl
 permitting_silent frame top words (m ∷ ms) =
-    permitting_one (is_playing m) (says_one m.conn (ServerFrame frame top (token_told (m.token == 0) words))) (permitting frame top (words_by m words) ms)
+    permitting_one (is_playing m) (says_one m.conn (ServerFrame frame top (token_told (m.token == 0) words))) (permitting frame top
+    (words_by m words) ms)
     m.conn frame top (token_told (m.token == 0) words) refl (permitting_silent frame top (words_by m words) ms)
 
 -- ---- the frame
@@ -95,13 +100,15 @@ beats_by true setup crew now r rise =
     let are = frames_are t (subst (AreRising 0) (sym (drawn_conns crew.members)) rise) in
     record {
       told = map-append (step_in r.admins) told frames
-          ∙ ap (λ (ss : List Step). steps_in r.admins told ++ steps_in r.admins ss) (sym (drawn_permitted frame top crew.tokens crew.members))
+          ∙ ap (λ (ss : List Step). steps_in r.admins told ++ steps_in r.admins ss) (sym (drawn_permitted frame top crew.tokens
+          crew.members))
           ∙ ap (λ (d : Deed). steps_in r.admins told ++ d.told) (sym are);
       table = ap₂ (λ (es : List Entry) (words : ℕ × ℕ). record t {
         members = permitted frame top crew.tokens (map drawn crew.members);
         journal = r.journal ++ es;
         tokens = words;
-      }) (stamped_append told frames ∙ ap (λ (es : List Entry). stamped_in told ++ es) (permitting_silent frame top crew.tokens crew.members)
+      }) (stamped_append told frames ∙ ap (λ (es : List Entry). stamped_in told ++ es) (permitting_silent frame top crew.tokens
+          crew.members)
           ∙ append-nil (stamped_in told) ∙ stamping_stamps (playing_in crew.members) stamps)
           (sym (drawn_words crew.tokens crew.members))
           ∙ ap (λ (d : Deed). d.table) (sym are);
@@ -160,3 +167,41 @@ behind_by false setup crew now r rise = record {
 pub behind_beat : (setup : Setup) (crew : Crew) (now : Now) (r : Rest) → Rise crew.members
     → IsBehind setup crew now r (done (beating setup crew now) (table_of crew now r))
 behind_beat setup crew now r rise = behind_by (nat_lt now.top (now.frame + 1)) setup crew now r rise
+
+-- ---- what is stamped by the steps
+
+stamps_by : (b : Bool) (setup : Setup) (crew : Crew) (now : Now) → stamped_in (beating_by b setup crew now).steps ≡ stamps_of (now.top + 1)
+    crew
+stamps_by true setup crew now =
+    let top : ℕ = now.frame + 1 + setup.frame_freq in
+    let told : List Step = stamping (playing_in crew.members) (stamps_of (now.top + 1) crew) in
+    let frames : List Step = permitting (now.frame + 1) top crew.tokens crew.members in
+    stamped_append told frames
+    ∙ ap (λ (es : List Entry). stamped_in told ++ es) (permitting_silent (now.frame + 1) top crew.tokens crew.members)
+    ∙ append-nil (stamped_in told) ∙ stamping_stamps (playing_in crew.members) (stamps_of (now.top + 1) crew)
+stamps_by false setup crew now = stamping_stamps (playing_in crew.members) (stamps_of (now.top + 1) crew)
+
+pub beat_stamps : (setup : Setup) (crew : Crew) (now : Now) → stamped_in (beating setup crew now).steps ≡ stamps_of (now.top + 1) crew
+beat_stamps setup crew now = stamps_by (nat_lt now.top (now.frame + 1)) setup crew now
+
+-- the queue and the founders have no part in it
+same_by : (b : Bool) (setup : Setup) (now : Now) (ms : List Member) (queue : List ℕ) (own : List Command) (words : ℕ × ℕ) (founders : List
+    (ℕ × ℕ))
+    → beating_by b setup (seen ms [] own words []) now ≡ beating_by b setup (seen ms queue own words founders) now
+same_by true setup now ms queue own words founders = refl
+same_by false setup now ms queue own words founders = refl
+
+pub same_beat : (setup : Setup) (now : Now) (ms : List Member) (queue : List ℕ) (own : List Command) (words : ℕ × ℕ) (founders : List (ℕ ×
+    ℕ))
+    → beating setup (seen ms [] own words []) now ≡ beating setup (seen ms queue own words founders) now
+same_beat setup now ms queue own words founders = same_by (nat_lt now.top (now.frame + 1)) setup now ms queue own words founders
+
+-- whose company is founded, by the steps so far
+pub founders_are : (setup : Setup) (crew : Crew) (now : Now) (clients : List ℕ) (steps : List Step) → steps ≡ (beating setup crew now).steps
+    → clients ≡ clients_at (now.frame + 1) crew.founders ++ clients_at (now.frame + 1) (founders_in (stamped_in steps))
+    → assigned now.live clients ≡ founders_of crew now
+founders_are setup crew now clients steps same are =
+    ap (assigned now.live) (are
+    ∙ ap (λ (es : List Entry). clients_at (now.frame + 1) crew.founders ++ clients_at (now.frame + 1) (founders_in es))
+    (ap stamped_in same ∙ beat_stamps setup crew now)
+    ∙ sym (clients_append (now.frame + 1) crew.founders (founders_in (stamps_of (now.top + 1) crew))))

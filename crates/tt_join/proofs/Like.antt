@@ -1,6 +1,7 @@
 -- Members behind the quiet changes of a tick, beside the members as they were.
-use Rattle.std.proofs.Common.{◌≡◌, ℕ, ◌+◌, ◌-◌, ◌<◌, ◌≤◌, List, [], ◌∷◌, refl, sym, subst, ap, ap₂, ◌∙◌, true, false, Bool, Option, Some, None, arith}
-use Rattle.std.specs.Prelude.{◌==◌, ◌||◌, ◌&&◌, not, nat_lt, map, filter, find, cond}
+use Rattle.std.proofs.Common.{◌≡◌, ℕ, ◌-◌, List, [], ◌∷◌, refl, sym, subst, ap, ap₂, ◌∙◌, true, false, Bool, Option, Some}
+use Rattle.std.proofs.Common.{None}
+use Rattle.std.specs.Prelude.{◌||◌, nat_lt, map, filter, find, cond}
 use Rattle.tt_world.specs.declared.setup.Setup.{Setup}
 use Rattle.tt_rules.specs.declared.status.Status.{Status}
 use Rattle.tt_rules.specs.declared.status.Status.TheVariants.{Inactive, NewgrfsCheck, AuthGame, AuthCompany, Authorized, MapWait, Map}
@@ -9,6 +10,7 @@ use Rattle.tt_rules.specs.Reasons.{◌⇒◌}
 use Rattle.tt_rules.specs.Codes.{timeout_password, timeout_computer, timeout_map, timeout_join}
 use Rattle.tt_rules.specs.Statuses as status
 use Rattle.tt_log.specs.Member.{Member, is_playing, is_welcomed, is_in}
+use Rattle.tt_log.specs.Downloads.{is_downloading}
 use Rattle.tt_log.specs.Tick.{late, late_in, keeps_token}
 use Rattle.tt_members.specs.Leaving.{playing_in}
 
@@ -33,7 +35,8 @@ pairs_so R Q [] (n ∷ ns) so p = absurd p
 pairs_so R Q (m ∷ ms) [] so p = absurd p
 pairs_so R Q (m ∷ ms) (n ∷ ns) so p = (so m n p.0, pairs_so R Q ms ns so p.1)
 
-pub pairs_map : (R : Member → Member → Type 0) (f : Member → Member) (ms ns : List Member) → ((m n : Member) → R m n → R m (f n)) → Pairs R ms ns
+pub pairs_map : (R : Member → Member → Type 0) (f : Member → Member) (ms ns : List Member) → ((m n : Member) → R m n → R m (f n)) → Pairs R
+    ms ns
     → Pairs R ms (map f ns)
 pairs_map R f [] [] so p = tt
 pairs_map R f [] (n ∷ ns) so p = absurd p
@@ -50,7 +53,8 @@ found_head R true m n x y own later = own
 found_head R false m n x y own later = later
 
 -- what a test finds, that looks at what is the same
-pub both_found : (R : Member → Member → Type 0) (p : Member → Bool) (ms ns : List Member) → ((m n : Member) → R m n → p n ≡ p m) → Pairs R ms ns
+pub both_found : (R : Member → Member → Type 0) (p : Member → Bool) (ms ns : List Member) → ((m n : Member) → R m n → p n ≡ p m) → Pairs R
+    ms ns
     → BothFound R (find p ms) (find p ns)
 both_found R p [] [] same q = tt
 both_found R p [] (n ∷ ns) same q = absurd q
@@ -66,7 +70,8 @@ plays_head true m n ms ns own later = ap₂ (λ (x : ℕ) (xs : List ℕ). x ∷
 plays_head false m n ms ns own later = later
 
 -- the same ones play
-pub same_playing : (R : Member → Member → Type 0) (ms ns : List Member) → ((m n : Member) → R m n → (n.conn ≡ m.conn) × (is_playing n ≡ is_playing m))
+pub same_playing : (R : Member → Member → Type 0) (ms ns : List Member) → ((m n : Member) → R m n → (n.conn ≡ m.conn) × (is_playing n ≡
+    is_playing m))
     → Pairs R ms ns → playing_in ns ≡ playing_in ms
 same_playing R [] [] same p = refl
 same_playing R [] (n ∷ ns) same p = absurd p
@@ -98,6 +103,7 @@ pub record IsQuiet (setup : Setup) (frame : ℕ) (m n : Member) : Type 0 where
   pub welcomed : is_welcomed n ≡ is_welcomed m
   pub playing : is_playing n ≡ is_playing m
   pub waiting : is_in MapWait n ≡ is_in MapWait m
+  pub downloading : is_downloading n ≡ is_downloading m
   pub late : late setup frame n ≡ late setup frame m
 
 abbrev pub AreQuiet : Setup → ℕ → List Member → List Member → Type 0
@@ -132,6 +138,7 @@ like_quiet setup frame m n l = record {
   welcomed = ap status.is_welcomed l.status;
   playing = ap status.is_playing l.status;
   waiting = ap (status.is_at MapWait) l.status;
+  downloading = ap (λ (s : Status). status.is_at Map s || status.is_at DoneMap s) l.status;
   late = like_late setup frame m n l;
 }
 

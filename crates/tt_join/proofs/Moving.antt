@@ -1,38 +1,26 @@
 -- Each founder has its company, and those that play are told.
 use Rattle.std.proofs.Common.{◌≡◌, ℕ, List, [], ◌∷◌, ◌++◌, refl, sym, subst, ap, ap₂, ◌∙◌, Bool, true, false, Option, Some, None}
-use Rattle.std.specs.Prelude.{◌==◌, map, filter, find, cond}
-use Rattle.std.proofs.lemmas.List.{map-append}
+use Rattle.std.specs.Prelude.{◌==◌, cond}
 use Rattle.tt_world.specs.declared.setup.Setup.{Setup}
 use Rattle.tt_game.specs.declared.message.GameMsg.TheVariants.{ServerMove}
 use Rattle.tt_admin.specs.declared.message.AdminMsg.TheVariants.{ServerClientUpdate}
 use Rattle.tt_log.specs.declared.deed.Step as book
 use Rattle.tt_log.specs.Admin.{Admin, client_updates}
-use Rattle.tt_log.specs.Member.{Member, is_playing}
-use Rattle.tt_log.specs.Table.{Table, member_with, with_member, playing}
-use Rattle.tt_log.specs.Deed.{Deed, ◌▹◌, where_some}
+use Rattle.tt_log.specs.Member.{Member}
+use Rattle.tt_log.specs.Table.{Table, member_with, with_member}
+use Rattle.tt_log.specs.Deed.{where_some}
 use Rattle.tt_log.specs.PacketRules.{moves}
 use Rattle.tt_log.specs.Tick.{all_moved}
 use Rattle.tt_log.specs.History.{AreRising}
 use Rattle.tt_log.proofs.Lists.{Among, found-among}
 use Rattle.tt_members.specs.declared.edit.Edit.{Edit}
-use Rattle.tt_members.specs.declared.step.Step.{Step}
 use Rattle.tt_members.specs.Edits.{on, moved, members_after, queue_after}
-use Rattle.tt_members.specs.Steps.{step_in, steps_in, stamped_in, says_several, shows}
+use Rattle.tt_members.specs.Steps.{steps_in, stamped_in, says_several, shows}
 use Rattle.tt_members.specs.Leaving.{playing_in}
 use Rattle.tt_join.specs.Ticking.{member_by, moving_steps, moving_edits, founding_steps, founding_edits}
-use Rattle.tt_join.proofs.Behind.{edited, members_append, queue_append, edited_append, stamped_append, Tells}
+use Rattle.tt_members.proofs.Behind.{both, edited, members_append, queue_append, stamped_append, Tells}
 use Rattle.tt_join.proofs.Like.{IsLike, AreLike, BothFound, both_found, pairs_map, like_playing}
 use Rattle.tt_join.proofs.Placed.{conns_of, on_conns, put_among}
-
--- ---- two rules at a table
-
-pub both : (one two : Table → Deed) (es fs : List Edit) (ss us : List Step) (t : Table) → Tells one es ss t → Tells two fs us (edited es t)
-    → Tells (λ u. one u ▹ two) (es ++ fs) (ss ++ us) t
-both one two es fs ss us t first second = record {
-  told = map-append (step_in t.admins) ss us
-      ∙ ap₂ (λ (xs ys : List book.Step). xs ++ ys) first.told (second.told ∙ ap (λ (u : Table). (two u).told) first.table);
-  table = edited_append es fs t ∙ second.table ∙ ap (λ (u : Table). (two u).table) first.table;
-}
 
 -- ---- one founder
 
@@ -146,7 +134,8 @@ pub founding_queue : (fs : List (ℕ × ℕ)) (ms : List Member) (queue : List �
 founding_queue [] ms queue = refl
 founding_queue (f ∷ fs) ms queue =
     let first : List Edit = moving_edits f.1 (member_by f.0 ms) in
-    queue_append first (founding_edits ms fs) queue ∙ founding_queue fs ms (queue_after first queue) ∙ one_queue f.1 (member_by f.0 ms) queue
+    queue_append first (founding_edits ms fs) queue ∙ founding_queue fs ms (queue_after first queue) ∙ one_queue f.1 (member_by f.0 ms)
+    queue
 
 one_silent : (conns : List ℕ) (company : ℕ) (x : Option Member) → stamped_in (moving_steps conns company x) ≡ []
 one_silent conns company None = refl

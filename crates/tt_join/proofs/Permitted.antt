@@ -1,7 +1,8 @@
 -- Those that play are told how far they may run, one after another: it is one change of all.
-use Rattle.std.proofs.Common.{◌≡◌, ℕ, ◌+◌, ◌-◌, ◌<◌, ◌≤◌, List, [], ◌∷◌, ◌++◌, refl, sym, subst, ap, ap₂, ◌∙◌, true, false, Bool, Option, Some}
-use Rattle.std.proofs.Common.{None, arith, append_assoc, append-nil}
-use Rattle.std.specs.Prelude.{◌==◌, ◌||◌, ◌&&◌, not, nat_lt, map, filter, find, cond}
+use Rattle.std.proofs.Common.{◌≡◌, ℕ, ◌-◌, ◌<◌, ◌≤◌, List, [], ◌∷◌, ◌++◌, refl, sym, ap, ap₂, ◌∙◌, true, false, Bool, Option}
+use Rattle.std.proofs.Common.{Some}
+use Rattle.std.proofs.Common.{arith, append_assoc}
+use Rattle.std.specs.Prelude.{◌==◌, ◌&&◌, not, nat_lt, map, find, cond}
 use Rattle.std.specs.List.{AllByRecursion}
 use Rattle.std.proofs.lemmas.List.{map-append}
 use Rattle.tt_world.specs.declared.setup.Setup.{Setup}
@@ -9,17 +10,17 @@ use Rattle.tt_world.specs.Random.{next_random}
 use Rattle.tt_game.specs.declared.message.GameMsg.TheVariants.{ServerFrame}
 use Rattle.tt_log.specs.declared.deed.Step as book
 use Rattle.tt_log.specs.Member.{Member, is_playing}
-use Rattle.tt_log.specs.Table.{Table, is_on, member_of, with_member}
+use Rattle.tt_log.specs.Table.{Table, is_on, member_of}
 use Rattle.tt_log.specs.Deed.{Deed, ◌▹◌, where_, where_some}
 use Rattle.tt_log.specs.Frames.{fresh_token, tells_frame, tells_frame_by, frames_told}
 use Rattle.tt_log.specs.History.{AreRising}
 use Rattle.tt_log.specs.Tick.{keeps_token, drawn}
 use Rattle.tt_log.proofs.Lists.{all-append, all-so}
 use Rattle.tt_members.specs.declared.step.Step.{Step}
-use Rattle.tt_members.specs.Edits.{permitted_by, gets_token, words_by, permitted, words_after}
+use Rattle.tt_members.specs.Edits.{permitted_by, words_by, permitted, words_after}
 use Rattle.tt_members.specs.Steps.{step_in, steps_in, says_one}
 use Rattle.tt_join.specs.Ticking.{step_if, token_told, permitting}
-use Rattle.tt_join.proofs.Like.{IsLike, AreLike, own_like}
+use Rattle.tt_join.proofs.Like.{IsLike, AreLike}
 
 -- a table with other members and words
 abbrev pub with_words : Table → List Member → ℕ × ℕ → Table
@@ -133,7 +134,8 @@ told_all n pre (m ∷ ms) t words low rising =
     (append_assoc pre (x ∷ []) (permitted t.frame t.top next ms))
     (sym (map-append (step_in t.admins) first (permitting t.frame t.top next ms)))
 
-pub frames_are : (t : Table) → AreRising 0 (map (λ (k : Member). k.conn) t.members) → frames_told t.members t ≡ all_told t [] t.members t.tokens
+pub frames_are : (t : Table) → AreRising 0 (map (λ (k : Member). k.conn) t.members) → frames_told t.members t ≡ all_told t [] t.members
+    t.tokens
 frames_are t rising = told_all 0 [] t.members t t.tokens tt rising
 
 -- ---- what stays
@@ -186,7 +188,8 @@ all_permitted_like setup frame top words (m ∷ ms) (n ∷ ns) l = (
 
 -- who waits has no part in it
 
-pub drawn_permitted : (frame top : ℕ) (words : ℕ × ℕ) (ms : List Member) → permitting frame top words (map drawn ms) ≡ permitting frame top words ms
+pub drawn_permitted : (frame top : ℕ) (words : ℕ × ℕ) (ms : List Member) → permitting frame top words (map drawn ms) ≡ permitting frame top
+    words ms
 drawn_permitted frame top words [] = refl
 drawn_permitted frame top words (m ∷ ms) = ap (λ (ss : List Step). step_if (is_playing m) (says_one m.conn (ServerFrame frame top
     (token_told (m.token == 0) words))) ++ ss) (drawn_permitted frame top (words_by m words) ms)

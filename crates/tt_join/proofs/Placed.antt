@@ -1,8 +1,8 @@
 -- A member that is there is put in its own place.
-use Rattle.std.proofs.Common.{◌≡◌, ◌⊎◌, inl, inr, ℕ, ◌<◌, ◌≤◌, List, [], ◌∷◌, refl, sym, ap, ap₂, subst, ◌∙◌, true, false, Bool, arith}
-use Rattle.std.specs.Prelude.{◌==◌, map, filter, find, cond}
+use Rattle.std.proofs.Common.{◌≡◌, inl, inr, ℕ, ◌<◌, ◌≤◌, List, [], ◌∷◌, refl, sym, ap, ap₂, subst, ◌∙◌, true, false, Bool, arith}
+use Rattle.std.specs.Prelude.{◌==◌, map, cond}
 use Rattle.tt_log.specs.Member.{Member}
-use Rattle.tt_log.specs.Table.{Table, is_on, with_member}
+use Rattle.tt_log.specs.Table.{is_on}
 use Rattle.tt_log.specs.History.{AreRising}
 use Rattle.tt_log.proofs.Lists.{Among}
 use Rattle.tt_members.specs.Edits.{on}
@@ -66,7 +66,8 @@ on_one : (b : Bool) (f : Member → Member) (m : Member) → ((k : Member) → (
 on_one true f m keeps = keeps m
 on_one false f m keeps = refl
 
-pub on_conns : (conn : ℕ) (f : Member → Member) (ms : List Member) → ((m : Member) → (f m).conn ≡ m.conn) → conns_of (on conn f ms) ≡ conns_of ms
+pub on_conns : (conn : ℕ) (f : Member → Member) (ms : List Member) → ((m : Member) → (f m).conn ≡ m.conn) → conns_of (on conn f ms) ≡
+    conns_of ms
 on_conns conn f [] keeps = refl
 on_conns conn f (m ∷ ms) keeps = ap₂ (λ (x : ℕ) (xs : List ℕ). x ∷ xs) (on_one (is_on conn m) f m keeps) (on_conns conn f ms keeps)
 
@@ -84,7 +85,8 @@ pairs_on R Q f n x ms [] rising there so here p = absurd there
 pairs_on R Q f n x [] (k ∷ ns) rising there so here p = absurd p
 pairs_on R Q f n x (m ∷ ms) (k ∷ ns) rising (inl own) so here p =
     let at : x.conn ≤ k.conn = omega (arith, ap (λ (y : Member). y.conn) own) in (
-      pairs_on_head R Q (is_on x.conn k) f m k (λ is. subst (λ (y : Member). Q m (f y)) (sym own) (here m (subst (R m) own p.0))) p.0 (so m k),
+      pairs_on_head R Q (is_on x.conn k) f m k (λ is. subst (λ (y : Member). Q m (f y)) (sym own) (here m (subst (R m) own p.0))) p.0 (so m
+          k),
       subst (Pairs Q ms) (sym (none_below k.conn x.conn f ns rising.1 at)) (pairs_so R Q ms ns so p.1),
     )
 pairs_on R Q f n x (m ∷ ms) (k ∷ ns) rising (inr later) so here p =

@@ -1,15 +1,19 @@
 -- The parts of a tick, one behind the other.
-use Rattle.std.proofs.Common.{◌≡◌, ℕ, ◌+◌, ◌<◌, List, [], ◌∷◌, ◌++◌, refl, sym, subst, ap, ap₂, ◌∙◌, Bool, true, false, arith, append_assoc, Option, None}
-use Rattle.std.specs.Prelude.{◌==◌, ◌%◌, nat_lt, length}
+use Rattle.std.proofs.Common.{◌≡◌, ℕ, ◌+◌, List, [], ◌∷◌, ◌++◌, refl, sym, subst, ap, ap₂, ◌∙◌, Bool, true, false, arith, append_assoc}
+use Rattle.std.proofs.Common.{Option, None}
+use Rattle.std.specs.Prelude.{◌==◌, ◌||◌, ◌%◌, nat_lt, length}
+use Rattle.std.specs.List.{AllByRecursion}
+use Rattle.std.proofs.Common.{inl, Some, append-nil}
 use Rattle.tt_world.specs.declared.setup.Setup.{Setup}
 use Rattle.tt_world.specs.declared.command.Entry.{Entry}
-use Rattle.tt_rules.specs.Companies.{living}
 use Rattle.tt_log.specs.declared.deed.What.TheVariants.{ToAdmin, Sync}
 use Rattle.tt_log.specs.declared.report.Report.TheVariants.{CompanyNews}
 use Rattle.tt_log.specs.Admin.{company_updates}
-use Rattle.tt_log.specs.Member.{Member}
+use Rattle.tt_rules.specs.declared.status.Status.TheVariants.{MapWait}
+use Rattle.tt_log.specs.Member.{Member, is_in}
+use Rattle.tt_log.specs.Downloads.{IsMember, IsQueue, is_downloading}
 use Rattle.tt_log.specs.Origin.{Origin, at_frame}
-use Rattle.tt_log.specs.Table.{Table, playing, living_in, world_of, with_member}
+use Rattle.tt_log.specs.Table.{Table, is_on, member_of, playing, living_in}
 use Rattle.tt_log.specs.Deed.{Deed, ◌▹◌, where_, tells_what}
 use Rattle.tt_log.specs.Watching.{sees_frame}
 use Rattle.tt_log.specs.Tick.{stamped, frame_runs, foundings, all_moved, founders_moved, synced, mapped, timed, left_of}
@@ -20,21 +24,25 @@ use Rattle.tt_members.specs.declared.step.Audience.TheVariants.{Several, Watchin
 use Rattle.tt_members.specs.Crew.{Crew, Rest, origin_at}
 use Rattle.tt_members.specs.Rules.{Rise}
 use Rattle.tt_members.specs.Planned.{Planned}
-use Rattle.tt_members.specs.Edits.{members_after, queue_after}
+use Rattle.tt_members.specs.Edits.{members_after}
 use Rattle.tt_members.specs.Steps.{steps_in, stamped_in, says}
 use Rattle.tt_members.specs.Leaving.{playing_in}
 use Rattle.tt_members.specs.Done.{done, Does}
 use Rattle.tt_join.specs.declared.input.Now.{Now}
 use Rattle.tt_join.specs.declared.input.Input.TheVariants.{Tick}
-use Rattle.tt_join.specs.Inputs.{members_follow, members_ticked, IsAt}
-use Rattle.tt_join.specs.Ticking.{step_if, stamps_of, founders_of, founding_steps, founding_edits, syncing, loader, loading_steps, loading_edits}
-use Rattle.tt_join.specs.Ticking.{Limiting, limits_of, adds, beating_by, beating, with_founders, with_sync, with_pieces, with_ends, ticking}
-use Rattle.tt_join.proofs.Behind.{edited, Tells, IsDoing, done_more, more}
-use Rattle.tt_join.proofs.Like.{AreLike, AreQuiet, like_playing}
+use Rattle.tt_join.specs.Inputs.{members_ticked, IsAt, Plans}
+use Rattle.tt_join.specs.Ticking.{step_if, stamps_of, founders_of, founding_steps, founding_edits, syncing, loader, loading_steps}
+use Rattle.tt_join.specs.Ticking.{loading_edits}
+use Rattle.tt_join.specs.Ticking.{member_by, moving_edits, began, limiting, limiting_at}
+use Rattle.tt_join.specs.Ticking.{Limiting, ends_of, adds, beating_by, beating, with_founders, with_sync, with_pieces, ticking}
+use Rattle.tt_members.proofs.Behind.{edited, Tells}
+use Rattle.tt_join.proofs.Added.{IsDoing, done_more, more}
+use Rattle.tt_join.proofs.Like.{IsQuiet, AreQuiet, BothFound, both_found, like_playing, quiet_playing}
+use Rattle.tt_join.proofs.Limited.{began_append, all_end, limiting_silent, quiet_limiting, limiting_behind}
 use Rattle.tt_join.proofs.Beating.{table_of, IsBehind, beats, behind_beat}
-use Rattle.tt_join.proofs.Founding.{founded_at}
+use Rattle.tt_join.proofs.Founded.{founded_at}
 use Rattle.tt_join.proofs.Moving.{all_tell, founding_like, founding_conns, founding_queue, founding_silent}
-use Rattle.tt_join.proofs.Loading.{map_tells, map_stays, map_rises, map_queues, loading_silent}
+use Rattle.tt_join.proofs.Loaded.{map_tells, map_stays, map_rises, map_queues, loading_silent}
 use Rattle.tt_join.proofs.Placed.{conns_of}
 
 -- ---- each part, at a table behind the frame
@@ -114,7 +122,8 @@ pub record IsQuietBehind (setup : Setup) (crew : Crew) (now : Now) (t : Table) :
 behind_pieces : (setup : Setup) (crew : Crew) (now : Now) (r : Rest) (t : Table) → IsBehind setup crew now r t
     → IsQuietBehind setup crew now (edited (loading_edits now.left (loader crew.queue crew.members)) t)
 behind_pieces setup crew now r t behind = record {
-  quiet = subst (λ (q : List ℕ). AreQuiet setup (now.frame + 1) crew.members (members_after (loading_edits now.left (loader q crew.members)) t.members))
+  quiet = subst (λ (q : List ℕ). AreQuiet setup (now.frame + 1) crew.members (members_after (loading_edits now.left (loader q
+      crew.members)) t.members))
       behind.queue (map_stays setup (now.frame + 1) now.left crew.members t behind.rise behind.like);
   rise = map_rises now.left crew.queue crew.members t.members behind.rise;
   queue = map_queues now.left (loader crew.queue crew.members) t.queue ∙ behind.queue;
@@ -134,8 +143,8 @@ nobody_arrives false setup crew now = refl
 -- the ends of a tick, and that they stamp nothing
 pub record IsEnding (setup : Setup) (crew : Crew) (now : Now) (r : Rest) : Type 0 where
   pub tells : (t : Table) → IsQuietBehind setup crew now t → Tells (timed (origin_at setup r))
-      (limits_of setup (now.frame + 1) crew.members crew.queue).edits (limits_of setup (now.frame + 1) crew.members crew.queue).steps t
-  pub silent : stamped_in (limits_of setup (now.frame + 1) crew.members crew.queue).steps ≡ []
+      (ends_of setup (now.frame + 1) crew.members crew.queue).edits (ends_of setup (now.frame + 1) crew.members crew.queue).steps t
+  pub silent : stamped_in (ends_of setup (now.frame + 1) crew.members crew.queue).steps ≡ []
 
 -- the plan up to a part, what was done by then, and how the table stands
 record IsFar (setup : Setup) (crew : Crew) (now : Now) (r : Rest) (p : Planned) (d : Deed) : Type 0 where
@@ -198,14 +207,18 @@ far_sync setup crew now r p d far =
       behind = subst (IsBehind setup crew now r) (sym (done_more p [] ss t far.asks far.arrives silent)) far.behind;
     }
 
+-- the ends as they are by themselves
+abbrev pub only_ends : Setup → Crew → Now → Planned → Planned
+only_ends setup crew now p = let l = ends_of setup (now.frame + 1) crew.members crew.queue in adds l.edits l.steps p
+
 -- pieces and ends
 ends_whole : (setup : Setup) (crew : Crew) (now : Now) (r : Rest) (p : Planned) (d : Deed) (left : List ℕ) → length left ≡ now.left
     → IsEnding setup crew now r → IsFar setup crew now r p d
-    → IsDoing (table_of crew now r) (with_ends setup crew now (with_pieces crew now p)) (d ▹ mapped left ▹ timed (origin_at setup r))
+    → IsDoing (table_of crew now r) (only_ends setup crew now (with_pieces crew now p)) (d ▹ mapped left ▹ timed (origin_at setup r))
 ends_whole setup crew now r p d left many ending far =
     let t : Table = table_of crew now r in
     let x : Option Member = loader crew.queue crew.members in
-    let l : Limiting = limits_of setup (now.frame + 1) crew.members crew.queue in
+    let l : Limiting = ends_of setup (now.frame + 1) crew.members crew.queue in
     let pieces = more t p d (mapped left) (loading_edits now.left x) (loading_steps x) far.asks far.arrives (loading_silent x) far.doing
     (pieces_tell setup crew now r (done p t) left many far.behind) in
     let quiet = subst (IsQuietBehind setup crew now)
@@ -214,9 +227,14 @@ ends_whole setup crew now r p d left many ending far =
     more t (with_pieces crew now p) (d ▹ mapped left) (timed (origin_at setup r)) l.edits l.steps far.asks far.arrives ending.silent pieces
     (ending.tells (done (with_pieces crew now p) t) quiet)
 
+-- all parts but the ends
+abbrev pub without_ends : Setup → Crew → Now → Planned
+without_ends setup crew now = with_pieces crew now (with_sync setup crew now (with_founders crew now (beating setup crew now)))
+
 -- a tick is what its plan does
-pub ticks : (setup : Setup) (crew : Crew) (now : Now) (r : Rest) → Rise crew.members → IsAt setup crew now Tick r → IsEnding setup crew now r
-    → Does setup crew now.frame now.top r members_ticked (ticking setup crew now)
+pub ticks : (setup : Setup) (crew : Crew) (now : Now) (r : Rest) → Rise crew.members → IsAt setup crew now Tick r → IsEnding setup crew now
+    r
+    → Does setup crew now.frame now.top r members_ticked (only_ends setup crew now (without_ends setup crew now))
 ticks setup crew now r rise at ending =
     let t : Table = table_of crew now r in
     let o : Origin = origin_at setup r in
@@ -225,7 +243,8 @@ ticks setup crew now r rise at ending =
     let synced_behind : Table → Deed = λ u. moved u ▹ synced o in
     let left : List ℕ = left_of o t in
     let p : Planned = with_founders crew now (beating setup crew now) in
-    let far = far_sync setup crew now r p (d ▹ moved) (far_founders setup crew now r (beating setup crew now) d at (far_frame setup crew now r rise)) in
+    let far = far_sync setup crew now r p (d ▹ moved) (far_founders setup crew now r (beating setup crew now) d at (far_frame setup crew
+    now r rise)) in
     let whole = ends_whole setup crew now r (with_sync setup crew now p) (d ▹ moved ▹ synced o) left at.left ending far in
     record {
       told = whole.told ∙ told_as_one d moved (synced o) (mapped left) (timed o);
@@ -237,5 +256,120 @@ ticks setup crew now r rise at ending =
         let x : Deed = a d.table in
         let y : Deed = b x.table in
         let z : Deed = c y.table in
-        ap (λ ss. ss ++ (e z.table).told) (ap (λ ss. ss ++ z.told) (append_assoc d.told x.told y.told) ∙ append_assoc d.told (x.told ++ y.told) z.told)
+        ap (λ ss. ss ++ (e z.table).told) (ap (λ ss. ss ++ z.told) (append_assoc d.told x.told y.told) ∙ append_assoc d.told (x.told ++
+        y.told) z.told)
         ∙ append_assoc d.told (x.told ++ y.told ++ z.told) (e z.table).told
+
+-- ---- the ends
+
+member_quiet : (setup : Setup) (frame : ℕ) (x y : Option Member) (test : Member → Bool) → ((m n : Member) → IsQuiet setup frame m n → test
+    n ≡ test m)
+    → BothFound (IsQuiet setup frame) x y → (m : Member) × (x ≡ Some m) × (test m ≡ true) → (n : Member) × (y ≡ Some n) × (test n ≡ true)
+member_quiet setup frame None None test same both is = absurd cc
+member_quiet setup frame None (Some n) test same both is = absurd both
+member_quiet setup frame (Some m) None test same both is = absurd both
+member_quiet setup frame (Some m) (Some n) test same both is =
+    let own : is.0 ≡ m = cc in
+    (n, refl, same m n both ∙ ap test (sym own) ∙ is.2)
+
+is_member_quiet : (setup : Setup) (frame c : ℕ) (test : Member → Bool) (t u : Table)
+    → ((m n : Member) → IsQuiet setup frame m n → test n ≡ test m) → AreQuiet setup frame t.members u.members → IsMember test t c →
+    IsMember test u c
+is_member_quiet setup frame c test t u same quiet is =
+    member_quiet setup frame (member_of t c) (member_of u c) test same
+    (both_found (IsQuiet setup frame) (is_on c) t.members u.members (λ m n (k : IsQuiet setup frame m n). ap (λ (x : ℕ). x == c) k.conn)
+    quiet) is
+
+all_waiting : (setup : Setup) (frame : ℕ) (cs : List ℕ) (t u : Table) → AreQuiet setup frame t.members u.members
+    → AllByRecursion (IsMember (is_in MapWait) t) cs → AllByRecursion (IsMember (is_in MapWait) u) cs
+all_waiting setup frame [] t u quiet all = tt
+all_waiting setup frame (c ∷ cs) t u quiet all = (
+  is_member_quiet setup frame c (is_in MapWait) t u (λ m n (k : IsQuiet setup frame m n). k.waiting) quiet all.0,
+  all_waiting setup frame cs t u quiet all.1,
+)
+
+-- the queue stands behind quiet changes as it did
+queue_quiet : (setup : Setup) (frame : ℕ) (queue : List ℕ) (t u : Table) → AreQuiet setup frame t.members u.members → IsQueue t queue →
+    IsQueue u queue
+queue_quiet setup frame [] t u quiet q = tt
+queue_quiet setup frame (c ∷ cs) t u quiet q = (
+  is_member_quiet setup frame c is_downloading t u (λ m n (k : IsQuiet setup frame m n). k.downloading) quiet q.0,
+  all_waiting setup frame cs t u quiet q.1,
+)
+
+-- the ends of the members as they were are those of the members as they are
+same_ends : (setup : Setup) (frame : ℕ) (ms ns : List Member) (queue : List ℕ) → AreQuiet setup frame ms ns
+    → ends_of setup frame ns queue ≡ ends_of setup frame ms queue
+same_ends setup frame ms ns queue quiet =
+    ap (λ (plays : List ℕ). limiting setup frame ns (limiting_at [] [] plays queue)) (quiet_playing setup frame ms ns quiet)
+    ∙ quiet_limiting setup frame ms ns (limiting_at [] [] (playing_in ms) queue) quiet
+
+ends_tell : (setup : Setup) (crew : Crew) (now : Now) (r : Rest) (t : Table) → IsAt setup crew now Tick r → IsQuietBehind setup crew now t
+    → Tells (timed (origin_at setup r)) (ends_of setup (now.frame + 1) crew.members crew.queue).edits
+    (ends_of setup (now.frame + 1) crew.members crew.queue).steps t
+ends_tell setup crew now r t at q =
+    let frame : ℕ = now.frame + 1 in
+    let queued = subst (IsQueue t) (sym q.queue) (queue_quiet setup frame crew.queue (table_of crew now r) t q.quiet at.queued) in
+    let all = all_end (origin_at setup r) t q.rise (inl queued) in
+    let same : ends_of setup t.frame t.members t.queue ≡ ends_of setup frame crew.members crew.queue =
+    ap₂ (λ (f : ℕ) (cs : List ℕ). ends_of setup f t.members cs) q.frame q.queue ∙ same_ends setup frame crew.members t.members crew.queue
+    q.quiet in
+    subst (λ (l : Limiting). Tells (timed (origin_at setup r)) l.edits l.steps t) same all
+
+pub is_ending : (setup : Setup) (crew : Crew) (now : Now) (r : Rest) → IsAt setup crew now Tick r → IsEnding setup crew now r
+is_ending setup crew now r at = record {
+  tells = λ t q. ends_tell setup crew now r t at q;
+  silent = limiting_silent setup (now.frame + 1) crew.members (limiting_at [] [] (playing_in crew.members) crew.queue);
+}
+
+-- ---- they are the same behind the other parts
+
+moving_begins : (c company : ℕ) (x : Option Member) → began c (moving_edits company x) ≡ false
+moving_begins c company None = refl
+moving_begins c company (Some m) = refl
+
+no_begin_append : (c : ℕ) (es fs : List Edit) → began c es ≡ false → began c fs ≡ false → began c (es ++ fs) ≡ false
+no_begin_append c es fs one two = began_append c es fs ∙ ap₂ (λ (a b : Bool). a || b) one two
+
+founding_begins : (c : ℕ) (ms : List Member) (fs : List (ℕ × ℕ)) → began c (founding_edits ms fs) ≡ false
+founding_begins c ms [] = refl
+founding_begins c ms (f ∷ fs) = no_begin_append c (moving_edits f.1 (member_by f.0 ms)) (founding_edits ms fs)
+    (moving_begins c f.1 (member_by f.0 ms)) (founding_begins c ms fs)
+
+loading_begins : (c left : ℕ) (x : Option Member) → began c (loading_edits left x) ≡ false
+loading_begins c left None = refl
+loading_begins c left (Some m) = refl
+
+beating_begins : (b : Bool) (c : ℕ) (setup : Setup) (crew : Crew) (now : Now) → began c (beating_by b setup crew now).edits ≡ false
+beating_begins true c setup crew now = refl
+beating_begins false c setup crew now = refl
+
+none_begins : (setup : Setup) (crew : Crew) (now : Now) (c : ℕ) → began c (without_ends setup crew now).edits ≡ false
+none_begins setup crew now c =
+    let first : List Edit = (beating setup crew now).edits in
+    let moved : List Edit = founding_edits crew.members (founders_of crew now) in
+    let loads : List Edit = loading_edits now.left (loader crew.queue crew.members) in
+    no_begin_append c (((first ++ []) ++ moved) ++ []) loads
+    (no_begin_append c ((first ++ []) ++ moved) []
+    (no_begin_append c (first ++ []) moved
+    (no_begin_append c first [] (beating_begins (nat_lt now.top (now.frame + 1)) c setup crew now) refl)
+    (founding_begins c crew.members (founders_of crew now))) refl)
+    (loading_begins c now.left (loader crew.queue crew.members))
+
+ends_behind : (setup : Setup) (crew : Crew) (now : Now) → ticking setup crew now ≡ only_ends setup crew now (without_ends setup crew now)
+ends_behind setup crew now =
+    let p : Planned = without_ends setup crew now in
+    let l : Limiting = limiting_at [] [] (playing_in crew.members) crew.queue in
+    ap₂ (λ (es : List Edit) (ss : List Step). record p {
+      edits = (limiting setup (now.frame + 1) crew.members (limiting_at es ss (playing_in crew.members) crew.queue)).edits;
+      steps = (limiting setup (now.frame + 1) crew.members (limiting_at es ss (playing_in crew.members) crew.queue)).steps;
+    }) (sym (append-nil p.edits)) (sym (append-nil p.steps))
+    ∙ ap (λ (k : Limiting). record p { edits = k.edits; steps = k.steps })
+    (limiting_behind setup (now.frame + 1) crew.members p.edits p.steps l (none_begins setup crew now))
+
+-- the plan of a tick does what the rule does
+pub tick_plans : (setup : Setup) (crew : Crew) (now : Now) → Rise crew.members → Plans setup crew now Tick (ticking setup crew now)
+tick_plans setup crew now rise = λ r at.
+    let does = ticks setup crew now r rise at (is_ending setup crew now r at) in
+    let same = subst (Does setup crew now.frame now.top r members_ticked) (sym (ends_behind setup crew now)) does in
+    record { told = same.told; table = same.table }

@@ -3,3 +3,5 @@ pub mod Ticking
 pub mod Joining
 pub mod Members
 pub mod Entering
+pub mod Playing
+pub mod Planning

@@ -6,8 +6,18 @@
 #![tactic(auto)]
 
 mod entering;
+mod founding;
 mod input;
+mod joining;
+mod limits;
+mod loading;
 mod members;
+mod permitting;
+mod playing;
+mod refusing;
+mod scene;
+mod stamping;
+mod ticking;
 
 pub use input::{Input, Now};
 pub use members::Members;

@@ -1,24 +1,25 @@
 -- The pieces of a map: how many are told in a tick, and how the member that downloads stands behind them.
-use Rattle.std.proofs.Common.{◌≡◌, ℕ, ◌+◌, ◌-◌, ◌*◌, ◌/◌, ◌≤◌, ◌<◌, zero, suc, List, [], ◌∷◌, ◌++◌, refl, sym, subst, ap, ap₂, ◌∙◌, true, false, Bool}
+use Rattle.std.proofs.Common.{◌≡◌, ℕ, ◌+◌, ◌-◌, ◌*◌, ◌/◌, ◌<◌, zero, suc, List, [], ◌∷◌, refl, sym, subst, ap, ap₂, ◌∙◌, true}
+use Rattle.std.proofs.Common.{false, Bool}
 use Rattle.std.proofs.Common.{Option, Some, None, arith, length-drop}
-use Rattle.std.specs.Prelude.{◌==◌, ◌||◌, not, nat_lt, min, map, filter, find, cond, length, take, drop}
+use Rattle.std.specs.Prelude.{◌==◌, ◌||◌, not, nat_lt, min, find, cond, length, drop}
 use Rattle.tt_world.specs.declared.setup.Setup.{Setup}
 use Rattle.tt_rules.specs.declared.status.Status.{Status}
 use Rattle.tt_rules.specs.declared.status.Status.TheVariants.{Inactive, NewgrfsCheck, AuthGame, AuthCompany, Authorized, MapWait, Map}
 use Rattle.tt_rules.specs.declared.status.Status.TheVariants.{DoneMap, PreActive, Active}
 use Rattle.tt_rules.specs.Statuses as status
-use Rattle.tt_log.specs.Member.{Member, is_in, is_playing, is_welcomed}
+use Rattle.tt_log.specs.Member.{Member, is_in}
 use Rattle.tt_log.specs.Table.{Table, is_on, member_of, with_member, if_loading, first_loading, downloader}
 use Rattle.tt_log.specs.Deed.{Deed, ◌▹◌, where_, where_some, tells_what}
 use Rattle.tt_log.specs.declared.deed.What.TheVariants.{MapPieces}
-use Rattle.tt_log.specs.Tick.{pieces_of, finishes_map, next_pieces, mapped, late, late_in}
+use Rattle.tt_log.specs.Tick.{pieces_of, finishes_map, next_pieces, mapped, late_in}
 use Rattle.tt_log.specs.History.{AreRising}
 use Rattle.tt_log.proofs.Lists.{Among, found-among}
 use Rattle.tt_members.specs.declared.step.Audience.TheVariants.{One}
 use Rattle.tt_members.specs.Edits.{on, loaded, members_after, queue_after}
 use Rattle.tt_members.specs.Steps.{steps_in, stamped_in, says}
 use Rattle.tt_join.specs.Ticking.{pieces_for, status_for, loader, loading_steps, loading_edits}
-use Rattle.tt_join.proofs.Behind.{edited, Tells}
+use Rattle.tt_members.proofs.Behind.{Tells}
 use Rattle.tt_join.proofs.Like.{IsLike, AreLike, IsQuiet, AreQuiet, BothFound, both_found, pairs_so, like_quiet, like_late, same_late}
 use Rattle.tt_join.proofs.Placed.{conns_of, on_conns, put_among, put_twice, pairs_on}
 
@@ -97,7 +98,10 @@ is_loading (conn ∷ conns) t n found = loading_of conn (member_of t conn) t n r
 
 -- what next_pieces leaves, where bytes are left behind it or not
 pieces_by : (b : Bool) (pieces : ℕ) (n : Member) (t : Table) → AreRising 0 (conns_of t.members) → Among n t.members
-    → tells_what (n.conn ∷ []) MapPieces (with_member (record n { pieces = pieces }) t) ▹ where_ (not b) (finishes_map (record n { pieces = pieces }))
+    → tells_what (n.conn ∷ []) MapPieces (with_member (record n { pieces = pieces }) t) ▹ where_ (not b) (finishes_map (record n {
+      pieces =
+          pieces;
+    }))
     ≡ record {
       table = record t { members = on n.conn (loaded pieces (cond b n.status DoneMap)) t.members };
       told = steps_in t.admins (says (One n.conn) MapPieces ∷ []);
@@ -120,7 +124,8 @@ pieces_are left n t rising there =
     ▹ where_ (not (nat_lt (4 * 1400) (length left))) (finishes_map (record n { pieces = n.pieces + k }))) (few_pieces 4 left)
     ∙ pieces_by (nat_lt (4 * 1400) (length left)) (n.pieces + pieces_for (length left)) n t rising there
 
-loads_by : (setup : Setup) (frame : ℕ) (left : List ℕ) (x y : Option Member) (ms : List Member) (t : Table) → AreRising 0 (conns_of t.members)
+loads_by : (setup : Setup) (frame : ℕ) (left : List ℕ) (x y : Option Member) (ms : List Member) (t : Table) → AreRising 0 (conns_of
+    t.members)
     → ((n : Member) → y ≡ Some n → IsLoading t n) → BothFound (IsLike setup frame) x y
     → Tells (where_some y (next_pieces left)) (loading_edits (length left) x) (loading_steps x) t
 loads_by setup frame left None None ms t rising there same = record { told = refl; table = refl }
@@ -130,9 +135,15 @@ loads_by setup frame left (Some m) (Some n) ms t rising there same =
     let are = pieces_are left n t rising (there n refl).there in
     record {
       told = ap (λ (conn : ℕ). steps_in t.admins (says (One conn) MapPieces ∷ [])) (sym same.conn) ∙ ap (λ (d : Deed). d.told) (sym are);
-      table = ap₂ (λ (conn pieces : ℕ). record t { members = on conn (loaded (pieces + pieces_for (length left)) (status_for (length left) m.status)) t.members })
+      table = ap₂ (λ (conn pieces : ℕ). record t {
+        members = on conn (loaded (pieces + pieces_for (length left)) (status_for (length left)
+            m.status)) t.members;
+      })
           (sym same.conn) (sym same.pieces)
-          ∙ ap (λ (s : Status). record t { members = on n.conn (loaded (n.pieces + pieces_for (length left)) (status_for (length left) s)) t.members })
+          ∙ ap (λ (s : Status). record t {
+            members = on n.conn (loaded (n.pieces + pieces_for (length left)) (status_for (length left) s))
+                t.members;
+          })
           (sym same.status)
           ∙ ap (λ (d : Deed). d.table) (sym are);
     }
@@ -160,6 +171,7 @@ quiet_done true setup frame pieces m n is same = record {
   welcomed = ap status.is_welcomed same.status;
   playing = ap status.is_playing same.status;
   waiting = ap (status.is_at MapWait) same.status;
+  downloading = ap (λ (s : Status). status.is_at Map s || status.is_at DoneMap s) same.status;
   late = same_late n.status setup frame n (loaded pieces n.status n) refl refl refl ∙ like_late setup frame m n same;
 }
 quiet_done false setup frame pieces m n is same =
@@ -170,6 +182,7 @@ quiet_done false setup frame pieces m n is same =
       welcomed = sym (ap status.is_welcomed was);
       playing = sym (ap status.is_playing was);
       waiting = sym (ap (status.is_at MapWait) was);
+      downloading = sym (ap (λ (s : Status). status.is_at Map s || status.is_at DoneMap s) was);
       late = sym (ap (λ (s : Status). late_in s setup frame n) is) ∙ like_late setup frame m n same;
     }
 
@@ -183,14 +196,16 @@ stays_by setup frame left (Some m) (Some n) ms t rising there same like =
     let pieces : ℕ = m.pieces + pieces_for left in
     let after : AreQuiet setup frame ms (on n.conn (loaded pieces (status_for left n.status)) t.members) =
     pairs_on (IsLike setup frame) (IsQuiet setup frame) (loaded pieces (status_for left n.status)) 0 n ms t.members rising
-    (there n refl).there (like_quiet setup frame) (λ k l. quiet_done (nat_lt (4 * 1400) left) setup frame pieces k n (there n refl).status l) like in
+    (there n refl).there (like_quiet setup frame) (λ k l. quiet_done (nat_lt (4 * 1400) left) setup frame pieces k n (there n refl).status
+    l) like in
     subst (λ (s : Status). AreQuiet setup frame ms (on m.conn (loaded pieces (status_for left s)) t.members)) same.status
     (subst (λ (conn : ℕ). AreQuiet setup frame ms (on conn (loaded pieces (status_for left n.status)) t.members)) same.conn after)
 
 -- the members behind the pieces are as quiet as those before
 pub map_stays : (setup : Setup) (frame left : ℕ) (ms : List Member) (t : Table) → AreRising 0 (conns_of t.members)
     → AreLike setup frame ms t.members → AreQuiet setup frame ms (members_after (loading_edits left (loader t.queue ms)) t.members)
-map_stays setup frame left ms t rising like = stays_by setup frame left (loader t.queue ms) (downloader t) ms t rising (is_loading t.queue t)
+map_stays setup frame left ms t rising like = stays_by setup frame left (loader t.queue ms) (downloader t) ms t rising (is_loading t.queue
+    t)
     (both_loaders setup frame t.queue ms t like) like
 
 conns_by : (left : ℕ) (x : Option Member) (ns : List Member) → conns_of (members_after (loading_edits left x) ns) ≡ conns_of ns

@@ -1,10 +1,9 @@
 -- Founders: who has ordered the companies that a frame founds, and what they are told.
-use Rattle.std.proofs.Common.{◌≡◌, ℕ, ◌+◌, ◌<◌, ◌≤◌, List, [], ◌∷◌, ◌++◌, refl, sym, subst, ap, ap₂, ◌∙◌, true, false, Bool, Option, Some, None}
+use Rattle.std.proofs.Common.{◌≡◌, ℕ, ◌<◌, List, [], ◌∷◌, ◌++◌, refl, sym, ap, ◌∙◌, true, false, Bool}
 use Rattle.std.proofs.Common.{arith, append_assoc}
-use Rattle.std.specs.Prelude.{◌==◌, nat_lt, map, filter, find, cond, if◌then◌else◌}
+use Rattle.std.specs.Prelude.{◌==◌, nat_lt, map, filter, cond, if◌then◌else◌}
 use Rattle.std.proofs.lemmas.List.{map-append}
 use Rattle.std.proofs.lemmas.List.Elements.{filter-append}
-use Rattle.tt_world.specs.declared.setup.Setup.{Setup}
 use Rattle.tt_world.specs.declared.command.Code.{Code}
 use Rattle.tt_world.specs.declared.command.Code.TheVariants.{NewCompany}
 use Rattle.tt_world.specs.declared.command.Entry.{Entry}
@@ -48,7 +47,8 @@ passed_by NewCompany e frame fs is =
     ap (λ (b : Bool). cond b ((e.frame, e.command.number) ∷ for_frame frame fs) (for_frame frame fs)) (sym is)
 passed_by code e frame fs is = refl
 
-at_head : (b : Bool) (e : Entry) (frame : ℕ) (xs es : List Entry) → (e.frame == frame) ≡ b → founders_in xs ≡ for_frame frame (founders_in es)
+at_head : (b : Bool) (e : Entry) (frame : ℕ) (xs es : List Entry) → (e.frame == frame) ≡ b → founders_in xs ≡ for_frame frame (founders_in
+    es)
     → founders_in (if b then e ∷ xs else xs) ≡ for_frame frame (founder_by e.command.code e ++ founders_in es)
 at_head true e frame xs es is later = ap (λ (fs : List (ℕ × ℕ)). founder_by e.command.code e ++ fs) later
     ∙ kept_by e.command.code e frame (founders_in es) is
@@ -81,7 +81,7 @@ founders_append [] ys = refl
 founders_append (e ∷ xs) ys = ap (λ (fs : List (ℕ × ℕ)). founder_by e.command.code e ++ fs) (founders_append xs ys)
     ∙ sym (append_assoc (founder_by e.command.code e) (founders_in xs) (founders_in ys))
 
-clients_append : (frame : ℕ) (fs gs : List (ℕ × ℕ)) → clients_at frame (fs ++ gs) ≡ clients_at frame fs ++ clients_at frame gs
+pub clients_append : (frame : ℕ) (fs gs : List (ℕ × ℕ)) → clients_at frame (fs ++ gs) ≡ clients_at frame fs ++ clients_at frame gs
 clients_append frame fs gs = ap clients (filter-append (λ (f : ℕ × ℕ). f.0 == frame) fs gs)
     ∙ map-append (λ (f : ℕ × ℕ). f.1) (for_frame frame fs) (for_frame frame gs)
 
