@@ -63,7 +63,7 @@ move_does setup crew frame top r m company rise is =
     let x : Member = moved company m in
     let found = with_found 0 m.conn (moved company) m t rise is refl in
     let plays : playing (with_member x t) ≡ playing_in crew.members = ap playing found
-        ∙ same-playing m.conn (moved company) crew.members (λ k. refl) (λ k. refl) in
+    ∙ same-playing m.conn (moved company) crew.members (λ k. refl) (λ k. refl) in
     record {
       told = ap (λ cs. steps_in r.admins (says_several cs (ServerMove m.client company)
           ∷ shows client_updates (ServerClientUpdate m.client m.name company) ∷ [])) (sym plays);
