@@ -20,7 +20,8 @@ use Rattle.tt_members.specs.Leaving.{playing_in}
 use Rattle.tt_members.specs.Done.{done}
 use Rattle.tt_join.specs.declared.input.Now.{Now}
 use Rattle.tt_join.specs.Ticking.{step_if, stamps_of, stamping, token_told, permitting, beating_by, beating}
-use Rattle.tt_join.proofs.Behind.{stamped_append, IsDoing}
+use Rattle.tt_members.proofs.Behind.{stamped_append}
+use Rattle.tt_join.proofs.Added.{IsDoing}
 use Rattle.tt_join.proofs.Stamped.{entries_told, stamping_stamps}
 use Rattle.tt_join.proofs.Like.{IsLike, AreLike, own_like, pairs_own, pairs_map, like_playing}
 use Rattle.tt_join.proofs.Permitted.{frames_are, all_permitted_like, drawn_permitted, drawn_words, drawn_conns, permitted_conns}

@@ -20,19 +20,9 @@ use Rattle.tt_members.specs.Edits.{on, moved, members_after, queue_after}
 use Rattle.tt_members.specs.Steps.{step_in, steps_in, stamped_in, says_several, shows}
 use Rattle.tt_members.specs.Leaving.{playing_in}
 use Rattle.tt_join.specs.Ticking.{member_by, moving_steps, moving_edits, founding_steps, founding_edits}
-use Rattle.tt_join.proofs.Behind.{edited, members_append, queue_append, edited_append, stamped_append, Tells}
+use Rattle.tt_members.proofs.Behind.{both, edited, members_append, queue_append, edited_append, stamped_append, Tells}
 use Rattle.tt_join.proofs.Like.{IsLike, AreLike, BothFound, both_found, pairs_map, like_playing}
 use Rattle.tt_join.proofs.Placed.{conns_of, on_conns, put_among}
-
--- ---- two rules at a table
-
-pub both : (one two : Table → Deed) (es fs : List Edit) (ss us : List Step) (t : Table) → Tells one es ss t → Tells two fs us (edited es t)
-    → Tells (λ u. one u ▹ two) (es ++ fs) (ss ++ us) t
-both one two es fs ss us t first second = record {
-  told = map-append (step_in t.admins) ss us
-      ∙ ap₂ (λ (xs ys : List book.Step). xs ++ ys) first.told (second.told ∙ ap (λ (u : Table). (two u).told) first.table);
-  table = edited_append es fs t ∙ second.table ∙ ap (λ (u : Table). (two u).table) first.table;
-}
 
 -- ---- one founder
 

@@ -28,13 +28,14 @@ use Rattle.tt_join.specs.declared.input.Now.{Now}
 use Rattle.tt_join.specs.declared.input.Input.TheVariants.{Tick}
 use Rattle.tt_join.specs.Inputs.{members_follow, members_ticked, IsAt}
 use Rattle.tt_join.specs.Ticking.{step_if, stamps_of, founders_of, founding_steps, founding_edits, syncing, loader, loading_steps, loading_edits}
-use Rattle.tt_join.specs.Ticking.{Limiting, limits_of, adds, beating_by, beating, with_founders, with_sync, with_pieces, with_ends, ticking}
-use Rattle.tt_join.proofs.Behind.{edited, Tells, IsDoing, done_more, more}
+use Rattle.tt_join.specs.Ticking.{Limiting, ends_of, adds, beating_by, beating, with_founders, with_sync, with_pieces, with_ends, ticking}
+use Rattle.tt_members.proofs.Behind.{edited, Tells}
+use Rattle.tt_join.proofs.Added.{IsDoing, done_more, more}
 use Rattle.tt_join.proofs.Like.{AreLike, AreQuiet, like_playing}
 use Rattle.tt_join.proofs.Beating.{table_of, IsBehind, beats, behind_beat}
-use Rattle.tt_join.proofs.Founding.{founded_at}
+use Rattle.tt_join.proofs.Founded.{founded_at}
 use Rattle.tt_join.proofs.Moving.{all_tell, founding_like, founding_conns, founding_queue, founding_silent}
-use Rattle.tt_join.proofs.Loading.{map_tells, map_stays, map_rises, map_queues, loading_silent}
+use Rattle.tt_join.proofs.Loaded.{map_tells, map_stays, map_rises, map_queues, loading_silent}
 use Rattle.tt_join.proofs.Placed.{conns_of}
 
 -- ---- each part, at a table behind the frame
@@ -134,8 +135,8 @@ nobody_arrives false setup crew now = refl
 -- the ends of a tick, and that they stamp nothing
 pub record IsEnding (setup : Setup) (crew : Crew) (now : Now) (r : Rest) : Type 0 where
   pub tells : (t : Table) → IsQuietBehind setup crew now t → Tells (timed (origin_at setup r))
-      (limits_of setup (now.frame + 1) crew.members crew.queue).edits (limits_of setup (now.frame + 1) crew.members crew.queue).steps t
-  pub silent : stamped_in (limits_of setup (now.frame + 1) crew.members crew.queue).steps ≡ []
+      (ends_of setup (now.frame + 1) crew.members crew.queue).edits (ends_of setup (now.frame + 1) crew.members crew.queue).steps t
+  pub silent : stamped_in (ends_of setup (now.frame + 1) crew.members crew.queue).steps ≡ []
 
 -- the plan up to a part, what was done by then, and how the table stands
 record IsFar (setup : Setup) (crew : Crew) (now : Now) (r : Rest) (p : Planned) (d : Deed) : Type 0 where
@@ -198,14 +199,18 @@ far_sync setup crew now r p d far =
       behind = subst (IsBehind setup crew now r) (sym (done_more p [] ss t far.asks far.arrives silent)) far.behind;
     }
 
+-- the ends as they are by themselves
+abbrev pub only_ends : Setup → Crew → Now → Planned → Planned
+only_ends setup crew now p = let l = ends_of setup (now.frame + 1) crew.members crew.queue in adds l.edits l.steps p
+
 -- pieces and ends
 ends_whole : (setup : Setup) (crew : Crew) (now : Now) (r : Rest) (p : Planned) (d : Deed) (left : List ℕ) → length left ≡ now.left
     → IsEnding setup crew now r → IsFar setup crew now r p d
-    → IsDoing (table_of crew now r) (with_ends setup crew now (with_pieces crew now p)) (d ▹ mapped left ▹ timed (origin_at setup r))
+    → IsDoing (table_of crew now r) (only_ends setup crew now (with_pieces crew now p)) (d ▹ mapped left ▹ timed (origin_at setup r))
 ends_whole setup crew now r p d left many ending far =
     let t : Table = table_of crew now r in
     let x : Option Member = loader crew.queue crew.members in
-    let l : Limiting = limits_of setup (now.frame + 1) crew.members crew.queue in
+    let l : Limiting = ends_of setup (now.frame + 1) crew.members crew.queue in
     let pieces = more t p d (mapped left) (loading_edits now.left x) (loading_steps x) far.asks far.arrives (loading_silent x) far.doing
     (pieces_tell setup crew now r (done p t) left many far.behind) in
     let quiet = subst (IsQuietBehind setup crew now)
@@ -214,9 +219,13 @@ ends_whole setup crew now r p d left many ending far =
     more t (with_pieces crew now p) (d ▹ mapped left) (timed (origin_at setup r)) l.edits l.steps far.asks far.arrives ending.silent pieces
     (ending.tells (done (with_pieces crew now p) t) quiet)
 
+-- all parts but the ends
+abbrev pub without_ends : Setup → Crew → Now → Planned
+without_ends setup crew now = with_pieces crew now (with_sync setup crew now (with_founders crew now (beating setup crew now)))
+
 -- a tick is what its plan does
 pub ticks : (setup : Setup) (crew : Crew) (now : Now) (r : Rest) → Rise crew.members → IsAt setup crew now Tick r → IsEnding setup crew now r
-    → Does setup crew now.frame now.top r members_ticked (ticking setup crew now)
+    → Does setup crew now.frame now.top r members_ticked (only_ends setup crew now (without_ends setup crew now))
 ticks setup crew now r rise at ending =
     let t : Table = table_of crew now r in
     let o : Origin = origin_at setup r in

@@ -10,7 +10,8 @@ use Rattle.tt_rules.specs.Companies.{least_free}
 use Rattle.tt_rules.specs.declared.status.Status.{Status}
 use Rattle.tt_rules.specs.declared.status.Status.TheVariants.{DoneMap}
 use Rattle.tt_log.specs.declared.deed.What.TheVariants.{Stamp, ToAdmin, Sync, MapPieces}
-use Rattle.tt_log.specs.declared.report.Report.TheVariants.{CompanyNews}
+use Rattle.tt_log.specs.declared.report.Report.{Report}
+use Rattle.tt_log.specs.declared.report.Report.TheVariants.{Message, CompanyNews}
 use Rattle.tt_log.specs.Admin.{client_updates, company_updates, command_updates}
 use Rattle.tt_log.specs.Member.{Member, is_playing}
 use Rattle.tt_log.specs.Table.{is_on, if_loading}
@@ -24,7 +25,7 @@ use Rattle.tt_members.specs.Crew.{Crew, founders_in}
 use Rattle.tt_members.specs.Edits.{words_by, words_after, queue_after}
 use Rattle.tt_members.specs.declared.edit.Beat.{Beat}
 use Rattle.tt_members.specs.Planned.{Planned, nothing}
-use Rattle.tt_members.specs.Steps.{says, says_one, says_several, shows}
+use Rattle.tt_members.specs.Steps.{says, says_one, says_several}
 use Rattle.tt_members.specs.Leaving.{playing_in, but, left, ending}
 use Rattle.tt_join.specs.declared.input.Now.{Now}
 
@@ -39,12 +40,14 @@ step_if false s = []
 abbrev pub stamps_of : ℕ → Crew → List Entry
 stamps_of frame crew = map (own_entry frame) crew.own ++ flat_map (λ m. map (entry_of frame m) (take 2 m.waiting)) crew.members
 
+-- what admins are told of an entry
+abbrev pub log_of : Entry → Report
+log_of e = Message (ServerCmdLogging e.sender e.company (number_of e.command.code) e.frame)
+
 -- an entry is told to those that play, and to the admins that log commands
 abbrev pub stamping : List ℕ → List Entry → List Step
 stamping conns [] = []
-stamping conns (e ∷ es) = says (Several conns) (Stamp e)
-    ∷ shows command_updates (ServerCmdLogging e.sender e.company (number_of e.command.code) e.frame)
-    ∷ stamping conns es
+stamping conns (e ∷ es) = says (Several conns) (Stamp e) ∷ says (Watching command_updates) (ToAdmin (log_of e)) ∷ stamping conns es
 
 -- ---- the frame
 
@@ -74,11 +77,15 @@ assigned live (c ∷ cs) = founder_of (least_free live) c ++ assigned (living_wi
 abbrev pub member_by : ℕ → List Member → Option Member
 member_by client ms = find (λ m. m.client == client) ms
 
+-- what admins are told of a member that has a company
+abbrev pub update_of : ℕ → Member → Report
+update_of company m = Message (ServerClientUpdate m.client m.name company)
+
 -- it has the company, and all that play are told
 abbrev pub moving_steps : List ℕ → ℕ → Option Member → List Step
 moving_steps conns company None = []
 moving_steps conns company (Some m) = says_several conns (ServerMove m.client company)
-    ∷ shows client_updates (ServerClientUpdate m.client m.name company)
+    ∷ says (Watching client_updates) (ToAdmin (update_of company m))
     ∷ []
 
 abbrev pub moving_edits : ℕ → Option Member → List Edit
@@ -173,9 +180,13 @@ abbrev pub limiting : Setup → ℕ → List Member → Limiting → Limiting
 limiting setup frame [] l = l
 limiting setup frame (m ∷ ms) l = limiting setup frame ms (limited_by (limit_of setup frame l.edits m) frame m l)
 
--- the ends of a tick
-abbrev pub limits_of : Setup → ℕ → List Member → List ℕ → Limiting
-limits_of setup frame ms queue = limiting setup frame ms (record { edits = []; steps = []; plays = playing_in ms; waits = queue })
+-- the ends of a tick by themselves
+abbrev pub ends_of : Setup → ℕ → List Member → List ℕ → Limiting
+ends_of setup frame ms queue = limiting setup frame ms (record { edits = []; steps = []; plays = playing_in ms; waits = queue })
+
+-- and behind the other parts of a plan
+abbrev pub limits_of : Setup → ℕ → List Member → List ℕ → Planned → Limiting
+limits_of setup frame ms queue p = limiting setup frame ms (record { edits = p.edits; steps = p.steps; plays = playing_in ms; waits = queue })
 
 -- ---- the whole
 
@@ -213,7 +224,7 @@ abbrev pub with_pieces : Crew → Now → Planned → Planned
 with_pieces crew now p = adds (loading_edits now.left (loader crew.queue crew.members)) (loading_steps (loader crew.queue crew.members)) p
 
 abbrev pub with_ends : Setup → Crew → Now → Planned → Planned
-with_ends setup crew now p = let l = limits_of setup (now.frame + 1) crew.members crew.queue in adds l.edits l.steps p
+with_ends setup crew now p = let l = limits_of setup (now.frame + 1) crew.members crew.queue p in record p { edits = l.edits; steps = l.steps }
 
 abbrev pub ticking : Setup → Crew → Now → Planned
 ticking setup crew now = with_ends setup crew now (with_pieces crew now (with_sync setup crew now (with_founders crew now

@@ -6,12 +6,16 @@
 #![tactic(auto)]
 
 mod entering;
+mod founding;
 mod input;
 mod joining;
+mod loading;
 mod members;
+mod permitting;
 mod playing;
 mod refusing;
 mod scene;
+mod stamping;
 
 pub use input::{Input, Now};
 pub use members::Members;

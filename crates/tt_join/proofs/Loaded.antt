@@ -18,7 +18,7 @@ use Rattle.tt_members.specs.declared.step.Audience.TheVariants.{One}
 use Rattle.tt_members.specs.Edits.{on, loaded, members_after, queue_after}
 use Rattle.tt_members.specs.Steps.{steps_in, stamped_in, says}
 use Rattle.tt_join.specs.Ticking.{pieces_for, status_for, loader, loading_steps, loading_edits}
-use Rattle.tt_join.proofs.Behind.{edited, Tells}
+use Rattle.tt_members.proofs.Behind.{edited, Tells}
 use Rattle.tt_join.proofs.Like.{IsLike, AreLike, IsQuiet, AreQuiet, BothFound, both_found, pairs_so, like_quiet, like_late, same_late}
 use Rattle.tt_join.proofs.Placed.{conns_of, on_conns, put_among, put_twice, pairs_on}
 

@@ -1,4 +1,4 @@
--- One rule behind another: changes and steps that are added to a plan.
+-- A rule behind a plan: changes and steps that are added to it.
 use Rattle.std.proofs.Common.{◌≡◌, ℕ, List, [], ◌∷◌, ◌++◌, refl, sym, subst, ap, ap₂, ◌∙◌, append_assoc, append-nil, Option, None}
 use Rattle.std.proofs.lemmas.List.{map-append}
 use Rattle.tt_world.specs.declared.command.Entry.{Entry}
@@ -10,43 +10,15 @@ use Rattle.tt_log.specs.Deed.{Deed, ◌▹◌}
 use Rattle.tt_members.specs.declared.edit.Edit.{Edit}
 use Rattle.tt_members.specs.declared.step.Step.{Step}
 use Rattle.tt_members.specs.Planned.{Planned}
-use Rattle.tt_members.specs.Edits.{members_by, members_after, queue_by, queue_after}
-use Rattle.tt_members.specs.Steps.{step_in, steps_in, stamp_of, stamped_in}
+use Rattle.tt_members.specs.Steps.{step_in, steps_in, stamped_in}
 use Rattle.tt_members.specs.Done.{done, offered, renamed}
+use Rattle.tt_members.proofs.Behind.{edited, Tells, members_append, queue_append, stamped_append}
 use Rattle.tt_join.specs.Ticking.{adds}
-
--- a table with changes of its members and its queue
-abbrev pub edited : List Edit → Table → Table
-edited es t = record t { members = members_after es t.members; queue = queue_after es t.queue }
-
--- a rule that these changes and steps are, at a table
-pub record Tells (rule : Table → Deed) (es : List Edit) (ss : List Step) (t : Table) : Type 0 where
-  pub told : steps_in t.admins ss ≡ (rule t).told
-  pub table : edited es t ≡ (rule t).table
 
 -- what a plan is, at a table
 pub record IsDoing (t : Table) (p : Planned) (d : Deed) : Type 0 where
   pub told : steps_in t.admins p.steps ≡ d.told
   pub table : done p t ≡ d.table
-
--- ---- lists one behind the other
-
-pub members_append : (es fs : List Edit) (ms : List Member) → members_after (es ++ fs) ms ≡ members_after fs (members_after es ms)
-members_append [] fs ms = refl
-members_append (e ∷ es) fs ms = members_append es fs (members_by e ms)
-
-pub queue_append : (es fs : List Edit) (queue : List ℕ) → queue_after (es ++ fs) queue ≡ queue_after fs (queue_after es queue)
-queue_append [] fs queue = refl
-queue_append (e ∷ es) fs queue = queue_append es fs (queue_by e queue)
-
-pub stamped_append : (ss us : List Step) → stamped_in (ss ++ us) ≡ stamped_in ss ++ stamped_in us
-stamped_append [] us = refl
-stamped_append (s ∷ ss) us = ap (λ (es : List Entry). stamp_of s.what ++ es) (stamped_append ss us)
-    ∙ sym (append_assoc (stamp_of s.what) (stamped_in ss) (stamped_in us))
-
-pub edited_append : (es fs : List Edit) (t : Table) → edited (es ++ fs) t ≡ edited fs (edited es t)
-edited_append es fs t = ap₂ (λ (ms : List Member) (queue : List ℕ). record t { members = ms; queue = queue })
-    (members_append es fs t.members) (queue_append es fs t.queue)
 
 -- ---- rules one behind the other
 
