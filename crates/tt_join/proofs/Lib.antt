@@ -16,3 +16,4 @@ pub mod Counted
 pub mod Refusals
 pub mod Played
 pub mod Granted
+pub mod Heard

@@ -4,3 +4,4 @@ pub mod Joining
 pub mod Members
 pub mod Entering
 pub mod Playing
+pub mod Planning
