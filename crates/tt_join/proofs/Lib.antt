@@ -15,5 +15,4 @@ pub mod Enters
 pub mod Counted
 pub mod Refusals
 pub mod Played
-pub mod Granted
 pub mod Heard
