@@ -1,7 +1,6 @@
 -- What packets do in the game, as plans.
-use Rattle.std.proofs.Common.{◌≡◌, ℕ, ◌<◌, List, [], ◌∷◌, ◌++◌, length, refl, sym, ap, ◌∙◌, true, false, Bool, Option, Some, None}
-use Rattle.std.specs.Prelude.{cond, find}
-use Rattle.std.specs.List.{AllByRecursion}
+use Rattle.std.proofs.Common.{◌≡◌, ℕ, List, [], ◌∷◌, ◌++◌, refl, sym, ap, ◌∙◌, Option, Some, None}
+use Rattle.std.specs.Prelude.{find}
 use Rattle.std.proofs.lemmas.List.{append-nil}
 use Rattle.tt_world.specs.declared.command.Command.{Command}
 use Rattle.tt_world.specs.declared.command.Entry.{Entry}
@@ -13,8 +12,8 @@ use Rattle.tt_log.specs.Console.{orders}
 use Rattle.tt_log.specs.Deed.{where_some}
 use Rattle.tt_log.specs.Member.{Member}
 use Rattle.tt_log.specs.PacketRules.{chats, command_waits, locks, moves}
-use Rattle.tt_log.specs.Table.{Table, is_on, playing, with_digest, with_member}
-use Rattle.tt_members.specs.Crew.{Crew, Rest, origin_at, table_at}
+use Rattle.tt_log.specs.Table.{is_on, playing, with_digest, with_member}
+use Rattle.tt_members.specs.Crew.{Crew, Rest, table_at}
 use Rattle.tt_members.specs.Done.{Does}
 use Rattle.tt_members.specs.Edits.{moved, on}
 use Rattle.tt_members.specs.Leaving.{playing_in}
@@ -63,7 +62,7 @@ move_does setup crew frame top r m company rise is =
     let x : Member = moved company m in
     let found = with_found 0 m.conn (moved company) m t rise is refl in
     let plays : playing (with_member x t) ≡ playing_in crew.members = ap playing found
-        ∙ same-playing m.conn (moved company) crew.members (λ k. refl) (λ k. refl) in
+    ∙ same-playing m.conn (moved company) crew.members (λ k. refl) (λ k. refl) in
     record {
       told = ap (λ cs. steps_in r.admins (says_several cs (ServerMove m.client company)
           ∷ shows client_updates (ServerClientUpdate m.client m.name company) ∷ [])) (sym plays);

@@ -64,7 +64,8 @@ quiet-others x (n ∷ ms) quiet = quiet-one (n.conn == x.conn) (is_playing n) x 
     (quiet-others x ms quiet)
 
 -- those that play behind a change of one that leaves its connection and whether it plays
-same-one : (b p : Bool) (f : Member → Member) (n : Member) (xs ys : List Member) → (f n).conn ≡ n.conn → is_playing (f n) ≡ p → is_playing n ≡ p
+same-one : (b p : Bool) (f : Member → Member) (n : Member) (xs ys : List Member) → (f n).conn ≡ n.conn → is_playing (f n) ≡ p → is_playing
+    n ≡ p
     → playing_in xs ≡ playing_in ys → playing_in (cond b (f n) n ∷ xs) ≡ playing_in (n ∷ ys)
 same-one true true f n xs ys keeps stays plays same = rw (stays, plays) (ap₂ (λ c cs. c ∷ cs) keeps same)
 same-one true false f n xs ys keeps stays plays same = rw (stays, plays) same
@@ -235,7 +236,8 @@ rename_does setup crew frame top r m wanted rise is =
     let rename : Member → Member = λ n. record n { name = name } in
     let x : Member = rename m in
     let found = with_found 0 m.conn rename m t rise is refl in
-    let plays : playing (with_member x t) ≡ playing_in crew.members = ap playing found ∙ same-playing m.conn rename crew.members (λ k. refl) (λ k. refl) in
+    let plays : playing (with_member x t) ≡ playing_in crew.members = ap playing found ∙ same-playing m.conn rename crew.members (λ k.
+    refl) (λ k. refl) in
     let told = ap (λ cs. steps_in r.admins (says_several cs (client_info x) ∷ shows client_updates (ServerClientUpdate x.client x.name
     x.company) ∷ [])) (sym plays) in
     record {

@@ -1,5 +1,5 @@
 //! In the game, and the server's own words: what each does, as a plan. Nothing but the plan is changed.
-ghost use Rattle.std.specs.Prelude.{◌≡◌, true, IfOk, OnOk};
+ghost use Rattle.std.specs.Prelude.{◌≡◌, ◌==◌, true, find, option_copied, IfOk, OnOk};
 ghost use Rattle.tt_frame.specs.Text.{is_text};
 ghost use Rattle.tt_log.specs.PacketRules.{is_in_scope};
 ghost use Rattle.tt_members.specs.Planned.{nothing};
@@ -45,12 +45,7 @@ fn is_in_scope(m: &Member, scope: UpTo<2>, to: u32) -> bool
 }
 
 /// The connections of those that play and are in a scope.
-fn hearers(
-    alloc: Global,
-    members: &[Member],
-    scope: UpTo<2>,
-    to: u32,
-) -> Result<Conns, OutOfMemory>
+fn hearers(alloc: Global, members: &[Member], scope: UpTo<2>, to: u32) -> Result<Conns, OutOfMemory>
     ensures conns { IfOk result (λ conns. conns ≡ hearers scope to members.now) }
 {
     let mut conns = Vec::new(alloc);
@@ -147,4 +142,16 @@ pub fn order(command: Command, plan: &mut Plan)
     ensures plan { plan.new ≡ ordering command }
 {
     plan.order(command);
+}
+
+/// The member that has a client number.
+pub fn member_with(members: &[Member], client: u32) -> Option<&Member>
+    ensures found { option_copied result ≡ find (λ m. m.client == client) members.now }
+{
+    for m in members.iter() {
+        if m.client() == client {
+            return Some(m);
+        }
+    }
+    None
 }

@@ -179,3 +179,76 @@ fn move_refused(digests: &[(u8, Digest)], company: u8, digest: &Option<Digest>) 
     }
     Some(WRONG_PASSWORD)
 }
+
+#[cfg(test)]
+mod tests {
+    use super::*;
+    use std::alloc::Global;
+    use std::test::*;
+    use tt_members::Marks;
+    use tt_rules::Status;
+
+    /// A welcomed member with this name.
+    fn named(alloc: Global, conn: u32, name: &[u8]) -> Result<Member, Fail> {
+        let mut m = Member::new(alloc, conn, 2, 0)?;
+        m.mark(Marks {
+            status: Status::Authorized,
+            ..m.marks()
+        });
+        m.rename(Text::new(name).ok_or("no name")?);
+        Ok(m)
+    }
+
+    /// The code for which a JOIN of one on connection 9 is refused where two members have names, and the company 0 lives.
+    fn answer(
+        alloc: Global,
+        revision: &[u8],
+        grf: u32,
+        name: &[u8],
+        company: u8,
+    ) -> Result<Option<u8>, Fail> {
+        let setup = Setup::plain();
+        let members = [
+            named(alloc, 1, b"Ann")?,
+            named(alloc, 2, b"aaaaaaaaaaaaaaaaaaaaaa")?,
+        ];
+        let scene = Scene {
+            alloc,
+            setup: &setup,
+            members: members.as_slice(),
+            digests: &[],
+            frame: 0,
+        };
+        let mut live = Live::none();
+        let _ = live.add();
+        let newcomer = Member::new(alloc, 9, 3, 0)?;
+        let msg = GameMsg::ClientJoin {
+            revision: Text::new(revision).ok_or("no revision")?,
+            grf,
+            name: Text::new(name).ok_or("no name")?,
+            company,
+        };
+        Ok(refused(scene, &live, &newcomer, &msg))
+    }
+
+    #[test]
+    fn a_join_is_refused_for_the_first_reason(rt: HostRuntime) -> Result<(), Fail> {
+        let alloc = rt.alloc();
+        let long = b"aaaaaaaaaaaaaaaaaaaaaa";
+        assert_eq!(rt; answer(alloc, b"13.3", 13, b"", 3)?, Some(WRONG_REVISION));
+        assert_eq!(rt; answer(alloc, b"13.4", 12, b"", 3)?, Some(WRONG_REVISION));
+        assert_eq!(rt;
+            answer(alloc, b"13.4", 13, b"", 3)?,
+            Some(INVALID_CLIENT_NAME)
+        );
+        assert_eq!(rt;
+            answer(alloc, b"13.4", 13, long, 3)?,
+            Some(COMPANY_MISMATCH)
+        );
+        assert_eq!(rt; answer(alloc, b"13.4", 13, long, 0)?, Some(NAME_IN_USE));
+        assert_eq!(rt; answer(alloc, b"13.4", 13, b"Ann", 0)?, None);
+        assert_eq!(rt; answer(alloc, b"13.4", 13, b"Bob", 254)?, None);
+        assert_eq!(rt; answer(alloc, b"13.4", 13, b"Bob", 255)?, None);
+        Ok(())
+    }
+}

@@ -176,7 +176,7 @@ impl Member {
     pub fn draw_two(&mut self)
         ensures drawn { self.new ≡ drawn self.old }
     {
-        self.waiting.draw();
-        self.waiting.draw();
+        let _oldest = self.waiting.draw();
+        let _next = self.waiting.draw();
     }
 }
