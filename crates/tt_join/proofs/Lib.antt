@@ -16,3 +16,5 @@ pub mod Counted
 pub mod Refusals
 pub mod Played
 pub mod Heard
+pub mod Judging
+pub mod Ordering

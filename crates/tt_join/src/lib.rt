@@ -12,6 +12,7 @@ mod joining;
 mod loading;
 mod members;
 mod permitting;
+mod planning;
 mod playing;
 mod refusing;
 mod scene;
