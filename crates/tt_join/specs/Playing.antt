@@ -35,7 +35,8 @@ locking m digest = record nothing { locks = Some (m.company, digest) }
 abbrev pub moving_to : ℕ → List Member → Member → Planned
 moving_to company ms m = record nothing {
   edits = Move m.conn company ∷ [];
-  steps = says_several (playing_in ms) (ServerMove m.client company) ∷ shows client_updates (ServerClientUpdate m.client m.name company) ∷ [];
+  steps = says_several (playing_in ms) (ServerMove m.client company) ∷ shows client_updates (ServerClientUpdate m.client m.name company) ∷
+      [];
 }
 
 -- a command of the server's own

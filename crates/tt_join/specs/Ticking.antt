@@ -1,5 +1,6 @@
 -- The plan of a tick, part by part. Each part looks at the members as they were before the tick.
-use Rattle.std.specs.Prelude.{ℕ, ◌||◌, ◌+◌, ◌*◌, ◌/◌, ◌%◌, min, nat_lt, ◌==◌, Bool, true, false, cond, List, [], ◌∷◌, ◌++◌, map, filter, find, take}
+use Rattle.std.specs.Prelude.{ℕ, ◌||◌, ◌+◌, ◌*◌, ◌/◌, ◌%◌, min, nat_lt, ◌==◌, Bool, true, false, cond, List, [], ◌∷◌, ◌++◌, map, filter}
+use Rattle.std.specs.Prelude.{find, take}
 use Rattle.std.specs.Prelude.{flat_map, Option, Some, None}
 use Rattle.tt_world.specs.declared.setup.Setup.{Setup}
 use Rattle.tt_world.specs.declared.command.Entry.{Entry}
@@ -23,7 +24,6 @@ use Rattle.tt_members.specs.declared.step.Step.{Step}
 use Rattle.tt_members.specs.declared.step.Audience.TheVariants.{One, Several, Watching}
 use Rattle.tt_members.specs.Crew.{Crew, founders_in}
 use Rattle.tt_members.specs.Edits.{words_by, words_after, queue_after}
-use Rattle.tt_members.specs.declared.edit.Beat.{Beat}
 use Rattle.tt_members.specs.Planned.{Planned, nothing}
 use Rattle.tt_members.specs.Steps.{says, says_one, says_several}
 use Rattle.tt_members.specs.Leaving.{playing_in, but, left, ending}
@@ -186,7 +186,8 @@ ends_of setup frame ms queue = limiting setup frame ms (record { edits = []; ste
 
 -- and behind the other parts of a plan
 abbrev pub limits_of : Setup → ℕ → List Member → List ℕ → Planned → Limiting
-limits_of setup frame ms queue p = limiting setup frame ms (record { edits = p.edits; steps = p.steps; plays = playing_in ms; waits = queue })
+limits_of setup frame ms queue p = limiting setup frame ms (record { edits = p.edits; steps = p.steps; plays = playing_in ms; waits = queue
+    })
 
 -- ---- the whole
 
@@ -224,7 +225,8 @@ abbrev pub with_pieces : Crew → Now → Planned → Planned
 with_pieces crew now p = adds (loading_edits now.left (loader crew.queue crew.members)) (loading_steps (loader crew.queue crew.members)) p
 
 abbrev pub with_ends : Setup → Crew → Now → Planned → Planned
-with_ends setup crew now p = let l = limits_of setup (now.frame + 1) crew.members crew.queue p in record p { edits = l.edits; steps = l.steps }
+with_ends setup crew now p = let l = limits_of setup (now.frame + 1) crew.members crew.queue p in record p { edits = l.edits; steps =
+    l.steps }
 
 abbrev pub ticking : Setup → Crew → Now → Planned
 ticking setup crew now = with_ends setup crew now (with_pieces crew now (with_sync setup crew now (with_founders crew now

@@ -173,7 +173,7 @@ fn to_password(scene: Scene<'_>, guest: Guest, plan: &mut Plan) -> Result<(), Ou
     requires empty { plan.old ≡ nothing }
     ensures plan { OnOk result (plan.new
         ≡ to_password_by scene.entry.setup.now.password scene.entry.setup.now scene.entry.frame scene.entry.members.now
-            scene.entry.digests.now guest) }
+        scene.entry.digests.now guest) }
 {
     if scene.setup.password.bytes().is_empty() {
         return to_company(scene, guest, plan);

@@ -45,12 +45,7 @@ fn is_in_scope(m: &Member, scope: UpTo<2>, to: u32) -> bool
 }
 
 /// The connections of those that play and are in a scope.
-fn hearers(
-    alloc: Global,
-    members: &[Member],
-    scope: UpTo<2>,
-    to: u32,
-) -> Result<Conns, OutOfMemory>
+fn hearers(alloc: Global, members: &[Member], scope: UpTo<2>, to: u32) -> Result<Conns, OutOfMemory>
     ensures conns { IfOk result (λ conns. conns ≡ hearers scope to members.now) }
 {
     let mut conns = Vec::new(alloc);

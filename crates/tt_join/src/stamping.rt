@@ -49,7 +49,12 @@ fn log_of(entry: &Entry) -> Report
 }
 
 /// An entry is told to those that play, and to the admins that log commands.
-fn tell_stamp(alloc: Global, entry: Entry, members: &[Member], plan: &mut Plan) -> Result<(), OutOfMemory>
+fn tell_stamp(
+    alloc: Global,
+    entry: Entry,
+    members: &[Member],
+    plan: &mut Plan,
+) -> Result<(), OutOfMemory>
     ensures steps { OnOk result (plan.new.steps ≡ plan.old.steps ++ stamping (playing_in members.now) (entry ∷ [])) }
     ensures edits { plan.new.edits ≡ plan.old.edits }
     ensures plain { IsPlain plan.old plan.new }
@@ -135,7 +140,12 @@ fn stamp_one(
 }
 
 /// Up to two commands of each member are stamped, in order of arrival.
-fn stamp_all(alloc: Global, frame: u32, members: &[Member], plan: &mut Plan) -> Result<(), OutOfMemory>
+fn stamp_all(
+    alloc: Global,
+    frame: u32,
+    members: &[Member],
+    plan: &mut Plan,
+) -> Result<(), OutOfMemory>
     ensures steps { OnOk result (plan.new.steps
         ≡ plan.old.steps ++ stamping (playing_in members.now) (flat_map (λ m. map (entry_of frame m) (take 2 m.waiting)) members.now)) }
     ensures edits { plan.new.edits ≡ plan.old.edits }
