@@ -20,3 +20,6 @@ pub mod Counted
 pub mod Refusals
 pub mod Played
 pub mod Heard
+pub mod Judging
+pub mod Ordering
+pub mod Finding

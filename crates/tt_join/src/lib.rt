@@ -13,6 +13,7 @@ mod limits;
 mod loading;
 mod members;
 mod permitting;
+mod planning;
 mod playing;
 mod refusing;
 mod scene;

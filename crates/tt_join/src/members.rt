@@ -1,5 +1,6 @@
 //! The members of a game: what something does that comes to them is planned without a change, and put in force without memory.
 ghost use Rattle.std.specs.Prelude.{◌≡◌, ◌≤◌, ◌<◌, [], OnOk, IfOk, length};
+ghost use Rattle.tt_world.specs.Setup.{Fits};
 ghost use Rattle.tt_members.specs.Crew.{founders_in};
 ghost use Rattle.tt_members.specs.Done.{committed};
 ghost use Rattle.tt_members.specs.Planned.{nothing};
@@ -16,21 +17,22 @@ use tt_world::{Command, Setup};
 /// table, and for how many more of each list there is room.
 #[derive(Drop)]
 pub struct Members {
-    alloc: Global,
-    setup: Setup,
-    members: Vec<Member>,
-    queue: Queue,
-    digests: Vec<(u8, Digest)>,
-    own: Vec<Command>,
-    tokens: (u32, u32),
-    clients: u32,
-    founders: Vec<(u32, u32)>,
-    spare: Option<Plan>,
+    pub(crate) alloc: Global,
+    pub(crate) setup: Setup,
+    pub(crate) members: Vec<Member>,
+    pub(crate) queue: Queue,
+    pub(crate) digests: Vec<(u8, Digest)>,
+    pub(crate) own: Vec<Command>,
+    pub(crate) tokens: (u32, u32),
+    pub(crate) clients: u32,
+    pub(crate) founders: Vec<(u32, u32)>,
+    pub(crate) spare: Option<Plan>,
 }
 
 impl Model for Members {
     ghost use Rattle.std.specs.Prelude.{◌-◌, vec_len, vec_capacity};
     ghost use Rattle.tt_members.specs.Rules.{Rise};
+    ghost use Rattle.tt_world.specs.Setup.{Fits};
     ghost use Rattle.tt_join.specs.Members.{Kept};
 
     ghost Value = { Kept };
@@ -55,12 +57,13 @@ impl Model for Members {
       };
     } };
 
-    ghost invariant = { λ m. Rise m.members.items };
+    ghost invariant = { λ m. Rise m.members.items × Fits m.setup };
 }
 
 impl Members {
     /// Nobody is there. It takes no memory yet.
     pub fn new(alloc: Global, setup: &Setup) -> Members
+        requires { Fits setup.now }
         ensures setup { result.setup ≡ setup.now }
         ensures members { result.crew.members ≡ [] }
         ensures queue { result.crew.queue ≡ [] }
