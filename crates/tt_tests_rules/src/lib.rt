@@ -14,6 +14,8 @@ mod log;
 #[cfg(test)]
 mod map;
 #[cfg(test)]
+mod outgoing;
+#[cfg(test)]
 mod outs;
 #[cfg(test)]
 mod rules;
