@@ -1,8 +1,8 @@
 -- From the welcome into the game, openings and ends: the plans do what the book's rules do.
-use Rattle.std.proofs.Common.{◌≡◌, ℕ, ◌+◌, ◌<◌, ◌^◌, List, [], ◌∷◌, ◌++◌, refl, sym, subst, ap, ap₂, ◌∙◌, true, false, Bool, Option, Some}
-use Rattle.std.proofs.Common.{None, zero, suc}
+use Rattle.std.proofs.Common.{◌≡◌, ℕ, ◌+◌, List, [], ◌∷◌, ◌++◌, refl, sym, ap, ap₂, ◌∙◌, true, false, Bool, Some}
+use Rattle.std.proofs.Common.{zero, suc}
 use Rattle.std.proofs.Common.{arith, append_assoc, append-nil}
-use Rattle.std.specs.Prelude.{length, ◌==◌, ◌&&◌, cond, map, filter, find, nat_le}
+use Rattle.std.specs.Prelude.{length, ◌==◌, cond, map, filter, find, nat_le}
 use Rattle.tt_world.specs.Random.{next_random}
 use Rattle.tt_world.specs.declared.command.Code.TheVariants.{NewCompany}
 use Rattle.tt_world.specs.declared.command.Entry.{Entry}
@@ -14,17 +14,15 @@ use Rattle.tt_log.specs.declared.deed.Step as book
 use Rattle.tt_log.specs.declared.deed.What.{What}
 use Rattle.tt_log.specs.declared.deed.What.TheVariants.{Entries, Msg}
 use Rattle.tt_log.specs.Admin.{Admin, client_updates}
-use Rattle.tt_log.specs.Origin.{Origin}
 use Rattle.tt_log.specs.Member.{Member, is_playing, is_welcomed, is_in}
-use Rattle.tt_log.specs.Table.{Table, member_of, is_on, with_member, without_member, now_in, playing}
-use Rattle.tt_log.specs.Deed.{Deed, ◌▹◌, where_, becomes, tells, tells_what, tells_each}
+use Rattle.tt_log.specs.Table.{Table, member_of, is_on, with_member, now_in}
+use Rattle.tt_log.specs.Deed.{Deed, ◌▹◌, where_, becomes, tells}
 use Rattle.tt_log.specs.Downloads.{IsQueue}
 use Rattle.tt_log.specs.Ending.{Farewell, leaves, ends}
 use Rattle.tt_log.specs.Events.{arrives, counted_in, opened}
-use Rattle.tt_log.specs.Frames.{fresh_token, opened_token, tells_fresh}
+use Rattle.tt_log.specs.Frames.{fresh_token}
 use Rattle.tt_log.specs.Judged.{founder}
-use Rattle.tt_log.specs.PacketRules.{acknowledged, acknowledges, becomes_active, asks_company, client_info, closed_token, enters}
-use Rattle.tt_log.specs.PacketRules.{has_caught_up}
+use Rattle.tt_log.specs.PacketRules.{acknowledges, becomes_active, asks_company, client_info, closed_token, enters}
 use Rattle.tt_log.specs.Queue.{asks, leaves_queue, moved_up}
 use Rattle.tt_log.specs.Watching.{sees_active}
 use Rattle.tt_members.specs.declared.edit.Edit.{Edit}
@@ -32,15 +30,15 @@ use Rattle.tt_members.specs.declared.edit.Edit.TheVariants.{Mark}
 use Rattle.tt_members.specs.declared.marks.Marks.{Marks}
 use Rattle.tt_members.specs.declared.step.Step.{Step}
 use Rattle.tt_members.specs.declared.step.Audience.TheVariants.{One}
-use Rattle.tt_members.specs.Crew.{Crew, Rest, origin_at, table_at}
+use Rattle.tt_members.specs.Crew.{Crew, Rest, table_at}
 use Rattle.tt_members.specs.Done.{Does, done, behind}
-use Rattle.tt_members.specs.Edits.{marks_of, marked, members_after, queue_after, place_of, on}
-use Rattle.tt_members.specs.Leaving.{but, others, playing_in}
+use Rattle.tt_members.specs.Edits.{marked, members_after, queue_after, place_of, on}
+use Rattle.tt_members.specs.Leaving.{but, others}
 use Rattle.tt_members.specs.Planned.{Planned}
-use Rattle.tt_members.specs.Queues.{beginning, moving, unasked, unasking, IsReady}
+use Rattle.tt_members.specs.Queues.{beginning, unasking, IsReady}
 use Rattle.tt_members.specs.Rules.{Rise}
-use Rattle.tt_members.specs.Steps.{stamped_in, steps_in, step_in, says, says_one, says_several, shows}
-use Rattle.tt_members.proofs.Found.{conns_of, found_on, rise_by}
+use Rattle.tt_members.specs.Steps.{stamped_in, steps_in, says, says_one, says_several, shows}
+use Rattle.tt_members.proofs.Found.{rise_by}
 use Rattle.tt_members.proofs.Left.{moves_up, queue_left, leaves_by, ends_by, ready_left, ready_changed, moving_silent, unasking_silent}
 use Rattle.tt_members.proofs.Left.{leaving_silent, ending_silent}
 use Rattle.tt_members.proofs.Behind.{silent_append, steps_append}
@@ -95,7 +93,7 @@ others_one : (b : Bool) (f : Member → Member) (conn : ℕ) (k : Member) (ms : 
 others_one true f conn k ms e keeps same =
     let h : ((f k).conn == conn) ≡ true = ap (λ (c : ℕ). c == conn) keeps ∙ e in
     but_here (is_playing (f k)) conn (f k) (filter is_playing (on conn f ms)) h ∙ same ∙ sym (but_here (is_playing k) conn k (filter
-        is_playing ms) e)
+    is_playing ms) e)
 others_one false f conn k ms e keeps same = but_same (is_playing k) conn k (filter is_playing (on conn f ms)) (filter is_playing ms) e same
 
 pub others_on : (f : Member → Member) (conn : ℕ) (ms : List Member) → ((k : Member) → (f k).conn ≡ k.conn) → others conn (on conn f ms) ≡
@@ -213,8 +211,10 @@ active_told true m n conns t = refl
 active_told false m n conns t = refl
 
 active_table : (b : Bool) (m n : Member) (conns : List ℕ) (t : Table)
-    → (tells conns (ServerJoin m.client) t ▹ sees_active n ▹ where_ b (asks_company n)).table ≡ record t { own = behind (ordered_if b n)
-        t.own }
+    → (tells conns (ServerJoin m.client) t ▹ sees_active n ▹ where_ b (asks_company n)).table ≡ record t {
+      own = behind (ordered_if b n)
+          t.own;
+    }
 active_table true m n conns t = refl
 active_table false m n conns t = refl
 
@@ -246,7 +246,7 @@ ack_by true k setup crew frame top r m asked rise is =
     record {
       told = sym (active_told (k.asked == founder) x n (others m.conn t1.members) u
           ∙ ap (λ cs. steps_in r.admins (says_several cs (ServerJoin m.client) ∷ shows client_updates (ServerClientJoin m.client) ∷ []))
-              conns);
+          conns);
       table = quiet (acknowledging_by true frame k crew.members m) t refl
           ∙ sym (active_table (k.asked == founder) x n (others m.conn t1.members) u
           ∙ ap₂ (λ (w : Table) c. record w { own = behind c w.own }) same order);
@@ -319,5 +319,5 @@ open_by false setup crew frame top r b =
 
 pub open_does : (setup : Setup) (crew : Crew) (frame top : ℕ) (r : Rest)
     → Does setup crew frame top r opened (opening (nat_le setup.max_clients (length crew.members)) (r.openings + 1) (crew.clients + 1)
-        frame)
+    frame)
 open_does setup crew frame top r = open_by (nat_le setup.max_clients (length crew.members)) setup crew frame top r refl

@@ -1,6 +1,7 @@
 -- A message that is allowed, and one by its verdict: their plans do what the book's rules do.
-use Rattle.std.proofs.Common.{◌≡◌, ◌≤◌, ℕ, List, [], ◌∷◌, ◌++◌, refl, sym, subst, ap, ap₂, ◌∙◌, true, false, Bool, Option, Some, None, append-nil}
-use Rattle.std.specs.Prelude.{length, find, IfSome}
+use Rattle.std.proofs.Common.{◌≡◌, ℕ, List, refl, sym, ap, ◌∙◌, Option, Some, None}
+use Rattle.std.proofs.Common.{append-nil}
+use Rattle.std.specs.Prelude.{length, find}
 use Rattle.tt_world.specs.declared.command.Entry.{Entry}
 use Rattle.tt_world.specs.declared.setup.Setup.{Setup}
 use Rattle.tt_game.specs.declared.message.GameMsg.{GameMsg}
@@ -12,15 +13,15 @@ use Rattle.tt_rules.specs.declared.status.Verdict.{Verdict}
 use Rattle.tt_rules.specs.declared.status.Verdict.TheVariants.{Allowed, Ends}
 use Rattle.tt_log.specs.Deed.{Deed, becomes, where_some}
 use Rattle.tt_log.specs.Downloads.{IsQueue}
-use Rattle.tt_log.specs.Ending.{Quitting, Failing, ends_untold, quits}
+use Rattle.tt_log.specs.Ending.{Quitting, Failing}
 use Rattle.tt_log.specs.Events.{by_verdict, heard}
-use Rattle.tt_log.specs.Judged.{judged, judged_by, unless}
+use Rattle.tt_log.specs.Judged.{judged, judged_by}
 use Rattle.tt_log.specs.Member.{Member}
 use Rattle.tt_log.specs.Origin.{Origin}
 use Rattle.tt_log.specs.PacketRules.{does}
-use Rattle.tt_log.specs.Table.{Table, is_on, living_in, member_of}
+use Rattle.tt_log.specs.Table.{Table, is_on, living_in}
 use Rattle.tt_members.specs.Crew.{Crew, Rest, origin_at, table_at}
-use Rattle.tt_members.specs.Done.{Does, done}
+use Rattle.tt_members.specs.Done.{Does}
 use Rattle.tt_members.specs.Planned.{Planned, nothing}
 use Rattle.tt_members.specs.Rules.{Rise}
 use Rattle.tt_join.specs.declared.input.Now.{Now}
@@ -43,19 +44,27 @@ pub allowed_does : (said : GameMsg) (setup : Setup) (crew : Crew) (now : Now) (r
     → Does setup crew now.frame now.top r (λ o t. does o m said t) (allowed_plan setup crew now m said)
 allowed_does (ClientJoin revision grf name company) setup crew now r m rise is queued lives many =
     join_does setup crew now.frame now.top r m name company rise is
-allowed_does ClientGameInfo setup crew now r m rise is queued lives many = game_info_does setup crew now.frame now.top r now.live m lives many
-allowed_does (ClientGamePassword digest) setup crew now r m rise is queued lives many = game_password_does setup crew now.frame now.top r m rise is
-allowed_does (ClientCompanyPassword digest) setup crew now r m rise is queued lives many = company_password_does setup crew now.frame now.top r m rise is
+allowed_does ClientGameInfo setup crew now r m rise is queued lives many = game_info_does setup crew now.frame now.top r now.live m lives
+    many
+allowed_does (ClientGamePassword digest) setup crew now r m rise is queued lives many = game_password_does setup crew now.frame now.top r m
+    rise is
+allowed_does (ClientCompanyPassword digest) setup crew now r m rise is queued lives many = company_password_does setup crew now.frame
+    now.top r m rise is
 allowed_does ClientGetmap setup crew now r m rise is queued lives many = ask_does setup crew now.frame now.top r m rise is
 allowed_does ClientMapOk setup crew now r m rise is queued lives many = enter_does setup crew now.frame now.top r m rise is queued
-allowed_does (ClientAck frame token) setup crew now r m rise is queued lives many = ack_does setup crew now.frame now.top r m frame token rise is
+allowed_does (ClientAck frame token) setup crew now r m rise is queued lives many = ack_does setup crew now.frame now.top r m frame token
+    rise is
 allowed_does (ClientCommand company code number to text) setup crew now r m rise is queued lives many =
     command_does setup crew now.frame now.top r m company (command_of code number to text) rise is
-allowed_does (ClientChat scope to text) setup crew now r m rise is queued lives many = chat_does setup crew now.frame now.top r m.client scope to text
+allowed_does (ClientChat scope to text) setup crew now r m rise is queued lives many = chat_does setup crew now.frame now.top r m.client
+    scope to text
 allowed_does (ClientSetName name) setup crew now r m rise is queued lives many = rename_does setup crew now.frame now.top r m name rise is
-allowed_does (ClientSetPassword digest) setup crew now r m rise is queued lives many = set_password_does setup crew now.frame now.top r m digest
-allowed_does (ClientMove company digest) setup crew now r m rise is queued lives many = move_does setup crew now.frame now.top r m company rise is
-allowed_does (ClientError code) setup crew now r m rise is queued lives many = leave_does setup crew now.frame now.top r m (Failing code) rise queued
+allowed_does (ClientSetPassword digest) setup crew now r m rise is queued lives many = set_password_does setup crew now.frame now.top r m
+    digest
+allowed_does (ClientMove company digest) setup crew now r m rise is queued lives many = move_does setup crew now.frame now.top r m company
+    rise is
+allowed_does (ClientError code) setup crew now r m rise is queued lives many = leave_does setup crew now.frame now.top r m (Failing code)
+    rise queued
 allowed_does ClientQuit setup crew now r m rise is queued lives many = leave_does setup crew now.frame now.top r m Quitting rise queued
 allowed_does other setup crew now r m rise is queued lives many = idle_does setup crew now.frame now.top r
 

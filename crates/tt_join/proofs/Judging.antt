@@ -1,6 +1,6 @@
 -- What follows from a verdict: its code is that of a reason, and a name that is allowed is not empty and not too long.
-use Rattle.std.proofs.Common.{◌≡◌, ◌≤◌, ◌<◌, ℕ, List, refl, sym, ap, ◌∙◌, true, false, Bool, Option, Some, None, arith}
-use Rattle.std.specs.Prelude.{not, ◌||◌, ◌==◌, nat_le, nat_lt, length}
+use Rattle.std.proofs.Common.{◌≡◌, ◌≤◌, ◌<◌, ℕ, List, refl, true, false, Bool, Option, Some, None, arith}
+use Rattle.std.specs.Prelude.{not, ◌||◌, ◌==◌, nat_le, nat_lt}
 use Rattle.tt_game.specs.declared.message.GameMsg.{GameMsg}
 use Rattle.tt_game.specs.declared.message.GameMsg.TheVariants.{ClientAck, ClientCommand, ClientSetPassword, ClientMove}
 use Rattle.tt_rules.specs.declared.status.Standing.{Standing}
@@ -34,15 +34,17 @@ within_or (Some code) y first later = first
 within_refusal : (said : GameMsg) (s : Standing) (live : List Bool) → Within (refusal s live said)
 within_refusal (ClientAck frame token) s live =
     within_or (nat_lt frame s.acked || nat_lt s.told frame ⇒ 7) (not ((token == 0) || (token == s.token)) ⇒ 7)
-    (within_then (nat_lt frame s.acked || nat_lt s.told frame) 7 (omega arith)) (within_then (not ((token == 0) || (token == s.token))) 7 (omega arith))
+    (within_then (nat_lt frame s.acked || nat_lt s.told frame) 7 (omega arith)) (within_then (not ((token == 0) || (token == s.token))) 7
+        (omega arith))
 within_refusal (ClientCommand company code number to text) s live =
     let last = within_then (not (company == s.company)) 11 (omega arith) in
     let fourth = within_or (not (is_living live company) ⇒ 12) (not (company == s.company) ⇒ 11)
-        (within_then (not (is_living live company)) 12 (omega arith)) last in
+    (within_then (not (is_living live company)) 12 (omega arith)) last in
     let third = within_or (is_own_code code ⇒ 12) (not (is_living live company) ⇒ 12 or_else not (company == s.company) ⇒ 11)
-        (within_then (is_own_code code) 12 (omega arith)) fourth in
-    let second = within_or (nat_lt 8 code ⇒ 7) (is_own_code code ⇒ 12 or_else not (is_living live company) ⇒ 12 or_else not (company == s.company) ⇒ 11)
-        (within_then (nat_lt 8 code) 7 (omega arith)) third in
+    (within_then (is_own_code code) 12 (omega arith)) fourth in
+    let second = within_or (nat_lt 8 code ⇒ 7) (is_own_code code ⇒ 12 or_else not (is_living live company) ⇒ 12 or_else not (company ==
+        s.company) ⇒ 11)
+    (within_then (nat_lt 8 code) 7 (omega arith)) third in
     within_or (nat_le 16 s.waiting ⇒ 15)
     (nat_lt 8 code ⇒ 7 or_else is_own_code code ⇒ 12 or_else not (is_living live company) ⇒ 12 or_else not (company == s.company) ⇒ 11)
     (within_then (nat_le 16 s.waiting) 15 (omega arith)) second
@@ -85,7 +87,7 @@ pub join_named : (o : Origin) (live : List Bool) (t : Table) (m : Member) (revis
     → join_refused o live t m revision grf name company ≡ None → (is_empty name ≡ false) × (is_too_long (given_name t m.conn name) ≡ false)
 join_named o live t m revision grf name company is =
     let one = or_none (not (is_same_game o revision grf) ⇒ 8)
-        (is_empty name ⇒ 20 or_else not (may_ask_for live company) ⇒ 11 or_else is_too_long (given_name t m.conn name) ⇒ 9) is in
+    (is_empty name ⇒ 20 or_else not (may_ask_for live company) ⇒ 11 or_else is_too_long (given_name t m.conn name) ⇒ 9) is in
     let two = or_none (is_empty name ⇒ 20) (not (may_ask_for live company) ⇒ 11 or_else is_too_long (given_name t m.conn name) ⇒ 9) one.1 in
     let three = or_none (not (may_ask_for live company) ⇒ 11) (is_too_long (given_name t m.conn name) ⇒ 9) two.1 in
     (then_none (is_empty name) 20 two.0, then_none (is_too_long (given_name t m.conn name)) 9 three.1)
@@ -100,7 +102,8 @@ name_named t m name is =
 pub few_wait : (s : Standing) (live : List Bool) (company code : ℕ) → command_refusal s live company code ≡ None → s.waiting < 16
 few_wait s live company code is =
     let one = or_none (nat_le 16 s.waiting ⇒ 15)
-        (nat_lt 8 code ⇒ 7 or_else is_own_code code ⇒ 12 or_else not (is_living live company) ⇒ 12 or_else not (company == s.company) ⇒ 11) is in
+    (nat_lt 8 code ⇒ 7 or_else is_own_code code ⇒ 12 or_else not (is_living live company) ⇒ 12 or_else not (company == s.company) ⇒ 11) is
+        in
     let e : nat_le 16 s.waiting ≡ false = then_none (nat_le 16 s.waiting) 15 one.0 in
     grind (arith, e)
 

@@ -18,3 +18,4 @@ pub mod Played
 pub mod Heard
 pub mod Judging
 pub mod Ordering
+pub mod Finding

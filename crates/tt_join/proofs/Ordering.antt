@@ -1,16 +1,15 @@
 -- Members are in order behind the plans of messages.
-use Rattle.std.proofs.Common.{◌≡◌, ◌<◌, ◌≤◌, ◌^◌, ◌+◌, ℕ, List, [], ◌∷◌, refl, sym, subst, ap, ◌∙◌, true, false, Bool, Option, Some, None, arith}
-use Rattle.std.specs.Prelude.{length, find, ◌==◌, cond}
+use Rattle.std.proofs.Common.{◌≡◌, ◌<◌, ◌≤◌, ◌^◌, ℕ, List, [], ◌∷◌, refl, sym, subst, true, false, Bool, Some, None}
+use Rattle.std.proofs.Common.{arith}
+use Rattle.std.specs.Prelude.{find, ◌==◌, cond}
 use Rattle.std.specs.List.{AllByRecursion}
-use Rattle.tt_world.specs.declared.setup.Setup.{Setup}
-use Rattle.tt_world.specs.declared.command.Command.{Command}
 use Rattle.tt_log.specs.History.{AreRising}
 use Rattle.tt_log.specs.Member.{Member}
 use Rattle.tt_log.specs.Table.{is_on}
 use Rattle.tt_members.specs.Crew.{Crew}
 use Rattle.tt_members.specs.Done.{renamed}
 use Rattle.tt_members.specs.Planned.{Planned}
-use Rattle.tt_members.specs.Rules.{Rise, HasRoom}
+use Rattle.tt_members.specs.Rules.{Rise}
 use Rattle.tt_members.proofs.Found.{conns_of, rise_after, rise_renamed}
 use Rattle.tt_join.specs.Members.{IsOrdered}
 
@@ -28,14 +27,16 @@ calm_ordered crew p rise few calm = record {
 }
 
 -- what holds of the one that is found holds of each on its connection
-above_all : (n conn : ℕ) (P : Member → Type 0) (ms : List Member) → AreRising n (conns_of ms) → conn ≤ n → AllByRecursion (λ m. is_on conn m ≡ true → P m) ms
+above_all : (n conn : ℕ) (P : Member → Type 0) (ms : List Member) → AreRising n (conns_of ms) → conn ≤ n → AllByRecursion (λ m. is_on conn
+    m ≡ true → P m) ms
 above_all n conn P [] rising low = tt
 above_all n conn P (m ∷ ms) rising low = (
   (λ here. absurd (let e : m.conn ≡ conn = grind (arith, here) in omega (arith, rising.0, low))),
   above_all m.conn conn P ms rising.1 (omega (arith, rising.0, low)),
 )
 
-all_head : (b : Bool) (conn : ℕ) (P : Member → Type 0) (m k : Member) (ms : List Member) → (k.conn == conn) ≡ b → AreRising k.conn (conns_of ms) → P m
+all_head : (b : Bool) (conn : ℕ) (P : Member → Type 0) (m k : Member) (ms : List Member) → (k.conn == conn) ≡ b → AreRising k.conn
+    (conns_of ms) → P m
     → cond b (Some k) (find (is_on conn) ms) ≡ Some m → (find (is_on conn) ms ≡ Some m → AllByRecursion (λ x. is_on conn x ≡ true → P x) ms)
     → (b ≡ true → P k) × AllByRecursion (λ x. is_on conn x ≡ true → P x) ms
 all_head true conn P m k ms e rising holds is later =
@@ -43,7 +44,8 @@ all_head true conn P m k ms e rising holds is later =
     ((λ here. subst P (sym same) holds), above_all k.conn conn P ms rising (let low : conn ≤ k.conn = grind (arith, e) in low))
 all_head false conn P m k ms e rising holds is later = ((λ here. absurd cc), later is)
 
-pub all_found : (n conn : ℕ) (P : Member → Type 0) (m : Member) (ms : List Member) → AreRising n (conns_of ms) → P m → find (is_on conn) ms ≡ Some m
+pub all_found : (n conn : ℕ) (P : Member → Type 0) (m : Member) (ms : List Member) → AreRising n (conns_of ms) → P m → find (is_on conn) ms
+    ≡ Some m
     → AllByRecursion (λ x. is_on conn x ≡ true → P x) ms
 all_found n conn P m [] rising holds is = tt
 all_found n conn P m (k ∷ ms) rising holds is =

@@ -5,7 +5,7 @@ use Rattle.tt_world.specs.declared.command.Command.{Command}
 use Rattle.tt_game.specs.declared.message.GameMsg.TheVariants.{ServerFrame, ServerFull, ServerJoin}
 use Rattle.tt_admin.specs.declared.message.AdminMsg.TheVariants.{ServerClientJoin}
 use Rattle.tt_rules.specs.declared.status.Status.TheVariants.{MapWait, PreActive, Active}
-use Rattle.tt_log.specs.declared.deed.What.TheVariants.{Msg, Entries, End}
+use Rattle.tt_log.specs.declared.deed.What.TheVariants.{Entries, End}
 use Rattle.tt_log.specs.Admin.{client_updates}
 use Rattle.tt_log.specs.Ending.{Farewell}
 use Rattle.tt_log.specs.Frames.{fresh_token}

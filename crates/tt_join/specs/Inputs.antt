@@ -55,6 +55,8 @@ IsNextOpening openings other = Unit {0}
 -- a table of which these are the members' part, at a time, where something comes; its queue stands as it does in every game
 pub record IsAt (setup : Setup) (crew : Crew) (now : Now) (input : Input) (r : Rest) : Type 0 where
   pub live : living_in (origin_at setup r) (table_at crew now.frame now.top r) ≡ now.live
+  -- it is known of each of the fifteen companies whether it lives
+  pub many : length now.live ≡ 15
   pub left : length (left_of (origin_at setup r) (table_at crew now.frame now.top r)) ≡ now.left
   pub founders : crew.founders ≡ founders_in (above (origin_at setup r) now.frame r.journal)
   pub queued : IsQueue (table_at crew now.frame now.top r) crew.queue

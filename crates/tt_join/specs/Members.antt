@@ -1,10 +1,10 @@
 -- What the members of a game are seen as, and which plans they can put in force.
-use Rattle.std.specs.Prelude.{ℕ, ◌<◌, ◌≤◌, ◌^◌, ◌==◌, Bool, length, is_some, List, Option, find}
+use Rattle.std.specs.Prelude.{ℕ, ◌<◌, ◌≤◌, ◌^◌, ◌==◌, Bool, length, is_some, List, find}
 use Rattle.tt_world.specs.declared.setup.Setup.{Setup}
 use Rattle.tt_members.specs.Crew.{Crew, founders_in}
 use Rattle.tt_members.specs.Steps.{stamped_in}
 use Rattle.tt_members.specs.Planned.{Planned}
-use Rattle.tt_members.specs.Done.{committed, counted, members_behind, renamed}
+use Rattle.tt_members.specs.Done.{counted, members_behind, renamed}
 use Rattle.tt_members.specs.Rules.{Rise, HasRoom}
 
 -- for how many more of each list there is room

@@ -8,6 +8,8 @@ ghost use Rattle.tt_log.specs.Table.{Table};
 ghost use Rattle.tt_members.specs.Leaving.{farewell_of, IsParting};
 ghost use Rattle.tt_members.specs.Planned.{nothing};
 ghost use Rattle.tt_join.specs.Entering.{ending_plan, entered, leaving_plan};
+ghost use Rattle.tt_join.specs.declared.input.Input.TheVariants.{Msg, Bad, Shut};
+ghost use Rattle.tt_join.specs.Inputs.{Plans};
 ghost use Rattle.tt_join.specs.Joining.{made_from, with_crew};
 ghost use Rattle.tt_join.specs.Planning.{allowed_plan, heard_plan, judged_here, IsCode};
 
@@ -20,8 +22,14 @@ use crate::refusing::refused;
 use crate::scene::Scene;
 use tt_frame::OutOfMemory;
 use tt_game::GameMsg;
-use tt_members::{Member, Parting, Plan};
+use tt_members::{Member, Parting, Plan, place_of};
 use tt_rules::{Verdict, command_of, verdict};
+
+/// Ends a connection: it said what spells nothing.
+const ILLEGAL_PACKET: u8 = 4;
+
+/// Ends a connection: it was lost.
+const CONNECTION_LOST: u8 = 3;
 
 impl Members {
     /// What a message of a member is judged.
@@ -79,7 +87,15 @@ impl Members {
             GameMsg::ClientGetmap => ask(&self.queue, now.frame, m, plan),
             GameMsg::ClientMapOk => self.enter(now, m, plan),
             GameMsg::ClientAck { frame, token } => {
-                acknowledge(self.alloc, &self.members, now.frame, m, *frame, *token, plan)
+                acknowledge(
+                    self.alloc,
+                    &self.members,
+                    now.frame,
+                    m,
+                    *frame,
+                    *token,
+                    plan,
+                )
             }
             GameMsg::ClientCommand {
                 company,
@@ -93,7 +109,15 @@ impl Members {
             }
             GameMsg::ClientChat { scope, to, text } => {
                 let client = m.client();
-                chat(self.alloc, &self.members, client, *scope, *to, text.bytes(), plan)
+                chat(
+                    self.alloc,
+                    &self.members,
+                    client,
+                    *scope,
+                    *to,
+                    text.bytes(),
+                    plan,
+                )
             }
             GameMsg::ClientSetName { name } => set_name(scene, m, name, plan),
             GameMsg::ClientSetPassword { digest } => {
@@ -110,13 +134,7 @@ impl Members {
     }
 
     /// What a message of a member does, by its verdict.
-    fn hear(
-        &self,
-        now: &Now,
-        m: &Member,
-        msg: &GameMsg,
-        plan: &mut Plan,
-    ) -> Result<(), OutOfMemory>
+    fn hear(&self, now: &Now, m: &Member, msg: &GameMsg, plan: &mut Plan) -> Result<(), OutOfMemory>
         requires empty { plan.old ≡ nothing }
         ensures heard { (o : Origin) (t : Table) → OnOk result (plan.new
             ≡ heard_plan (judged_by now.now.live (made_from self.now.setup o) (with_crew self.now.crew.members self.now.crew.digests t)
@@ -128,19 +146,65 @@ impl Members {
         }
     }
 
-    /// A member is told a code, and ends.
-    fn end_with(
+    /// What a message on a connection does.
+    pub(crate) fn msg(
         &self,
         now: &Now,
-        m: &Member,
-        code: u8,
+        conn: u32,
+        msg: &GameMsg,
         plan: &mut Plan,
     ) -> Result<(), OutOfMemory>
+        requires { plan.old ≡ nothing }
+        ensures plans { OnOk result (Plans self.now.setup self.now.crew now.now (Msg conn msg.now) plan.new) }
+    {
+        let Some(at) = place_of(&self.members, conn) else {
+            return Ok(());
+        };
+        self.hear(now, &self.members[at], msg, plan)
+    }
+
+    /// What comes of bytes on a connection that spell nothing.
+    pub(crate) fn bad(&self, now: &Now, conn: u32, plan: &mut Plan) -> Result<(), OutOfMemory>
+        requires { plan.old ≡ nothing }
+        ensures plans { OnOk result (Plans self.now.setup self.now.crew now.now (Bad conn) plan.new) }
+    {
+        let Some(at) = place_of(&self.members, conn) else {
+            return Ok(());
+        };
+        self.end_with(now, &self.members[at], ILLEGAL_PACKET, plan)
+    }
+
+    /// What the end of a connection does.
+    pub(crate) fn shut(&self, now: &Now, conn: u32, plan: &mut Plan) -> Result<(), OutOfMemory>
+        requires { plan.old ≡ nothing }
+        ensures plans { OnOk result (Plans self.now.setup self.now.crew now.now (Shut conn) plan.new) }
+    {
+        let Some(at) = place_of(&self.members, conn) else {
+            return Ok(());
+        };
+        self.end(
+            now,
+            &self.members[at],
+            Parting::Fails(CONNECTION_LOST),
+            plan,
+        )
+    }
+
+    /// A member is told a code, and ends.
+    fn end_with(&self, now: &Now, m: &Member, code: u8, plan: &mut Plan) -> Result<(), OutOfMemory>
         requires code { code ≤ 20 }
         requires empty { plan.old ≡ nothing }
         ensures plan { OnOk result (plan.new ≡ ending_plan code now.now.frame self.now.crew.members self.now.crew.queue m.now) }
     {
-        end_told(self.alloc, &self.members, &self.queue, now.frame, m, code, plan)
+        end_told(
+            self.alloc,
+            &self.members,
+            &self.queue,
+            now.frame,
+            m,
+            code,
+            plan,
+        )
     }
 
     /// MAP_OK: a member is in the game, and catches up.
@@ -150,7 +214,15 @@ impl Members {
             ≡ entered now.now.frame now.now.top self.now.crew.tokens self.now.crew.members self.now.crew.queue m.now) }
     {
         let words = self.tokens;
-        enter(&self.members, &self.queue, words, now.frame, now.top, m, plan)
+        enter(
+            &self.members,
+            &self.queue,
+            words,
+            now.frame,
+            now.top,
+            m,
+            plan,
+        )
     }
 
     /// A member ends untold.
@@ -166,7 +238,15 @@ impl Members {
         ensures plan { OnOk result (plan.new
             ≡ leaving_plan (farewell_of parting) now.now.frame self.now.crew.members self.now.crew.queue m.now) }
     {
-        end_untold(self.alloc, &self.members, &self.queue, now.frame, m, parting, plan)
+        end_untold(
+            self.alloc,
+            &self.members,
+            &self.queue,
+            now.frame,
+            m,
+            parting,
+            plan,
+        )
     }
 }
 

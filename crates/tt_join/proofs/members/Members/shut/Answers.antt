@@ -1,0 +1,29 @@
+use Rattle.tt_rules.specs.Codes.{connection_lost}
+use Rattle.tt_log.specs.Ending.{ends_untold, Failing}
+use Rattle.tt_log.specs.Member.{Member}
+use Rattle.tt_log.specs.Table.{member_of}
+use Rattle.tt_members.specs.Rules.{Rise}
+use Rattle.tt_members.proofs.Behind.{does_by}
+use Rattle.tt_join.proofs.Finding.{found_in, kept_found, kept_rise, ok_so}
+use Rattle.tt_join.proofs.Enters.{leave_does}
+use Rattle.tt_join.proofs.Heard.{to_found}
+use Rattle.tt_join.proofs.members.Members.shut.Goals as goal
+
+pub returns : goal.returns
+returns c =
+    let m : Member = c.index.result.now in
+    let s = c.args.self.now.setup in
+    let k = c.args.self.now.crew in
+    let here = found_in c.args.conn c.in-Some.at c.deref.result.now c.self.inside.members.items m c.deref.ensures.value c.index.ensures
+    (c.in-Some.ensures.found m) in
+    let is = kept_found _ c.args.self.now c.args.conn m c.self.view_is here in
+    let rise : Rise k.members = kept_rise _ c.args.self.now c.self.view_is c.self.invariant.0 in
+    record {
+      plans = ok_so c.end.result c.end.ensures.plan (λ same r at.
+          let d = leave_does s k c.args.now.now.frame c.args.now.now.top r m (Failing connection_lost) rise at.queued in
+          let e = does_by s k c.args.now.now.frame c.args.now.now.top r _ c.end.new.plan _ same d in
+          let f = to_found s k c.args.now.now.frame c.args.now.now.top r (λ t. member_of t c.args.conn) m (λ o k t. ends_untold k
+              connection_lost t) c.end.new.plan is
+          (record { told = e.told; table = e.table }) in
+          record { told = f.told; table = f.table });
+    }
