@@ -35,7 +35,7 @@ within_refusal : (said : GameMsg) (s : Standing) (live : List Bool) → Within (
 within_refusal (ClientAck frame token) s live =
     within_or (nat_lt frame s.acked || nat_lt s.told frame ⇒ 7) (not ((token == 0) || (token == s.token)) ⇒ 7)
     (within_then (nat_lt frame s.acked || nat_lt s.told frame) 7 (omega arith)) (within_then (not ((token == 0) || (token == s.token))) 7
-        (omega arith))
+    (omega arith))
 within_refusal (ClientCommand company code number to text) s live =
     let last = within_then (not (company == s.company)) 11 (omega arith) in
     let fourth = within_or (not (is_living live company) ⇒ 12) (not (company == s.company) ⇒ 11)
@@ -43,7 +43,7 @@ within_refusal (ClientCommand company code number to text) s live =
     let third = within_or (is_own_code code ⇒ 12) (not (is_living live company) ⇒ 12 or_else not (company == s.company) ⇒ 11)
     (within_then (is_own_code code) 12 (omega arith)) fourth in
     let second = within_or (nat_lt 8 code ⇒ 7) (is_own_code code ⇒ 12 or_else not (is_living live company) ⇒ 12 or_else not (company ==
-        s.company) ⇒ 11)
+    s.company) ⇒ 11)
     (within_then (nat_lt 8 code) 7 (omega arith)) third in
     within_or (nat_le 16 s.waiting ⇒ 15)
     (nat_lt 8 code ⇒ 7 or_else is_own_code code ⇒ 12 or_else not (is_living live company) ⇒ 12 or_else not (company == s.company) ⇒ 11)
@@ -103,7 +103,7 @@ pub few_wait : (s : Standing) (live : List Bool) (company code : ℕ) → comman
 few_wait s live company code is =
     let one = or_none (nat_le 16 s.waiting ⇒ 15)
     (nat_lt 8 code ⇒ 7 or_else is_own_code code ⇒ 12 or_else not (is_living live company) ⇒ 12 or_else not (company == s.company) ⇒ 11) is
-        in
+    in
     let e : nat_le 16 s.waiting ≡ false = then_none (nat_le 16 s.waiting) 15 one.0 in
     grind (arith, e)
 

@@ -22,7 +22,7 @@ returns c =
           let d = bad_does s k c.args.now.now r m rise at.queued in
           let e = does_by s k c.args.now.now.frame c.args.now.now.top r _ c.end_with.new.plan _ same d in
           let f = to_found s k c.args.now.now.frame c.args.now.now.top r (λ t. member_of t c.args.conn) m (λ o k t. heard o None k t)
-              c.end_with.new.plan is
+          c.end_with.new.plan is
           (record { told = e.told; table = e.table }) in
           record { told = f.told; table = f.table });
     }

@@ -26,7 +26,7 @@ returns c =
       plans = ok_each c.hear.result (λ (r : Rest). c.hear.ensures.heard (origin_at s r) (table_at k now.frame now.top r)) (λ r same at.
           let own = own_found c.args.conn m (table_at k now.frame now.top r) is in
           let d = heard_does (judged_by now.live (origin_at s r) (table_at k now.frame now.top r) m said) said s k now r m rise own
-              at.queued at.live at.many refl in
+          at.queued at.live at.many refl in
           let e = does_by s k now.frame now.top r _ c.hear.new.plan _ same d in
           let f = to_found s k now.frame now.top r (λ t. member_of t c.args.conn) m (λ o k t. heard o (Some said) k t) c.hear.new.plan is
           (record { told = e.told; table = e.table }) in

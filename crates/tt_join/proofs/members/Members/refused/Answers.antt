@@ -9,8 +9,8 @@ pub returns-clause-refused : goal.returns-clause-refused
 returns-clause-refused c = λ o t.
     c.refused.ensures.refused o t
     ∙ ap₂ (λ (ms : List Member) (ds : List (ℕ × List ℕ)). refused (made_from c.self.inside.setup o) c.args.now.now.live (with_crew ms ds t)
-        c.args.m.now c.args.msg.now)
+    c.args.m.now c.args.msg.now)
     c.deref.ensures.value c.deref-2.ensures.value
     ∙ ap (λ (k : Kept). refused (made_from k.setup o) c.args.now.now.live (with_crew k.crew.members k.crew.digests t) c.args.m.now
-        c.args.msg.now)
+    c.args.msg.now)
     c.self.view_is

@@ -23,7 +23,7 @@ returns c =
           let d = leave_does s k c.args.now.now.frame c.args.now.now.top r m (Failing connection_lost) rise at.queued in
           let e = does_by s k c.args.now.now.frame c.args.now.now.top r _ c.end.new.plan _ same d in
           let f = to_found s k c.args.now.now.frame c.args.now.now.top r (λ t. member_of t c.args.conn) m (λ o k t. ends_untold k
-              connection_lost t) c.end.new.plan is
+          connection_lost t) c.end.new.plan is
           (record { told = e.told; table = e.table }) in
           record { told = f.told; table = f.table });
     }
