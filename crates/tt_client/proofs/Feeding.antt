@@ -1,5 +1,5 @@
 -- A piece that is fed.
-use Rattle.std.proofs.Common.{◌≡◌, ℕ, Bool, true, false, cond, List, [], ◌++◌, refl, sym, ap, ◌∙◌, append-nil}
+use Rattle.std.proofs.Common.{◌≡◌, ℕ, Bool, true, false, cond, List, [], ◌++◌, sym, ap, ◌∙◌, append-nil}
 use Rattle.tt_client.specs.declared.login.Login.{Login}
 use Rattle.tt_client.specs.Cutting.{Cut, cut_at}
 use Rattle.tt_client.specs.Held.{Held, fed_on}

@@ -1,21 +1,19 @@
 -- What runs in a client is what lockstep makes of its calls, as long as nothing has ended it, and stays as it is behind its end.
-use Rattle.std.proofs.Common.{◌≡◌, ℕ, zero, suc, Bool, true, false, cond, List, [], ◌∷◌, ◌++◌, length, map, drop, Option, None, Some, refl}
-use Rattle.std.proofs.Common.{sym, ap, ap₂, ◌∙◌, subst, append_assoc}
+use Rattle.std.proofs.Common.{◌≡◌, ℕ, zero, suc, Bool, true, false, cond, List, [], ◌∷◌, ◌++◌, length, map, drop, Option, Some, refl}
+use Rattle.std.proofs.Common.{sym, ap, ◌∙◌, subst, append_assoc}
 use Rattle.std.specs.Prelude.{◌&&◌, not, ◌==◌, nat_lt}
 use Rattle.std.proofs.lemmas.Bool.{false≢true}
 use Rattle.std.proofs.lemmas.List.{drop_at}
 use Rattle.tt_frame.specs.Packet.{IsBytes}
-use Rattle.tt_lockstep.specs.Told as told
 use Rattle.tt_lockstep.specs.Told.{Told}
 use Rattle.tt_lockstep.specs.Client as abstracted
 use Rattle.tt_lockstep.specs.Shown.{SyncPoint}
-use Rattle.tt_lockstep.specs.Wire.{PieceCall, FeedPiece, AdvanceBy, fed_bytes}
+use Rattle.tt_lockstep.specs.Wire.{fed_bytes}
 use Rattle.tt_lockstep.specs.Runner.{Kept, Runner, RunnerJoining, RunnerRunning, RunnerEndedJoining, RunnerEnded, RunnerWrongJoining}
 use Rattle.tt_lockstep.specs.Runner.{RunnerWrong, RunnerDesync}
 use Rattle.tt_lockstep.specs.Runner.{kept_on, next_world, runner_advanced, runner_checked, runner_frame, runner_hears, runner_run}
 use Rattle.tt_game.specs.declared.message.GameMsg.{GameMsg}
 use Rattle.tt_game.specs.declared.message.GameMsg.TheVariants.{ServerFull, ServerBanned, ServerError}
-use Rattle.tt_world.specs.declared.command.Command.{Command}
 use Rattle.tt_world.specs.declared.command.Entry.{Entry}
 use Rattle.tt_world.specs.World.{WorldState}
 use Rattle.tt_log.specs.Shown.{Item, Place, Asking, Parted, end_by, goes_on, item_told, items_in, place_then, things_in, things_of}
@@ -25,10 +23,10 @@ use Rattle.tt_client.specs.Answers.{command_bytes}
 use Rattle.tt_client.specs.Calls.{Call, Feed, Advance, Submit, Take, Say, Give, Run, fed, new_items, steps_behind}
 use Rattle.tt_client.specs.InStep.{pieces}
 use Rattle.tt_client.specs.Known.{known}
-use Rattle.tt_client.specs.Player.{Player, after, acks, heard, heard_all, heard_as, is_due, is_off, is_on, phase_by, plays, run_as, stepped}
+use Rattle.tt_client.specs.Player.{after, acks, heard, heard_all, heard_as, is_due, is_off, is_on, phase_by, plays, run_as, stepped}
 use Rattle.tt_client.specs.Runs.{running, runner_mark}
 use Rattle.tt_client.specs.Runs as runs
-use Rattle.tt_client.specs.Saying.{Saying, with_bytes, taken}
+use Rattle.tt_client.specs.Saying.{Saying, with_bytes}
 use Rattle.tt_client.proofs.Growing.{items_grow}
 use Rattle.tt_client.proofs.InSteps.{bytes_front, hears_behind}
 use Rattle.tt_client.proofs.Same.{runner_run-behind}

@@ -1,10 +1,9 @@
 -- What begins in a stream stays there, whatever comes behind.
-use Rattle.std.proofs.Common.{◌≡◌, ℕ, ◌+◌, ◌≤◌, List, [], ◌∷◌, ◌++◌, length, drop, refl, sym, ap, ap₂, ◌∙◌, subst, append_assoc, append-nil}
+use Rattle.std.proofs.Common.{◌≡◌, ℕ, ◌≤◌, List, [], ◌∷◌, ◌++◌, length, drop, refl, sym, ap, ap₂, ◌∙◌, subst, append_assoc, append-nil}
 use Rattle.std.proofs.Common.{arith, lit<}
-use Rattle.std.specs.Prelude.{slice_index}
 use Rattle.std.specs.List.{flat_map}
 use Rattle.std.proofs.lemmas.List.{drop_at}
-use Rattle.tt_frame.specs.Packet.{IsBytes, Packet, packet_bytes, size_of}
+use Rattle.tt_frame.specs.Packet.{IsBytes, Packet, packet_bytes}
 use Rattle.tt_frame.specs.Stream.{Broken, End, IsBadSize, Reads, bad_size, rest_of, told_size}
 use Rattle.tt_frame.specs.StreamReading.{reading}
 use Rattle.tt_frame.proofs.StreamLaws.{reading_reads, same_reading}

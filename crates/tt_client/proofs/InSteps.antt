@@ -1,7 +1,7 @@
 -- A client, call by call, is what it is over all calls.
-use Rattle.std.proofs.Common.{◌≡◌, ℕ, zero, suc, ◌+◌, Bool, true, false, cond, List, [], ◌∷◌, ◌++◌, length, map, Option, None, refl, sym}
+use Rattle.std.proofs.Common.{◌≡◌, ℕ, zero, suc, ◌+◌, Bool, true, false, cond, List, [], ◌∷◌, ◌++◌, map, Option, None, refl, sym}
 use Rattle.std.proofs.Common.{ap, ap₂, ◌∙◌, subst, append_assoc, arith, lit<}
-use Rattle.std.specs.Prelude.{◌&&◌, not, min}
+use Rattle.std.specs.Prelude.{◌&&◌, not}
 use Rattle.std.specs.List.{flat_map}
 use Rattle.std.proofs.lemmas.Bool.{false≢true}
 use Rattle.tt_frame.specs.Packet.{IsBytes, Packet, packet_bytes, size_of}
@@ -20,10 +20,10 @@ use Rattle.tt_game.specs.declared.message.GameMsg.{GameMsg}
 use Rattle.tt_log.specs.Shown.{Item, Phase, WrongAt, goes_on, item_told, items_from, place_then, Parted}
 use Rattle.tt_client.specs.declared.login.Login.{Login}
 use Rattle.tt_client.specs.Calls.{Call, Step, Feed, Advance, Submit, Take, Hear, Run, Say, Give, fed, new_items, steps_behind}
-use Rattle.tt_client.specs.Cutting.{behind, cut_at, cut_off, items_on, told_behind, told_items, unread}
-use Rattle.tt_client.specs.Held.{Held, fed_on, held, held_after, held_first, held_on, with_call}
+use Rattle.tt_client.specs.Cutting.{behind, cut_at, cut_off, told_behind, told_items, unread}
+use Rattle.tt_client.specs.Held.{Held, fed_on, held, held_after, held_first, held_on}
 use Rattle.tt_client.specs.Known.{known}
-use Rattle.tt_client.specs.Player.{Player, Mark, Joins, Plays, Ends, Strays, Off, after, heard, heard_all, heard_as, is_off, is_on, joined}
+use Rattle.tt_client.specs.Player.{Mark, Joins, Plays, Ends, Strays, Off, after, heard, heard_all, heard_as, is_off, is_on, joined}
 use Rattle.tt_client.specs.Player.{learnt, phase_by, plays, run_as, said_behind, stepped, told_place}
 use Rattle.tt_client.specs.Runs.{client_run, runner_frame, runner_mark, runner_permitted, running}
 use Rattle.tt_client.specs.Saying.{Saying, with_bytes}

@@ -1,17 +1,14 @@
 -- A client that was fed what a server of the game sent is in step.
-use Rattle.std.proofs.Common.{◌≡◌, ℕ, zero, suc, Bool, true, false, cond, List, [], ◌∷◌, ◌++◌, Option, None, Some, refl, sym, ap, ◌∙◌}
-use Rattle.std.proofs.Common.{subst, append-nil}
-use Rattle.std.specs.Prelude.{◌&&◌, not, ◌==◌, nat_lt}
+use Rattle.std.proofs.Common.{◌≡◌, ℕ, false, cond, List, [], ◌∷◌, ◌++◌, Some, refl, sym, ap, ◌∙◌}
+use Rattle.std.proofs.Common.{subst}
 use Rattle.tt_frame.specs.Packet.{IsBytes}
 use Rattle.tt_frame.specs.StreamReading.{reading_within}
 use Rattle.tt_edge.specs.declared.event.Event.{Event}
 use Rattle.tt_lockstep.specs.Shown.{SyncPoint}
 use Rattle.tt_lockstep.specs.Wire.{PieceCall, fed_bytes}
-use Rattle.tt_lockstep.specs.Runner.{IsRunnerInStep, Kept, Runner, RunnerJoining, RunnerRunning, RunnerEndedJoining, RunnerEnded}
+use Rattle.tt_lockstep.specs.Runner.{IsRunnerInStep, Runner, RunnerJoining, RunnerRunning, RunnerEndedJoining, RunnerEnded}
 use Rattle.tt_lockstep.specs.Runner.{RunnerWrongJoining, RunnerWrong, RunnerDesync}
-use Rattle.tt_lockstep.specs.Runner.{kept_on, next_world, runner_advanced, runner_checked, runner_frame, runner_hears, runner_run}
-use Rattle.tt_game.specs.declared.message.GameMsg.{GameMsg}
-use Rattle.tt_game.specs.declared.message.GameMsg.TheVariants.{ServerFull, ServerBanned, ServerError}
+use Rattle.tt_lockstep.specs.Runner.{runner_run}
 use Rattle.tt_world.specs.declared.command.Entry.{Entry}
 use Rattle.tt_world.specs.World.{WorldState}
 use Rattle.tt_log.specs.History.{AreEvents, journal_of}
@@ -33,15 +30,12 @@ use Rattle.tt_client.proofs.Shows.{Shows, client_shows}
 use Rattle.tt_log.specs.Told.{sent}
 use Rattle.tt_in_step.specs.Fed.{IsPlayer, calls_of}
 use Rattle.tt_client.specs.declared.login.Login.{Login}
-use Rattle.tt_client.specs.Answers.{command_bytes}
-use Rattle.tt_client.specs.Calls.{Advance, Call, Feed, Submit, Take, Give, Hear, Run, Say, Step, fed, steps_behind}
+use Rattle.tt_client.specs.Calls.{Advance, Call, Feed, Submit, Take, fed, steps_behind}
 use Rattle.tt_client.specs.Held.{Held, frame_by, held, held_after, held_first, kept_in, world_by, with_call}
 use Rattle.tt_client.specs.InStep.{AdvancesInStep, FeedsInStep, IsInStep, IsRight, IsSent, pieces}
 use Rattle.tt_client.specs.Known.{anywhere, known}
 use Rattle.tt_client.specs.Player.{Mark, Joins, Plays, Ends, Strays, Off, is_off, joined}
 use Rattle.tt_client.specs.Runs.{client, client_run, runner_mark, running}
-use Rattle.tt_client.specs.Runs as runs
-use Rattle.tt_client.specs.Saying.{Saying, with_bytes}
 use Rattle.tt_client.specs.State.{state_by, state_in}
 use Rattle.tt_client.proofs.Anywhere.{run-same}
 use Rattle.tt_client.proofs.Following.{Going, all_fed, follows, place_on}

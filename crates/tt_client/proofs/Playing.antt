@@ -1,10 +1,10 @@
 -- What a client in the game makes of an item, by its verdict.
-use Rattle.std.proofs.Common.{◌≡◌, ℕ, suc, ◌+◌, ◌<◌, arith, drop, drop-cons, get_or, length, Bool, true, false, cond, List, [], ◌∷◌, ◌++◌}
+use Rattle.std.proofs.Common.{◌≡◌, ℕ, suc, ◌+◌, ◌<◌, arith, drop, drop-cons, get_or, length, Bool, true, false, cond, List}
 use Rattle.std.proofs.Common.{Option, Some, None, refl, sym, ap, ap₂, ◌∙◌}
 use Rattle.std.specs.Prelude.{◌&&◌, ◌||◌, not, is_some}
 use Rattle.tt_lockstep.specs.Told as told
 use Rattle.tt_lockstep.specs.Told.{Told}
-use Rattle.tt_lockstep.specs.Runner.{Kept, Runner, RunnerJoining, RunnerRunning, RunnerEndedJoining, RunnerEnded, RunnerWrongJoining}
+use Rattle.tt_lockstep.specs.Runner.{Kept, Runner, RunnerRunning, RunnerEnded}
 use Rattle.tt_lockstep.specs.Runner.{RunnerWrong, RunnerDesync}
 use Rattle.tt_lockstep.specs.Runner.{runner_hears}
 use Rattle.tt_game.specs.declared.message.GameMsg.{GameMsg}
@@ -20,10 +20,10 @@ use Rattle.tt_client.specs.declared.stage.Phase.TheVariants.{Joining, Loaded, En
 use Rattle.tt_client.specs.Hearing.{Heard, with_news}
 use Rattle.tt_client.specs.Held.{off_or, phase_of}
 use Rattle.tt_client.specs.Known.{known}
-use Rattle.tt_client.specs.Player.{Player, Rules, heard, heard_all, heard_as, is_on, learnt, token_in, told_place, phase_by, said_behind}
+use Rattle.tt_client.specs.Player.{Player, Rules, heard, heard_all, heard_as, learnt, token_in, told_place, said_behind}
 use Rattle.tt_client.specs.Runs.{running, runner_mark}
 use Rattle.tt_client.specs.Planned.{PlayStands, in_play, later_token, place_on, played}
-use Rattle.tt_client.specs.Saying.{Saying, with_bytes, with_token}
+use Rattle.tt_client.specs.Saying.{Saying, with_token}
 use Rattle.tt_client.proofs.Sayings.{say_nothing, token_twice}
 
 abbrev K : Type 0

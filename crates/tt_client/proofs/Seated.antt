@@ -17,7 +17,7 @@ use Rattle.tt_client.specs.declared.stage.Stage.TheVariants as s
 use Rattle.tt_client.specs.declared.stage.Phase.{Phase}
 use Rattle.tt_client.specs.declared.stage.Phase.TheVariants.{Joining, Loaded, Ended, Shutdown, Wrong}
 use Rattle.tt_client.specs.Held.{IsBeforeMap, Stands, phase_of, place_of, runner_in}
-use Rattle.tt_client.specs.Planned.{IsClear, IsJoining, JoinStands, JoinStandsBy, PlayStands, at_door, in_play, joined_by, joins_still}
+use Rattle.tt_client.specs.Planned.{IsClear, JoinStands, JoinStandsBy, PlayStands, at_door, in_play, joined_by, joins_still}
 use Rattle.tt_client.specs.Planned.{joining_still, runs_in}
 use Rattle.tt_client.specs.Known.{known}
 use Rattle.tt_client.specs.Player.{Player, heard, heard_all, heard_as, is_off, is_on}

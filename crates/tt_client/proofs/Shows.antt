@@ -1,5 +1,5 @@
 -- Unless it is out of step, a client has just what its stream shows.
-use Rattle.std.proofs.Common.{◌≡◌, ◌⊎◌, inl, inr, ℕ, zero, suc, Bool, true, false, cond, List, [], ◌∷◌, ◌++◌, Option, Some, None, refl, sym}
+use Rattle.std.proofs.Common.{◌≡◌, ◌⊎◌, inl, inr, ℕ, zero, suc, Bool, true, false, cond, List, [], ◌∷◌, ◌++◌, Option, Some, refl, sym}
 use Rattle.std.proofs.Common.{ap, ap₂, ◌∙◌, subst}
 use Rattle.std.specs.Prelude.{◌&&◌, not, nat_lt, ◌==◌, fold}
 use Rattle.tt_lockstep.specs.Told as told
@@ -30,7 +30,7 @@ use Rattle.tt_client.proofs.InSteps.{bytes_front}
 use Rattle.tt_client.specs.Calls.{Call, Feed, Advance, Submit, Take, fed, new_items, steps_behind}
 use Rattle.tt_client.specs.Calls.{Step, Hear, Run, Say, Give}
 use Rattle.tt_client.specs.Player.{Player, acks, after, heard, heard_all, heard_as, is_due, is_off, is_on, joined, learnt, phase_by, plays}
-use Rattle.tt_client.specs.Player.{run_as, stepped, told_place}
+use Rattle.tt_client.specs.Player.{run_as, stepped}
 use Rattle.tt_client.specs.Runs.{client, client_frame, client_mark, client_permitted, scratch}
 use Rattle.tt_client.specs.Showing.{IsShown, told_phase}
 

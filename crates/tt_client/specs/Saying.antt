@@ -1,5 +1,5 @@
 -- What waits to be said. Of acknowledgements at most one of which no part was taken waits: a later one takes its place.
-use Rattle.std.specs.Prelude.{◌≡◌, ℕ, zero, suc, ◌==◌, Bool, true, false, cond, if◌then◌else◌, List, [], ◌∷◌, ◌++◌, drop, Option}
+use Rattle.std.specs.Prelude.{◌≡◌, ℕ, zero, suc, ◌==◌, true, false, if◌then◌else◌, List, [], ◌∷◌, ◌++◌, drop, Option}
 use Rattle.std.specs.Prelude.{Some, None}
 use Rattle.tt_frame.specs.Packet.{packet_bytes}
 use Rattle.tt_game.specs.declared.message.GameMsg.{GameMsg}

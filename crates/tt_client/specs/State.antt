@@ -1,12 +1,12 @@
 -- What a client answers of itself.
-use Rattle.std.specs.Prelude.{ℕ, Bool, true, false}
+use Rattle.std.specs.Prelude.{Bool, true, false}
 use Rattle.tt_lockstep.specs.Runner.{Runner}
 use Rattle.tt_world.specs.declared.command.Entry.{Entry}
 use Rattle.tt_world.specs.World.{WorldState}
 use Rattle.tt_log.specs.Shown.{Phase, Joining, Loaded, EndedWith, ShutDown, WrongAt}
 use Rattle.tt_client.specs.declared.state.State.{State}
 use Rattle.tt_client.specs.declared.state.State.TheVariants as state
-use Rattle.tt_client.specs.Player.{Mark, Joins, Plays, Ends, Strays, Off, Player}
+use Rattle.tt_client.specs.Player.{Mark, Off, Player}
 use Rattle.tt_client.specs.Runs.{runner_mark}
 
 abbrev pub state_in : Phase → State

@@ -1,4 +1,4 @@
-use Rattle.std.proofs.Common.{◌≡◌, ◌∙◌, sym, ap, Some, List, ℕ}
+use Rattle.std.proofs.Common.{◌∙◌, sym, ap, Some, List, ℕ}
 use Rattle.tt_game.specs.declared.message.GameMsg.{GameMsg}
 use Rattle.tt_game.specs.declared.message.GameMsg.TheVariants.{ClientGamePassword, ClientCompanyPassword}
 use Rattle.tt_log.specs.Shown.{Asking}

@@ -1,7 +1,6 @@
-use Rattle.std.proofs.Common.{◌≡◌, ◌≢◌, ℕ, List, ◌++◌, Ok, Err, ◌∙◌, sym, ap, subst, arith}
+use Rattle.std.proofs.Common.{◌≡◌, ℕ, List, ◌++◌, ◌∙◌, sym, ap, subst, arith}
 use Rattle.std.specs.Result.{result_ok}
 use Rattle.tt_frame.specs.Packet.{IsBytes}
-use Rattle.tt_map.specs.declared.bad.MapBad.TheVariants as bad
 use Rattle.tt_client.proofs.WorldLaws.{R, bytes_both, decoded, ok_answered, err_answered}
 use Rattle.tt_client.proofs.join.world_in.Goals as goal
 

@@ -1,4 +1,4 @@
-use Rattle.std.proofs.Common.{◌≡◌, ℕ, List, [], true, false, ◌++◌, ◌∙◌, sym, ap}
+use Rattle.std.proofs.Common.{◌≡◌, ℕ, List, [], true, false, ◌∙◌, sym, ap}
 use Rattle.tt_client.specs.Held.{Held, fed_on}
 use Rattle.tt_client.specs.Player.{is_on}
 use Rattle.tt_client.specs.Runs.{running}

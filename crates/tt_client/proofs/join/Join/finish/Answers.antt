@@ -1,7 +1,6 @@
-use Rattle.std.proofs.Common.{◌≡◌, ℕ, List, Option, Some, ◌++◌, length, length-append, ◌∙◌, sym, ap, arith}
+use Rattle.std.proofs.Common.{◌≡◌, ℕ, List, Some, ◌++◌, length, length-append, ◌∙◌, sym, ap, arith}
 use Rattle.std.specs.Result.{result_ok}
 use Rattle.tt_map.specs.Reading.{map_in}
-use Rattle.tt_world.specs.World.{WorldState}
 use Rattle.tt_client.proofs.Joining.{finished}
 use Rattle.tt_client.proofs.join.Join.finish.Goals as goal
 

@@ -1,4 +1,4 @@
-use Rattle.std.proofs.Common.{◌≡◌, ℕ, List, ◌++◌, Some, refl, ◌∙◌, sym, ap, subst, append_assoc}
+use Rattle.std.proofs.Common.{◌≡◌, ℕ, List, ◌++◌, refl, ◌∙◌, sym, ap, subst, append_assoc}
 use Rattle.tt_client.specs.declared.join.Join.{Join}
 use Rattle.tt_client.specs.Held.{place_of}
 use Rattle.tt_client.specs.Planned.{IsClear, bytes_said, map_bytes}

@@ -1,4 +1,4 @@
-use Rattle.std.proofs.Common.{◌≡◌, ℕ, Option, None, ◌++◌, refl, ◌∙◌, sym, ap, arith}
+use Rattle.std.proofs.Common.{◌≡◌, Option, None, refl, ◌∙◌, sym, ap, arith}
 use Rattle.tt_game.specs.declared.message.GameMsg.{GameMsg}
 use Rattle.tt_log.specs.Shown.{Item}
 use Rattle.tt_client.specs.declared.join.Join.{Join}

@@ -1,13 +1,9 @@
-use Rattle.std.proofs.Common.{◌≡◌, ℕ, true, false, Option, Some, None, refl, ◌∙◌, sym, ap, arith}
-use Rattle.std.specs.Prelude.{◌||◌, not, is_some}
-use Rattle.tt_lockstep.specs.Runner.{RunnerRunning, RunnerWrong, runner_hears}
+use Rattle.std.proofs.Common.{◌≡◌, Option, Some, None, refl, ◌∙◌, sym, ap, arith}
 use Rattle.tt_game.specs.declared.message.GameMsg.{GameMsg}
-use Rattle.tt_log.specs.Shown.{Item, goes_on, told_in_play}
-use Rattle.tt_client.specs.declared.stage.Phase.TheVariants.{Loaded}
+use Rattle.tt_log.specs.Shown.{Item, goes_on}
 use Rattle.tt_client.specs.declared.verdict.Verdict.{Verdict}
 use Rattle.tt_client.specs.Held.{phase_of}
 use Rattle.tt_client.specs.Hearing.{with_news}
-use Rattle.tt_client.specs.Known.{known}
 use Rattle.tt_client.specs.Player.{heard, told_place}
 use Rattle.tt_client.specs.Runs.{running}
 use Rattle.tt_client.specs.Planned.{played}

@@ -1,12 +1,10 @@
-use Rattle.std.proofs.Common.{◌≡◌, ℕ, List, Option, None, Some, ◌++◌, ◌-◌, drop, take, length, ◌∙◌, sym, ap, ap₂, subst, rules}
+use Rattle.std.proofs.Common.{◌≡◌, ℕ, List, Option, ◌++◌, ◌-◌, drop, take, length, ◌∙◌, sym, ap, ap₂, subst, rules}
 use Rattle.std.proofs.lemmas.List.{take_rest}
 use Rattle.std.proofs.lemmas.Result.{on_ok_weaker}
 use Rattle.tt_log.specs.Shown as book
 use Rattle.tt_log.specs.Shown.{Item}
 use Rattle.tt_client.specs.declared.running.Mismatch.{Mismatch}
-use Rattle.tt_client.specs.declared.stage.Phase.{Phase}
-use Rattle.tt_client.specs.declared.stage.Phase.TheVariants.{Joining}
-use Rattle.tt_client.specs.Held.{phase_of, place_of, unmapped}
+use Rattle.tt_client.specs.Held.{phase_of, place_of}
 use Rattle.tt_client.specs.Player.{heard_all}
 use Rattle.tt_client.specs.Planned.{IsClear, at_door, in_play, joined_by, runs_in}
 use Rattle.tt_client.specs.Runs.{running}

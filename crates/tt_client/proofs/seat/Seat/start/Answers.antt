@@ -1,6 +1,5 @@
-use Rattle.std.proofs.Common.{◌≡◌, ℕ, List, Option, Some, ◌∙◌, sym, ap, ap₂}
+use Rattle.std.proofs.Common.{◌∙◌, ap, ap₂}
 use Rattle.tt_log.specs.Shown.{Place, goes_on}
-use Rattle.std.proofs.Common.{true}
 use Rattle.tt_client.specs.Held.{off_or, phase_of}
 use Rattle.tt_client.specs.Hearing.{with_news}
 use Rattle.tt_client.specs.Player.{heard_all}
