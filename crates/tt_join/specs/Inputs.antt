@@ -47,9 +47,10 @@ abbrev pub IsAbove : List Member → Input → Type 0
 IsAbove ms (Open conn) = (0 < conn) × AllByRecursion (λ m. m.conn < conn) ms
 IsAbove ms other = Unit {0}
 
--- what can be planned: an opening above all that are there, words in one of the three scopes, and a frame more before the last one
+-- what can be planned: an opening above all that are there, words in one of the three scopes, and a frame more up to the last one
+-- that a game permits
 abbrev pub IsTaken : List Member → Now → Input → Type 0
-IsTaken ms now (Open conn) = (0 < conn) × AllByRecursion (λ m. m.conn < conn) ms
+IsTaken ms now (Open conn) = IsAbove ms (Open conn)
 IsTaken ms now (Say scope to text) = scope ≤ 2
 IsTaken ms now Tick = (now.frame ≤ now.top) × (now.top ≤ 4_000_000_064)
 IsTaken ms now other = Unit {0}

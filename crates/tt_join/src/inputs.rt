@@ -1,8 +1,7 @@
-//! What comes to the members, planned: openings, the words of the server's own, ticks, and whatever comes.
+//! Openings, what the server and its console do, and ticks, planned: each with its own rule; and the plan of whatever comes.
 ghost use Rattle.std.specs.Prelude.{◌≡◌, ◌≤◌, OnOk};
 ghost use Rattle.tt_members.specs.Planned.{nothing};
 ghost use Rattle.tt_join.specs.declared.input.Input.TheVariants.{Open, Own, Kick, Say, Tick};
-ghost use Rattle.tt_join.specs.Entering.{ending_plan};
 ghost use Rattle.tt_join.specs.Inputs.{IsTaken, Plans};
 ghost use Rattle.tt_join.specs.Members.{IsOrdered};
 
@@ -22,7 +21,7 @@ const KICKED: u8 = 12;
 const SERVER: u32 = 1;
 
 impl Members {
-    /// What an opening does.
+    /// An opening: a connection comes in, or is told that all places are taken. With no client number left there is no plan.
     fn open(&self, now: &Now, conn: u32, plan: &mut Plan) -> Result<(), OutOfMemory>
         requires taken { IsTaken self.now.crew.members now.now (Open conn) }
         requires empty { plan.old ≡ nothing }
@@ -36,17 +35,19 @@ impl Members {
         opened(self.alloc, full, conn, client, now.frame, plan)
     }
 
-    /// What a command of the server's own does.
+    /// A command of the server's own goes on its list.
     fn own(&self, now: &Now, command: Command, plan: &mut Plan) -> Result<(), OutOfMemory>
         requires empty { plan.old ≡ nothing }
         ensures plans { OnOk result (Plans self.now.setup self.now.crew now.now (Own command) plan.new) }
         ensures ordered { OnOk result (IsOrdered self.now.crew plan.new) }
     {
+        // What holds of all members is known where a field is reached.
+        let _ = &self.clients;
         order(command, plan);
         Ok(())
     }
 
-    /// What the server says to those in a scope.
+    /// The server's own client says something: those in the scope that play are told.
     fn say(
         &self,
         now: &Now,
@@ -74,7 +75,7 @@ impl Members {
         )
     }
 
-    /// What it does that the console ends a client.
+    /// The console ends a client: the member that has its number is told so, and ends.
     fn kick(&self, now: &Now, client: u32, plan: &mut Plan) -> Result<(), OutOfMemory>
         requires empty { plan.old ≡ nothing }
         ensures plans { OnOk result (Plans self.now.setup self.now.crew now.now (Kick client) plan.new) }
