@@ -4,7 +4,8 @@ ghost use Rattle.std.specs.Prelude.{◌≡◌, ◌++◌, ◌≤◌, ◌+◌, ◌
 ghost use Rattle.tt_log.specs.PacketRules.{client_info, new_company};
 ghost use Rattle.tt_members.specs.Leaving.{farewell_of, IsParting};
 ghost use Rattle.tt_members.specs.Planned.{IsPlain, nothing};
-ghost use Rattle.tt_join.specs.Entering.{acked_marks, acknowledging, asking, catches_up, ending_plan, entered, infos, leaving_plan, opening};
+ghost use Rattle.tt_join.specs.Entering.{acked_marks, acknowledging, asking, catches_up, entered, infos, opening};
+ghost use Rattle.tt_join.specs.Entering.{ending_plan, leaving_plan};
 
 use std::alloc::Global;
 use tt_admin::AdminMsg;
