@@ -23,3 +23,5 @@ pub mod Heard
 pub mod Judging
 pub mod Ordering
 pub mod Finding
+pub mod Outside
+pub mod Tied

@@ -9,6 +9,7 @@ mod entering;
 mod founding;
 mod input;
 mod joining;
+mod laws;
 mod limits;
 mod loading;
 mod members;
