@@ -1,5 +1,5 @@
 -- What comes to the members, and the rule of each.
-use Rattle.std.specs.Prelude.{◌≡◌, ℕ, ◌+◌, ◌<◌, List, length, Some, None}
+use Rattle.std.specs.Prelude.{◌≡◌, ℕ, ◌+◌, ◌<◌, ◌≤◌, List, length, Some, None}
 use Rattle.std.specs.List.{AllByRecursion}
 use Rattle.tt_world.specs.declared.setup.Setup.{Setup}
 use Rattle.tt_world.specs.World.{WorldState}
@@ -46,6 +46,13 @@ by_input Tick o t = members_ticked o t
 abbrev pub IsAbove : List Member → Input → Type 0
 IsAbove ms (Open conn) = (0 < conn) × AllByRecursion (λ m. m.conn < conn) ms
 IsAbove ms other = Unit {0}
+
+-- what can be planned: an opening above all that are there, words in one of the three scopes, and a frame more before the last one
+abbrev pub IsTaken : List Member → Now → Input → Type 0
+IsTaken ms now (Open conn) = (0 < conn) × AllByRecursion (λ m. m.conn < conn) ms
+IsTaken ms now (Say scope to text) = scope ≤ 2
+IsTaken ms now Tick = (now.frame ≤ now.top) × (now.top ≤ 4_000_000_064)
+IsTaken ms now other = Unit {0}
 
 -- an opening is the next one
 abbrev pub IsNextOpening : ℕ → Input → Type 0

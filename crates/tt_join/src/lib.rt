@@ -8,6 +8,7 @@
 mod entering;
 mod founding;
 mod input;
+mod inputs;
 mod joining;
 mod laws;
 mod limits;

@@ -11,6 +11,7 @@ ghost use Rattle.tt_join.specs.Entering.{ending_plan, entered, leaving_plan};
 ghost use Rattle.tt_join.specs.declared.input.Input.TheVariants.{Msg, Bad, Shut};
 ghost use Rattle.tt_join.specs.Inputs.{Plans};
 ghost use Rattle.tt_join.specs.Joining.{made_from, with_crew};
+ghost use Rattle.tt_join.specs.Members.{IsOrdered};
 ghost use Rattle.tt_join.specs.Planning.{allowed_plan, heard_plan, judged_here, IsCode};
 
 use crate::entering::{acknowledge, ask, end_told, end_untold, enter};
@@ -156,6 +157,7 @@ impl Members {
     ) -> Result<(), OutOfMemory>
         requires { plan.old ≡ nothing }
         ensures plans { OnOk result (Plans self.now.setup self.now.crew now.now (Msg conn msg.now) plan.new) }
+        ensures ordered { OnOk result (IsOrdered self.now.crew plan.new) }
     {
         let Some(at) = place_of(&self.members, conn) else {
             return Ok(());
@@ -167,6 +169,7 @@ impl Members {
     pub(crate) fn bad(&self, now: &Now, conn: u32, plan: &mut Plan) -> Result<(), OutOfMemory>
         requires { plan.old ≡ nothing }
         ensures plans { OnOk result (Plans self.now.setup self.now.crew now.now (Bad conn) plan.new) }
+        ensures ordered { OnOk result (IsOrdered self.now.crew plan.new) }
     {
         let Some(at) = place_of(&self.members, conn) else {
             return Ok(());
@@ -178,6 +181,7 @@ impl Members {
     pub(crate) fn shut(&self, now: &Now, conn: u32, plan: &mut Plan) -> Result<(), OutOfMemory>
         requires { plan.old ≡ nothing }
         ensures plans { OnOk result (Plans self.now.setup self.now.crew now.now (Shut conn) plan.new) }
+        ensures ordered { OnOk result (IsOrdered self.now.crew plan.new) }
     {
         let Some(at) = place_of(&self.members, conn) else {
             return Ok(());
@@ -191,7 +195,13 @@ impl Members {
     }
 
     /// A member is told a code, and ends.
-    fn end_with(&self, now: &Now, m: &Member, code: u8, plan: &mut Plan) -> Result<(), OutOfMemory>
+    pub(crate) fn end_with(
+        &self,
+        now: &Now,
+        m: &Member,
+        code: u8,
+        plan: &mut Plan,
+    ) -> Result<(), OutOfMemory>
         requires code { code ≤ 20 }
         requires empty { plan.old ≡ nothing }
         ensures plan { OnOk result (plan.new ≡ ending_plan code now.now.frame self.now.crew.members self.now.crew.queue m.now) }
