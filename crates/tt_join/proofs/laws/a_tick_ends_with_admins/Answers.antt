@@ -11,11 +11,13 @@ use Rattle.tt_log.specs.Watching.{sees_frame}
 use Rattle.tt_join.specs.Inputs.{members_follow}
 use Rattle.tt_join.proofs.laws.a_tick_ends_with_admins.Goals as goal
 
--- one rule, and then two, told in other brackets
-told_so : (t : Table) (ks ls ms ns : List Step) → (record { table = t; told = ks ++ ((ls ++ ms) ++ ns) } : Deed)
-    ≡ record { table = t; told = ((ks ++ ls) ++ ms) ++ ns }
-told_so t ks ls ms ns = ap (λ (told : List Step). (record { table = t; told = told } : Deed))
-    (sym (append_assoc ks (ls ++ ms) ns) ∙ ap (λ (x : List Step). x ++ ns) (sym (append_assoc ks ls ms)))
+abbrev told_at : Table → List Step → Deed
+told_at t told = record { table = t; told = told }
+
+-- one rule, and then three, told in other brackets
+told_so : (t : Table) (ks ls ms ns : List Step) → told_at t (ks ++ ((ls ++ ms) ++ ns)) ≡ told_at t (((ks ++ ls) ++ ms) ++ ns)
+told_so t ks ls ms ns =
+    ap (told_at t) (sym (append_assoc ks (ls ++ ms) ns) ∙ ap (λ (x : List Step). x ++ ns) (sym (append_assoc ks ls ms)))
 
 regrouped : (d : Deed) (f g h : Table → Deed) → (d ▹ (λ t. f t ▹ g ▹ h)) ≡ (d ▹ f ▹ g ▹ h)
 regrouped d f g h =
