@@ -23,3 +23,4 @@ pub mod Heard
 pub mod Judging
 pub mod Ordering
 pub mod Finding
+pub mod Ordered
