@@ -28,11 +28,11 @@ returns c =
           (record { told = e.told; table = e.table }) in
           record { told = f.told; table = f.table });
       ordered = ok_so c.end_with.result c.end_with.ensures.plan (λ same.
-          kept_calm _ c.args.self.now _ c.end_with.new.plan c.self.view_is c.self.invariant.0 c.self.invariant.1.1
+          kept_calm _ c.args.self.now _ c.end_with.new.plan c.self.view_is c.self.invariant.0 c.self.invariant.2
           (record { arrives = refl; counts = refl; offers = refl }) same);
     }
 
 pub returns-in_default-clause-ordered : goal.returns-in_default-clause-ordered
 returns-in_default-clause-ordered c =
-    kept_calm _ c.args.self.now nothing c.args.plan.now c.self.view_is c.self.invariant.0 c.self.invariant.1.1
+    kept_calm _ c.args.self.now nothing c.args.plan.now c.self.view_is c.self.invariant.0 c.self.invariant.2
     (record { arrives = refl; counts = refl; offers = refl }) c.requires

@@ -1,4 +1,4 @@
-use Rattle.std.proofs.Common.{refl}
+use Rattle.std.proofs.Common.{refl, sym}
 use Rattle.tt_log.specs.Console.{kicks_out}
 use Rattle.tt_log.specs.Member.{Member}
 use Rattle.tt_log.specs.Table.{member_with}
@@ -13,7 +13,7 @@ use Rattle.tt_join.proofs.members.Members.kick.Goals as goal
 
 pub returns-in_default-clause-ordered : goal.returns-in_default-clause-ordered
 returns-in_default-clause-ordered c =
-    kept_calm _ c.args.self.now nothing c.args.plan.now c.self.view_is c.self.invariant.0 c.self.invariant.1.1
+    kept_calm _ c.args.self.now nothing c.args.plan.now c.self.view_is c.self.invariant.0 c.self.invariant.2
     (record { arrives = refl; counts = refl; offers = refl }) c.requires.empty
 
 pub returns : goal.returns
@@ -23,7 +23,8 @@ returns c =
     let k = c.args.self.now.crew in
     let frame = c.args.now.now.frame in
     let top = c.args.now.now.top in
-    let is = kept_client _ c.args.self.now c.args.client c.deref.result.now m c.self.view_is c.deref.ensures.value c.in-Some.ensures.found in
+    let is = kept_client _ c.args.self.now c.args.client c.deref.result.now m c.self.view_is c.deref.ensures.value
+    (sym c.in-Some.ensures.found) in
     let rise : Rise k.members = kept_rise _ c.args.self.now c.self.view_is c.self.invariant.0 in
     record {
       plans = ok_so c.end_with.result c.end_with.ensures.plan (λ same r at.
@@ -33,6 +34,6 @@ returns c =
           (record { told = e.told; table = e.table }) in
           record { told = f.told; table = f.table });
       ordered = ok_so c.end_with.result c.end_with.ensures.plan (λ same.
-          kept_calm _ c.args.self.now _ c.end_with.new.plan c.self.view_is c.self.invariant.0 c.self.invariant.1.1
+          kept_calm _ c.args.self.now _ c.end_with.new.plan c.self.view_is c.self.invariant.0 c.self.invariant.2
           (record { arrives = refl; counts = refl; offers = refl }) same);
     }

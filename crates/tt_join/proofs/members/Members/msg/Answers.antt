@@ -38,7 +38,7 @@ returns c =
           record { told = f.told; table = f.table });
       ordered = ok_so c.hear.result (c.hear.ensures.heard (origin_of s) (bare k.members)) (λ same.
           let own = own_found c.args.conn m (bare k.members) is in
-          let few = kept_few _ c.args.self.now c.self.view_is c.self.invariant.1.1 in
+          let few = kept_few _ c.args.self.now c.self.view_is c.self.invariant.2 in
           let o = made_from s (origin_of s) in
           let t = with_crew k.members k.digests (bare k.members) in
           subst (IsOrdered k) (sym same) (heard_ordered (judged_by now.live o t m said) o t said s k now m rise few own refl));
@@ -46,5 +46,5 @@ returns c =
 
 pub returns-in_default-clause-ordered : goal.returns-in_default-clause-ordered
 returns-in_default-clause-ordered c =
-    kept_calm _ c.args.self.now nothing c.args.plan.now c.self.view_is c.self.invariant.0 c.self.invariant.1.1
+    kept_calm _ c.args.self.now nothing c.args.plan.now c.self.view_is c.self.invariant.0 c.self.invariant.2
     (record { arrives = refl; counts = refl; offers = refl }) c.requires

@@ -5,5 +5,5 @@ use Rattle.tt_join.proofs.members.Members.own.Goals as goal
 
 pub returns-clause-ordered : goal.returns-clause-ordered
 returns-clause-ordered c =
-    kept_calm _ c.args.self.now (ordering c.args.command) c.order.new.plan c.self.view_is c.self.invariant.0 c.self.invariant.1.1
+    kept_calm _ c.args.self.now (ordering c.args.command) c.order.new.plan c.self.view_is c.self.invariant.0 c.self.invariant.2
     (record { arrives = refl; counts = refl; offers = refl }) c.order.ensures.plan

@@ -15,7 +15,7 @@ returns c =
     let k = c.args.self.now.crew in
     let now = c.args.now.now in
     let rise : Rise k.members = kept_rise _ c.args.self.now c.self.view_is c.self.invariant.0 in
-    let few = kept_few _ c.args.self.now c.self.view_is c.self.invariant.1.1 in
+    let few = kept_few _ c.args.self.now c.self.view_is c.self.invariant.2 in
     let whole = ok_so c.tick.result c.tick.ensures.ticks (λ is.
         kept_tick _ c.args.self.now c.deref.result.now c.deref-2.result.now c.deref-3.result.now now c.tick.new.plan c.self.view_is
         c.deref.ensures.value c.deref-2.ensures.value c.deref-3.ensures.value is) in
