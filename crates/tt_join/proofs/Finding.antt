@@ -1,5 +1,5 @@
 -- A member that is found by halves is the one that the book finds.
-use Rattle.std.proofs.Common.{◌≡◌, ℕ, List, sym, subst, ap, ◌∙◌, Some}
+use Rattle.std.proofs.Common.{◌≡◌, ◌<◌, ◌^◌, ℕ, List, sym, subst, ap, ◌∙◌, Some}
 use Rattle.std.specs.Prelude.{find, slice_index_or, Result, Ok, Err, OnOk}
 use Rattle.tt_log.specs.Member.{Member}
 use Rattle.tt_log.specs.Table.{is_on}
@@ -26,3 +26,6 @@ pub ok_each : {A E I : Type 0} {P Q : I → Type 0} (res : Result A E) → ((x :
     I) → Q x)
 ok_each (Ok y) p f = λ x. f x (p x)
 ok_each (Err e) p f = tt
+
+pub kept_few : (j k : Kept) → j ≡ k → j.crew.clients < 2 ^ 32 → k.crew.clients < 2 ^ 32
+kept_few j k same few = subst (λ (x : Kept). x.crew.clients < 2 ^ 32) same few

@@ -25,3 +25,4 @@ pub mod Ordering
 pub mod Finding
 pub mod Outside
 pub mod Tied
+pub mod Ordered

@@ -42,6 +42,8 @@ impl Members {
         ensures plans { OnOk result (Plans self.now.setup self.now.crew now.now (Own command) plan.new) }
         ensures ordered { OnOk result (IsOrdered self.now.crew plan.new) }
     {
+        // What holds of all members is known where a field is reached.
+        let _ = &self.clients;
         order(command, plan);
         Ok(())
     }

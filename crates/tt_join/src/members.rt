@@ -32,7 +32,7 @@ pub struct Members {
 }
 
 impl Model for Members {
-    ghost use Rattle.std.specs.Prelude.{◌-◌, vec_len, vec_capacity};
+    ghost use Rattle.std.specs.Prelude.{◌-◌, ◌<◌, ◌^◌, vec_len, vec_capacity};
     ghost use Rattle.tt_members.specs.Rules.{Rise};
     ghost use Rattle.tt_world.specs.Setup.{Fits};
     ghost use Rattle.tt_join.specs.Members.{Kept};
@@ -59,7 +59,7 @@ impl Model for Members {
       };
     } };
 
-    ghost invariant = { λ m. Rise m.members.items × Fits m.setup };
+    ghost invariant = { λ m. Rise m.members.items × Fits m.setup × (m.clients < 2 ^ 32) };
 }
 
 impl Members {

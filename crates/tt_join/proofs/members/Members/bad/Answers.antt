@@ -1,11 +1,13 @@
-use Rattle.std.proofs.Common.{None}
+use Rattle.std.proofs.Common.{None, refl}
 use Rattle.tt_log.specs.Events.{heard}
 use Rattle.tt_log.specs.Member.{Member}
 use Rattle.tt_log.specs.Table.{member_of}
+use Rattle.tt_members.specs.Planned.{nothing}
 use Rattle.tt_members.specs.Rules.{Rise}
 use Rattle.tt_members.proofs.Behind.{does_by}
 use Rattle.tt_join.proofs.Finding.{found_in, kept_found, kept_rise, ok_so}
 use Rattle.tt_join.proofs.Heard.{bad_does, to_found}
+use Rattle.tt_join.proofs.Ordered.{kept_calm}
 use Rattle.tt_join.proofs.members.Members.bad.Goals as goal
 
 pub returns : goal.returns
@@ -25,4 +27,12 @@ returns c =
           c.end_with.new.plan is
           (record { told = e.told; table = e.table }) in
           record { told = f.told; table = f.table });
+      ordered = ok_so c.end_with.result c.end_with.ensures.plan (λ same.
+          kept_calm _ c.args.self.now _ c.end_with.new.plan c.self.view_is c.self.invariant.0 c.self.invariant.2
+          (record { arrives = refl; counts = refl; offers = refl }) same);
     }
+
+pub returns-in_default-clause-ordered : goal.returns-in_default-clause-ordered
+returns-in_default-clause-ordered c =
+    kept_calm _ c.args.self.now nothing c.args.plan.now c.self.view_is c.self.invariant.0 c.self.invariant.2
+    (record { arrives = refl; counts = refl; offers = refl }) c.requires

@@ -1,14 +1,19 @@
-use Rattle.std.proofs.Common.{refl, Some}
+use Rattle.std.proofs.Common.{refl, subst, sym, Some}
 use Rattle.tt_log.specs.Events.{heard}
 use Rattle.tt_log.specs.Judged.{judged_by}
 use Rattle.tt_log.specs.Member.{Member}
+use Rattle.tt_log.specs.Origin.{origin_of}
 use Rattle.tt_log.specs.Table.{member_of}
 use Rattle.tt_members.specs.Crew.{Rest, origin_at, table_at}
+use Rattle.tt_members.specs.Planned.{nothing}
 use Rattle.tt_members.specs.Rules.{Rise}
 use Rattle.tt_members.proofs.Behind.{does_by}
 use Rattle.tt_members.proofs.Marked.{own_found}
-use Rattle.tt_join.proofs.Finding.{found_in, kept_found, kept_rise, ok_each}
+use Rattle.tt_join.specs.Joining.{bare, made_from, with_crew}
+use Rattle.tt_join.specs.Members.{IsOrdered}
+use Rattle.tt_join.proofs.Finding.{found_in, kept_few, kept_found, kept_rise, ok_each, ok_so}
 use Rattle.tt_join.proofs.Heard.{heard_does, to_found}
+use Rattle.tt_join.proofs.Ordered.{heard_ordered, kept_calm}
 use Rattle.tt_join.proofs.members.Members.msg.Goals as goal
 
 pub returns : goal.returns
@@ -31,4 +36,15 @@ returns c =
           let f = to_found s k now.frame now.top r (λ t. member_of t c.args.conn) m (λ o k t. heard o (Some said) k t) c.hear.new.plan is
           (record { told = e.told; table = e.table }) in
           record { told = f.told; table = f.table });
+      ordered = ok_so c.hear.result (c.hear.ensures.heard (origin_of s) (bare k.members)) (λ same.
+          let own = own_found c.args.conn m (bare k.members) is in
+          let few = kept_few _ c.args.self.now c.self.view_is c.self.invariant.2 in
+          let o = made_from s (origin_of s) in
+          let t = with_crew k.members k.digests (bare k.members) in
+          subst (IsOrdered k) (sym same) (heard_ordered (judged_by now.live o t m said) o t said s k now m rise few own refl));
     }
+
+pub returns-in_default-clause-ordered : goal.returns-in_default-clause-ordered
+returns-in_default-clause-ordered c =
+    kept_calm _ c.args.self.now nothing c.args.plan.now c.self.view_is c.self.invariant.0 c.self.invariant.2
+    (record { arrives = refl; counts = refl; offers = refl }) c.requires
