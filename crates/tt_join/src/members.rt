@@ -125,7 +125,7 @@ impl Members {
     ///
     /// # Errors
     ///
-    /// Where memory is out. The members are as they were then, and can plan again.
+    /// Where memory is out, or no client number is left. The members are as they were then, and can plan again.
     pub fn plan(&mut self, now: &Now, input: Input) -> Result<Plan, OutOfMemory>
         requires taken { IsTaken self.old.crew.members now.now input }
         ensures same { self.new.crew ≡ self.old.crew }

@@ -37,8 +37,8 @@ returns c = record {
       let d : Does o.setup (crew_of o t) now.frame now.top (rest_of o t) (by_input input) p = plans (rest_of o t) (at_time o t now input time)
       in
       let e : Does o.setup (crew_of o t) t.frame t.top (rest_of o t) (by_input input) p =
-          subst (λ (top : ℕ). Does o.setup (crew_of o t) t.frame top (rest_of o t) (by_input input) p) time.top
-          (subst (λ (frame : ℕ). Does o.setup (crew_of o t) frame now.top (rest_of o t) (by_input input) p) time.frame d)
+      subst (λ (top : ℕ). Does o.setup (crew_of o t) t.frame top (rest_of o t) (by_input input) p) time.top
+      (subst (λ (frame : ℕ). Does o.setup (crew_of o t) frame now.top (rest_of o t) (by_input input) p) time.frame d)
       in
       record { told = e.told; table = e.table; crew = crew_behind input o t p e.table };
 }

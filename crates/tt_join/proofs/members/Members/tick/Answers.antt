@@ -17,8 +17,8 @@ returns c =
     let rise : Rise k.members = kept_rise _ c.args.self.now c.self.view_is c.self.invariant.0 in
     let few = kept_few _ c.args.self.now c.self.view_is c.self.invariant.2 in
     let whole = ok_so c.tick.result c.tick.ensures.ticks (λ is.
-        kept_tick _ c.args.self.now c.deref.result.now c.deref-2.result.now c.deref-3.result.now now c.tick.new.plan c.self.view_is
-        c.deref.ensures.value c.deref-2.ensures.value c.deref-3.ensures.value is) in
+    kept_tick _ c.args.self.now c.deref.result.now c.deref-2.result.now c.deref-3.result.now now c.tick.new.plan c.self.view_is
+    c.deref.ensures.value c.deref-2.ensures.value c.deref-3.ensures.value is) in
     record {
       plans = ok_so c.tick.result whole (λ is. subst (λ p. Plans s k now Tick p) (sym is) (tick_plans s k now rise));
       ordered = ok_so c.tick.result whole (λ is. subst (λ p. IsOrdered k p) (sym is) (tick_orders s k now rise few));
