@@ -76,7 +76,7 @@ founders_above o low frame [] below = refl
 founders_above o low frame (e ∷ es) below =
     low_head (nat_lt low e.frame) e low frame (above o low es) es below refl (founders_above o low frame es below)
 
-founders_append : (xs ys : List Entry) → founders_in (xs ++ ys) ≡ founders_in xs ++ founders_in ys
+pub founders_append : (xs ys : List Entry) → founders_in (xs ++ ys) ≡ founders_in xs ++ founders_in ys
 founders_append [] ys = refl
 founders_append (e ∷ xs) ys = ap (λ (fs : List (ℕ × ℕ)). founder_by e.command.code e ++ fs) (founders_append xs ys)
     ∙ sym (append_assoc (founder_by e.command.code e) (founders_in xs) (founders_in ys))

@@ -23,4 +23,6 @@ pub mod Heard
 pub mod Judging
 pub mod Ordering
 pub mod Finding
+pub mod Outside
+pub mod Tied
 pub mod Ordered

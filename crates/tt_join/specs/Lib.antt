@@ -5,3 +5,4 @@ pub mod Members
 pub mod Entering
 pub mod Playing
 pub mod Planning
+pub mod Ties

@@ -10,6 +10,7 @@ mod founding;
 mod input;
 mod inputs;
 mod joining;
+mod laws;
 mod limits;
 mod loading;
 mod members;
@@ -22,5 +23,11 @@ mod stamping;
 mod ticking;
 
 pub use input::{Input, Now};
+pub use laws::{
+    a_plan_is_its_rule, a_tick_ends_with_admins, all_else_stays, an_event_is_its_input,
+};
 pub use members::Members;
-pub use tt_members::{Audience, Conns, Member, Plan, Step, What};
+pub use tt_members::{
+    Audience, Beat, Conns, Edit, Marks, Member, NameBad, Offer, Place, Plan, Queue, Step, Waiting,
+    What, name_for,
+};

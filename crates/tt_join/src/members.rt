@@ -5,12 +5,14 @@ ghost use Rattle.tt_members.specs.Crew.{founders_in};
 ghost use Rattle.tt_members.specs.Done.{committed};
 ghost use Rattle.tt_members.specs.Planned.{nothing};
 ghost use Rattle.tt_members.specs.Steps.{stamped_in};
-ghost use Rattle.tt_join.specs.Members.{IsNext, is_locked};
+ghost use Rattle.tt_join.specs.Inputs.{IsTaken, Plans};
+ghost use Rattle.tt_join.specs.Members.{IsNext, IsOrdered, is_locked};
 
+use crate::input::{Input, Now};
 use std::alloc::Global;
 use std::marker::Model;
 use tt_frame::{Digest, OutOfMemory};
-use tt_members::{Member, Plan, Queue};
+use tt_members::{Member, Plan, Queue, count_founders};
 use tt_world::{Command, Setup};
 
 /// The members of a game, in order of arrival, with what only they need. Contracts see the setup, their part of the game's
@@ -114,6 +116,74 @@ impl Members {
         self.queue.reserve()?;
         self.digests.reserve(1)?;
         self.own.reserve(1)?;
+        Ok(())
+    }
+
+    /// Plans what something does that comes to the members, and leaves them as they are.
+    ///
+    /// Takes all memory that is wanted, also for putting the plan in force.
+    ///
+    /// # Errors
+    ///
+    /// Where memory is out, or no client number is left. The members are as they were then, and can plan again.
+    pub fn plan(&mut self, now: &Now, input: Input) -> Result<Plan, OutOfMemory>
+        requires taken { IsTaken self.old.crew.members now.now input }
+        ensures same { self.new.crew ≡ self.old.crew }
+        ensures setup { self.new.setup ≡ self.old.setup }
+        ensures next { IfOk result (λ plan. IsNext self.new plan) }
+        ensures plans { IfOk result (λ plan. Plans self.old.setup self.old.crew now.now input plan) }
+    {
+        self.reserve()?;
+        let mut plan = self.empty_plan();
+        match self.fill(now, input, &mut plan) {
+            Ok(()) => Ok(plan),
+            Err(error) => {
+                self.keep(plan);
+                Err(error)
+            }
+        }
+    }
+
+    /// A plan that holds nothing yet: the one that is kept, or a new one.
+    fn empty_plan(&mut self) -> Plan
+        ensures nothing { result ≡ nothing }
+        ensures same { self.new ≡ self.old }
+    {
+        match self.spare.take() {
+            Some(kept) => {
+                let mut plan = kept;
+                plan.clear();
+                plan
+            }
+            None => Plan::new(self.alloc),
+        }
+    }
+
+    /// Keeps the memory of a plan for the next one.
+    fn keep(&mut self, plan: Plan)
+        ensures same { self.new ≡ self.old }
+    {
+        let mut plan = plan;
+        plan.clear();
+        self.spare = Some(plan);
+    }
+
+    /// Fills a plan, and makes room for the founders that it brings.
+    fn fill(&mut self, now: &Now, input: Input, plan: &mut Plan) -> Result<(), OutOfMemory>
+        requires taken { IsTaken self.old.crew.members now.now input }
+        requires empty { plan.old ≡ nothing }
+        ensures crew { self.new.crew ≡ self.old.crew }
+        ensures setup { self.new.setup ≡ self.old.setup }
+        ensures members { self.new.room.members ≡ self.old.room.members }
+        ensures queue { self.new.room.queue ≡ self.old.room.queue }
+        ensures digests { self.new.room.digests ≡ self.old.room.digests }
+        ensures own { self.new.room.own ≡ self.old.room.own }
+        ensures founders { OnOk result (length (founders_in (stamped_in plan.new.steps)) ≤ self.new.room.founders) }
+        ensures ordered { OnOk result (IsOrdered self.old.crew plan.new) }
+        ensures plans { OnOk result (Plans self.old.setup self.old.crew now.now input plan.new) }
+    {
+        self.planned(now, input, plan)?;
+        self.founders.reserve(count_founders(plan.steps()))?;
         Ok(())
     }
 
