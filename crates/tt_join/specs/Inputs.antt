@@ -42,7 +42,6 @@ by_input Tick o t = members_ticked o t
 
 -- ---- where something comes
 
-<<<<<<< HEAD
 -- an opening has a number above all that are there
 abbrev pub IsAbove : List Member → Input → Type 0
 IsAbove ms (Open conn) = (0 < conn) × AllByRecursion (λ m. m.conn < conn) ms
@@ -50,9 +49,6 @@ IsAbove ms other = Unit {0}
 
 -- what can be planned: an opening above all that are there, words in one of the three scopes, and a frame more up to the last one
 -- that a game permits
-=======
--- what can be planned: an opening above all that are there, words in one of the three scopes, and a frame more before the last one
->>>>>>> refs/h/join5
 abbrev pub IsTaken : List Member → Now → Input → Type 0
 IsTaken ms now (Open conn) = IsAbove ms (Open conn)
 IsTaken ms now (Say scope to text) = scope ≤ 2
