@@ -1,9 +1,11 @@
 //! The members of a game: what something does that comes to them is planned without a change, and put in force without memory.
-ghost use Rattle.std.specs.Prelude.{◌≡◌, ◌≤◌, ◌<◌, [], OnOk, IfOk, length};
+ghost use Rattle.std.specs.Prelude.{◌≡◌, ◌≤◌, ◌<◌, [], OnOk, IfOk, find, is_some, length};
 ghost use Rattle.tt_world.specs.Setup.{Fits};
+ghost use Rattle.tt_log.specs.Table.{Table, downloader, if_loading, is_on};
 ghost use Rattle.tt_members.specs.Crew.{founders_in};
 ghost use Rattle.tt_members.specs.Done.{committed};
 ghost use Rattle.tt_members.specs.Planned.{nothing};
+ghost use Rattle.tt_members.specs.Rules.{Rise};
 ghost use Rattle.tt_members.specs.Steps.{stamped_in};
 ghost use Rattle.tt_join.specs.Inputs.{IsTaken, Plans};
 ghost use Rattle.tt_join.specs.Members.{IsNext, IsOrdered, is_locked};
@@ -12,7 +14,8 @@ use crate::input::{Input, Now};
 use std::alloc::Global;
 use std::marker::Model;
 use tt_frame::{Digest, OutOfMemory};
-use tt_members::{Member, Plan, Queue, count_founders};
+use tt_members::{Member, Plan, Queue, count_founders, place_of};
+use tt_rules::Status;
 use tt_world::{Command, Setup};
 
 /// The members of a game, in order of arrival, with what only they need. Contracts see the setup, their part of the game's
@@ -101,6 +104,17 @@ impl Members {
         ensures locked { result ≡ is_locked self.now.crew.digests company }
     {
         has_digest(&self.digests, company)
+    }
+
+    /// Whether a member downloads its map: the first of the queue, until it was told its map whole.
+    pub fn downloads(&self) -> bool
+        ensures downloads { (t : Table) → t.members ≡ self.now.crew.members → t.queue ≡ self.now.crew.queue
+            → result ≡ is_some (downloader t) }
+    {
+        match self.queue.first() {
+            Some(conn) => is_loading(&self.members, conn),
+            None => false,
+        }
     }
 
     /// Room for one more in each list.
@@ -202,6 +216,17 @@ impl Members {
         self.clients = plan.clients_behind(self.clients);
         plan.clear();
         self.spare = Some(plan);
+    }
+}
+
+/// Whether the member on a connection is told its map.
+fn is_loading(members: &[Member], conn: u32) -> bool
+    requires rise { Rise members.now }
+    ensures loading { result ≡ is_some (if_loading (find (is_on conn) members.now)) }
+{
+    match place_of(members, conn) {
+        Some(at) => members[at].marks().status == Status::Map,
+        None => false,
     }
 }
 

@@ -105,6 +105,13 @@ impl Plan {
         self.edits.as_slice()
     }
 
+    /// The company whose password changes, and its digest from then on, or that it has none.
+    pub fn locks(&self) -> &Option<(u8, Option<Digest>)>
+        ensures locks { result.now ≡ self.now.locks }
+    {
+        &self.locks
+    }
+
     /// One change more.
     pub fn change(&mut self, edit: Edit) -> Result<(), OutOfMemory>
         ensures edits { OnOk result (self.new.edits ≡ self.old.edits ++ edit ∷ []) }

@@ -1,8 +1,9 @@
 //! Which of the fifteen companies live.
-ghost use Rattle.std.specs.Prelude.{◌≡◌, ◌<◌, false, IfSome, IfNone};
-ghost use Rattle.tt_rules.specs.Companies.{nobody, is_living, founded, least_free};
+ghost use Rattle.std.specs.Prelude.{◌≡◌, ◌<◌, false, length, IfSome, IfNone};
+ghost use Rattle.tt_rules.specs.Companies.{nobody, is_living, founded, least_free, living};
 
 use std::marker::Model;
+use tt_world::World;
 
 /// How many companies there may be.
 const COMPANIES: usize = 15;
@@ -33,6 +34,20 @@ impl Live {
         Live {
             places: [false; COMPANIES],
         }
+    }
+
+    /// Those that live in a world.
+    pub fn of(world: &World) -> Live
+        ensures living { result ≡ living world.now }
+        ensures fifteen { length result ≡ 15 }
+    {
+        // A world whose signs are read is known to be sound.
+        let _signs = world.signs();
+        let mut places = [false; COMPANIES];
+        for n in 0..COMPANIES {
+            places[n] = world.company(n as u8).is_some();
+        }
+        Live { places }
     }
 
     /// Whether the company with this number lives.
