@@ -10,3 +10,5 @@ mod Journals
 mod PieceLists
 mod LineTexts
 mod ReportLists
+mod Audiences
+mod Tellable
