@@ -10,3 +10,8 @@ mod Journals
 mod PieceLists
 mod LineTexts
 mod ReportLists
+mod Loaders
+mod Parting
+mod Hearing
+mod Ticking
+mod Carrying
