@@ -7,6 +7,7 @@ ghost use Rattle.tt_log.specs.History.{table_of};
 ghost use Rattle.tt_log.specs.Origin.{Origin};
 ghost use Rattle.tt_log.specs.Tellings.{Telling, tellings};
 ghost use Rattle.tt_log.specs.Told.{told_to};
+ghost use Rattle.tt_outgoing.specs.Carrying.{IsCarriedOn};
 ghost use Rattle.tt_outgoing.specs.Staging.{MayAllBeSaid, MayAllBeTold, bytes_for, packets_of};
 
 /// What packets of tellings tell a connection are the spellings of what the tellings tell it.
@@ -23,4 +24,9 @@ pub fn packets_may_be_told()
 pub fn all_may_be_told()
     ensures { (o : Origin) (es : List Event) (e : Event)
         → MayAllBeSaid (table_of o (es ++ e ∷ [])).openings (tellings o (table_of o es) (deed o e (table_of o es))) }
+{}
+
+/// How the running download goes on by the rule of each event.
+pub fn a_download_goes_on()
+    ensures { (o : Origin) (es : List Event) (e : Event) → IsCarriedOn o e (table_of o es) }
 {}
