@@ -47,11 +47,13 @@ noted_next f old new (s ∷ ss) same all =
     (λ le. ap (λ o. is_among o s.word) (same s.frame le) ∙ all.0 (omega (arith, le)), noted_next f old new ss same all.1)
 
 -- more was noted, and words of later frames are asked for
-pub noted_still : (f g : ℕ) (old new : Notes) (ss : List SyncPoint) → f ≤ g → KeepsNotes old new → AreNoted f old ss → AreNoted g new ss
+pub noted_still : (f g : ℕ) (old new : Notes) (ss : List SyncPoint) → f ≤ g → KeepsNotes old new → AreNoted f old ss
+    → AreNoted g new ss
 noted_still f g old new [] le keeps all = tt
 noted_still f g old new (s ∷ ss) le keeps all =
     (λ from. keeps s.frame s.word (all.0 (omega (arith, le, from))), noted_still f g old new ss le keeps all.1)
 
-pub noted_append : (f : ℕ) (noted : Notes) (xs ys : List SyncPoint) → AreNoted f noted xs → AreNoted f noted ys → AreNoted f noted (xs ++ ys)
+pub noted_append : (f : ℕ) (noted : Notes) (xs ys : List SyncPoint) → AreNoted f noted xs → AreNoted f noted ys
+    → AreNoted f noted (xs ++ ys)
 noted_append f noted [] ys one two = two
 noted_append f noted (x ∷ xs) ys one two = (one.0, noted_append f noted xs ys one.1 two)
