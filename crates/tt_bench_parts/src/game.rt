@@ -36,6 +36,35 @@ pub fn stream(alloc: Global, count: u32) -> Result<Vec<u8>, OutOfMemory> {
     Ok(out)
 }
 
+/// All that a server tells a client that joins at the start of a game in which nobody does anything: the words of so many
+/// frames, the last frame first, and only then that clients may run them. A client has to keep them all, and finds each at the
+/// end of those that it keeps. And where it comes to.
+pub fn words_backward(alloc: Global, count: u32) -> Result<(Vec<u8>, Reached), OutOfMemory> {
+    let mut world = World::start(alloc, &Setup::plain())?;
+    let mut out = Vec::new(alloc);
+    put_join(alloc, &mut out, &world)?;
+    let mut words = Vec::new(alloc);
+    for frame in 1..=count {
+        world.run_frame();
+        words.push((frame, word_of(&world)))?;
+    }
+    for (frame, word) in words.iter().rev() {
+        GameMsg::ServerSync {
+            frame: *frame,
+            word: *word,
+        }
+        .encode(&mut out)?;
+    }
+    GameMsg::ServerFrame {
+        frame: 0,
+        max: count,
+        token: 0,
+    }
+    .encode(&mut out)?;
+    let word = word_of(&world);
+    Ok((out, Reached { frame: count, word }))
+}
+
 /// The first random word of a world.
 pub fn word_of(world: &World) -> u32 {
     world.random().words().0

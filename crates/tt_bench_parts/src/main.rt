@@ -3,18 +3,21 @@
 //!
 //! `tt_bench_parts N` tells a packet of chat N times to 255 connections at once, and N times to each of them alone; each
 //! time they take it whole. Then it feeds a client a game of N frames, once in pieces of 1,400 bytes and once byte by byte,
-//! and runs the same frames on a bare world beside; all three come to the same frame and random word. What it prints is the
-//! same at each run; `tt_bench_parts N time` adds the times, which are not: nanoseconds of one packet for all, with its
-//! taking, and of one frame.
+//! and runs the same frames on a bare world beside; all three come to the same frame and random word. The same bytes are cut
+//! and decoded alone, which a client can't do without. Last, a client is told the words of N frames, the last frame first,
+//! before it may run them: it keeps them all. What it prints is the same at each run; `tt_bench_parts N time` adds the times,
+//! which are not: nanoseconds of one packet for all, with its taking, and of one frame.
 #![tactic(auto)]
 
+mod decoding;
 mod fault;
 mod game;
 mod outgoing;
 mod playing;
 
+use crate::decoding::decoded;
 use crate::fault::{Fault, Reached};
-use crate::game::{bare, stream};
+use crate::game::{bare, stream, words_backward};
 use crate::outgoing::{owned, shared};
 use crate::playing::played;
 use std::alloc::Global;
@@ -103,7 +106,9 @@ fn say<R: Print>(rt: &R, text: &str) -> Result<(), Fault> {
 /// Does all of the work and prints a line for each.
 fn all_measured<R: Clock + Print>(rt: &R, alloc: Global, words: &Words) -> Result<(), Fault> {
     outgoing_measured(rt, alloc, words)?;
-    client_measured(rt, alloc, words)
+    client_measured(rt, alloc, words)?;
+    decoding_measured(rt, alloc, words)?;
+    backward_measured(rt, alloc, words)
 }
 
 /// A packet for all connections, shared and told to each alone; they take as many bytes of the one as of the other.
@@ -158,6 +163,42 @@ fn client_measured<R: Clock + Print>(rt: &R, alloc: Global, words: &Words) -> Re
         )?;
     }
     Ok(())
+}
+
+/// The packets of that game, cut and decoded alone.
+fn decoding_measured<R: Clock + Print>(rt: &R, alloc: Global, words: &Words) -> Result<(), Fault> {
+    let stream = stream(alloc, words.count)?;
+    let before = Instant::now(rt)?;
+    let whole = decoded(alloc, &stream, LARGE)?;
+    let between = Instant::now(rt)?;
+    let single = decoded(alloc, &stream, SINGLE)?;
+    let behind = Instant::now(rt)?;
+    let lines = [
+        ("decoding by 1400", whole, between.duration_since(before)),
+        ("decoding by 1", single, behind.duration_since(between)),
+    ];
+    for (what, sum, time) in lines {
+        tell(rt, words.timed, (what, words.count), ("packets", sum), time)?;
+    }
+    Ok(())
+}
+
+/// A client that is told the words of all frames backward, before it may run them.
+fn backward_measured<R: Clock + Print>(rt: &R, alloc: Global, words: &Words) -> Result<(), Fault> {
+    let (stream, wanted) = words_backward(alloc, words.count)?;
+    let before = Instant::now(rt)?;
+    let reached = played(alloc, &stream, LARGE)?;
+    let behind = Instant::now(rt)?;
+    if reached != wanted {
+        return Err(Fault::Apart);
+    }
+    tell(
+        rt,
+        words.timed,
+        ("client words backward", reached.frame),
+        ("word", u64::from(reached.word)),
+        behind.duration_since(before),
+    )
 }
 
 /// Prints how much of what was done and which sum came of it, and where it is asked for how long each took.

@@ -100,3 +100,9 @@ all_cut whole bytes items place at all so_far =
     let empty = cut_so at [] [] (rest_of []) (read_partial 32767 [] (omega arith) (omega arith) (λ i. omega arith) none_whole) in
     ap₂ (λ (xs : List Item) (ys : List ℕ). let c : Cut = record { items = xs; rest = ys; at = at } in c) (sym (append-nil items)) none
     ∙ ap (λ (c : Cut). with_items items c) (sym empty) ∙ ap (λ (ys : List ℕ). with_items items (cut_at at ys)) (sym none) ∙ so_far
+
+-- bytes that were read up to where a later part of them was, to the same rest and the same place
+pub read_to : (whole here : Cut) (rest : List ℕ) (at : ℕ) → rest ≡ here.rest → at ≡ here.at → here.rest ≡ whole.rest → here.at ≡ whole.at
+    → record { items = whole.items; rest = rest; at = at } ≡ whole
+read_to whole here rest at one two three four =
+    ap₂ (λ (xs : List ℕ) (n : ℕ). let d : Cut = record { items = whole.items; rest = xs; at = n } in d) (one ∙ three) (two ∙ four)

@@ -1,5 +1,6 @@
 pub mod Due
 pub mod Ahead
+pub mod Notes
 pub mod Gathering
 pub mod Same
 pub mod Resting

@@ -2,6 +2,7 @@
 pub mod Known
 -- What a client runs
 pub mod Frames
+pub mod Notes
 pub mod Hearing
 pub mod Verdicts
 -- What waits to be said

@@ -9,7 +9,7 @@ ghost use Rattle.tt_client.specs.Runs.{running, runner_frame};
 ghost use Rattle.tt_client.specs.Saying.{bytes_of};
 ghost use Rattle.tt_client.specs.State.{is_running, state_of};
 
-use crate::items::cut;
+use crate::items::is_partial;
 use crate::laws::clients_are_in_step;
 use crate::login::Login;
 use crate::seat::Seat;
@@ -102,11 +102,14 @@ impl Client {
         ensures heard { OnOk result (self.new ≡ fed_on [] self.old) }
         ensures same { OnErr result (self.new ≡ self.old) }
     {
-        let pieces = cut(self.alloc, self.rest.as_slice(), self.at)?;
-        self.seat
-            .feed(self.alloc, &self.login, pieces.items.as_slice())?;
-        let_go(&mut self.rest, pieces.end);
-        self.at = pieces.at;
+        if is_partial(self.rest.as_slice()) {
+            return Ok(());
+        }
+        let read = self
+            .seat
+            .feed(self.alloc, &self.login, self.rest.as_slice(), self.at)?;
+        let_go(&mut self.rest, read.end);
+        self.at = read.at;
         Ok(())
     }
 

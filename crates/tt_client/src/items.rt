@@ -1,5 +1,5 @@
 //! A stream cut into what begins in it: packets with their messages, and a bad size.
-ghost use Rattle.std.specs.Prelude.{◌≡◌, ◌≤◌, length, drop, IfOk};
+ghost use Rattle.std.specs.Prelude.{◌≡◌, ◌≤◌, ℕ, [], length, drop, IfOk, IsTrue};
 ghost use Rattle.tt_log.specs.Events.{read_msg};
 ghost use Rattle.tt_client.specs.Cutting.{cut_at};
 
@@ -28,6 +28,15 @@ impl Model for Item {
     ghost invariant = { λ i. i.at < 2 ^ 64 };
 }
 
+/// How far bytes were read.
+#[derive(Clone, Copy, Debug, PartialEq, Eq)]
+pub struct Read {
+    /// So many of the bytes were read.
+    pub end: usize,
+    /// The place of the stream at which the unread ones begin.
+    pub at: u64,
+}
+
 /// Bytes that were cut.
 #[derive(Drop)]
 pub struct Pieces {
@@ -39,8 +48,19 @@ pub struct Pieces {
     pub(crate) at: u64,
 }
 
+/// Whether nothing is whole in these bytes: no packet, and no bad size.
+pub(crate) fn is_partial(bytes: &[u8]) -> bool
+    ensures none { IsTrue result → (at : ℕ) → record { items = []; rest = bytes.now; at = at } ≡ cut_at at bytes.now }
+{
+    matches!(first_of(bytes, LARGEST_PACKET), Next::Partial)
+}
+
 /// The message that a packet spells.
-fn message_of(alloc: Global, kind: u8, body: &[u8]) -> Result<Option<GameMsg>, OutOfMemory>
+pub(crate) fn message_of(
+    alloc: Global,
+    kind: u8,
+    body: &[u8],
+) -> Result<Option<GameMsg>, OutOfMemory>
     ensures message { IfOk result (λ msg. msg ≡ read_msg kind body.now) }
 {
     match GameMsg::decode(alloc, kind, body) {

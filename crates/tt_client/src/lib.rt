@@ -8,6 +8,7 @@ mod join;
 mod laws;
 mod login;
 mod news;
+mod noted;
 mod play;
 mod running;
 mod seat;

@@ -1,5 +1,7 @@
 //! What a client in the game makes of what it hears, worked out beside it before anything changes.
 ghost use Rattle.std.specs.Prelude.{◌≡◌, ◌++◌, ◌≤◌, ◌<◌, ◌^◌, ◌||◌, not, is_some, ℕ, Bool, true, Option, Some, None, IfOk, OnOk};
+ghost use Rattle.std.specs.Prelude.{drop, length};
+ghost use Rattle.tt_client.specs.Cutting.{cut_at};
 ghost use Rattle.tt_log.specs.Shown.{goes_on};
 ghost use Rattle.tt_game.specs.declared.message.GameMsg.{GameMsg};
 ghost use Rattle.tt_client.specs.declared.login.Login.{Login};
@@ -11,13 +13,13 @@ ghost use Rattle.tt_client.specs.Hearing.{Sound, with_news};
 ghost use Rattle.tt_client.specs.Planned.{PlayStands, in_play, later_token, played};
 ghost use Rattle.tt_client.specs.Saying.{Saying};
 
-use crate::items::Item;
+use crate::items::{Item, Read, message_of};
 use crate::news::News;
 use crate::running::{Mismatch, Running};
 use crate::stage::{Phase, end_of, goes_on};
 use crate::verdict::Verdict;
 use std::alloc::Global;
-use tt_frame::OutOfMemory;
+use tt_frame::{LARGEST_PACKET, Next, OutOfMemory, first_of};
 use tt_game::GameMsg;
 
 /// What a client in the game has made of what it heard.
@@ -143,5 +145,53 @@ impl Play {
             self.hear(base, item)?;
         }
         Ok(())
+    }
+
+    /// What is whole of these bytes, of which the first stands at a place of the stream, one packet behind the other.
+    pub(crate) fn hear_bytes(
+        &mut self,
+        alloc: Global,
+        base: &Running,
+        bytes: &[u8],
+        at: u64,
+    ) -> Result<Read, OutOfMemory>
+        requires stands { PlayStands self.old.phase self.old.off }
+        requires sound { Sound (with_news base.now self.old.news) }
+        ensures heard { OnOk result ((login : Login) (saying : Saying) (acked : Option ℕ)
+            → played base.now self.new saying acked
+            ≡ heard_all running login (cut_at at bytes.now).items (played base.now self.old saying acked)) }
+        ensures read { IfOk result (λ read. record { items = (cut_at at bytes.now).items; rest = drop read.end bytes.now; at = read.at }
+            ≡ cut_at at bytes.now) }
+        ensures within { IfOk result (λ read. read.end ≤ length bytes.now) }
+        ensures sound { OnOk result (Sound (with_news base.now self.new.news)) }
+        ensures stands { OnOk result (PlayStands self.new.phase self.new.off) }
+    {
+        let mut end = 0;
+        let mut place = at;
+        'packets: while end < bytes.len() {
+            match first_of(&bytes[end..], LARGEST_PACKET) {
+                Next::Packet { kind, body } => {
+                    let msg = message_of(alloc, kind, body)?;
+                    self.hear(base, &Item { at: place, msg })?;
+                    place = place.saturating_add(body.len() as u64 + 3);
+                    end += body.len() + 3;
+                }
+                Next::Partial => return Ok(Read { end, at: place }),
+                Next::BadSize(_) => {
+                    self.hear(
+                        base,
+                        &Item {
+                            at: place,
+                            msg: None,
+                        },
+                    )?;
+                    return Ok(Read {
+                        end: bytes.len(),
+                        at: place,
+                    });
+                }
+            }
+        }
+        Ok(Read { end, at: place })
     }
 }

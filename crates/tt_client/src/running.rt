@@ -1,7 +1,7 @@
 //! What a client runs.
 ghost use Rattle.std.specs.Prelude.{◌≡◌, ◌<◌, ◌≤◌, ◌+◌, ◌-◌, ℕ, suc, min, length, IfNone, IsSome, IsTrue, IfSome, IfOk, OnOk, OnErr};
 ghost use Rattle.tt_lockstep.specs.Journal.{AreRising, above, applied_all, of_frame};
-ghost use Rattle.tt_lockstep.specs.Runner.{RunnerJoining, RunnerRunning, next_world, runner_advanced, runner_hears, runner_sync, syncs_above};
+ghost use Rattle.tt_lockstep.specs.Runner.{RunnerJoining, RunnerRunning, next_world, runner_advanced, runner_hears, runner_sync};
 ghost use Rattle.tt_lockstep.specs.Told.{Map};
 ghost use Rattle.tt_world.specs.Economy.{framed};
 ghost use Rattle.tt_client.specs.Known.{known};
@@ -9,9 +9,10 @@ ghost use Rattle.tt_client.specs.Hearing.{Sound, with_news};
 ghost use Rattle.tt_client.specs.Frames.{behind_due, first_due, first_other, framed_on, mismatch_of, runner_by};
 
 use crate::news::News;
+use crate::noted::{Noted, drop_run, note_all, other_word};
 use circular_buffer::HeapCircularBuffer;
 use std::alloc::Global;
-use std::collections::VecDeque;
+use std::collections::{BTreeMap, VecDeque};
 use std::marker::Model;
 use tt_frame::OutOfMemory;
 use tt_world::{Entry, World};
@@ -45,7 +46,8 @@ pub struct Mismatch {
     pub theirs: u32,
 }
 
-/// What a client runs: one world, the entries above its frame, its last 128 words, and the words told of frames to come.
+/// What a client runs: one world, the entries above its frame, its last 128 words, and the words told of frames to come, in the
+/// order in which they came and noted by frame.
 #[derive(Drop)]
 pub struct Running {
     world: World,
@@ -55,6 +57,7 @@ pub struct Running {
     entries: VecDeque<Entry>,
     words: HeapCircularBuffer<u32>,
     syncs: VecDeque<Sync>,
+    noted: BTreeMap<u32, Noted>,
 }
 
 impl Model for Running {
@@ -64,12 +67,23 @@ impl Model for Running {
     ghost use Rattle.tt_world.specs.World.{WorldState};
     ghost use Rattle.tt_world.specs.declared.command.Entry.{Entry};
     ghost use Rattle.tt_client.specs.Known.{known};
+    ghost use Rattle.tt_client.specs.Notes.{AreNoted};
 
     ghost Value = { Kept WorldState Entry };
 
-    ghost view = { λ r. record { world = r.world; frame = r.frame; permitted = r.permitted; last_entry = r.last_entry; entries = r.entries.items; words = r.words.items; syncs = syncs_above r.frame r.syncs.items } };
+    ghost view = { λ r. record {
+      world = r.world;
+      frame = r.frame;
+      permitted = r.permitted;
+      last_entry = r.last_entry;
+      entries = r.entries.items;
+      words = r.words.items;
+      syncs = syncs_above r.frame r.syncs.items;
+    } };
 
-    ghost invariant = { λ r. (r.words.capacity ≡ 128) × (r.frame ≤ r.permitted) × AreRising known (suc r.frame) r.entries.items × AreUpTo known r.last_entry r.entries.items };
+    ghost invariant = { λ r. (r.words.capacity ≡ 128) × (r.frame ≤ r.permitted)
+        × AreRising known (suc r.frame) r.entries.items × AreUpTo known r.last_entry r.entries.items
+        × AreNoted (suc r.frame) r.noted r.syncs.items };
 }
 
 /// Takes the first entry away, where it is for this frame.
@@ -95,40 +109,6 @@ fn apply_due(world: &mut World, entries: &mut VecDeque<Entry>, frame: u32)
     }
 }
 
-/// The first of some words that names a frame with another word.
-fn first_other(syncs: &VecDeque<Sync>, frame: u32, mine: u32) -> Option<u32>
-    ensures other { result ≡ first_other frame mine syncs.now.items }
-{
-    for i in 0..syncs.len() {
-        let sync = syncs[i];
-        if sync.frame == frame && sync.word != mine {
-            return Some(sync.word);
-        }
-    }
-    None
-}
-
-/// Takes away the first word, where it was told of a frame of at most this one. Whether it did.
-fn pop_run(syncs: &mut VecDeque<Sync>, frame: u32) -> bool
-    ensures above { syncs_above frame syncs.new.items ≡ syncs_above frame syncs.old.items }
-    ensures fewer { IsTrue result → length syncs.new.items < length syncs.old.items }
-{
-    match syncs.front() {
-        Some(sync) if sync.frame <= frame => {
-            syncs.pop_front();
-            true
-        }
-        _ => false,
-    }
-}
-
-/// Takes away the words that stand first and were told of frames that were run.
-fn drop_run(syncs: &mut VecDeque<Sync>, frame: u32)
-    ensures above { syncs_above frame syncs.new.items ≡ syncs_above frame syncs.old.items }
-{
-    'words: while pop_run(syncs, frame) {}
-}
-
 impl Running {
     /// A client to which the map of a frame has come whole.
     pub fn new(alloc: Global, world: World, frame: u32) -> Result<Running, OutOfMemory>
@@ -142,6 +122,7 @@ impl Running {
             entries: VecDeque::new(alloc),
             words: HeapCircularBuffer::with_capacity(alloc, WORDS)?,
             syncs: VecDeque::new(alloc),
+            noted: BTreeMap::new(alloc),
         })
     }
 
@@ -191,7 +172,7 @@ impl Running {
         let (mine, _) = self.world.random().words();
         self.words.push_front(mine);
         self.frame = frame;
-        let other = first_other(&self.syncs, frame, mine);
+        let other = other_word(&mut self.noted, &self.syncs, frame, mine);
         drop_run(&mut self.syncs, frame);
         other
     }
@@ -250,6 +231,7 @@ impl Running {
             mut syncs,
         } = news;
         self.entries.reserve(entries.len())?;
+        note_all(&mut self.noted, &syncs)?;
         self.syncs.append(&mut syncs)?;
         if self.entries.append(&mut entries).is_err() {
             unreachable!();

@@ -7,12 +7,13 @@ ghost use Rattle.tt_client.specs.Runs.{is_playing, running, runner_frame};
 ghost use Rattle.tt_client.specs.Held.{frame_of, permitted_of, phase_of, world_of};
 ghost use Rattle.tt_client.specs.Calls.{Give, Say};
 ghost use Rattle.tt_client.specs.Answers.{joining};
+ghost use Rattle.tt_client.specs.Cutting.{cut_at};
 ghost use Rattle.tt_client.specs.Planned.{in_play};
 ghost use Rattle.tt_client.specs.Saying.{bytes_of, with_bytes};
 ghost use Rattle.tt_client.specs.State.{is_running, state_of};
 ghost use Rattle.tt_client.specs.declared.login.Login.{Login};
 
-use crate::items::Item;
+use crate::items::{Item, Read, cut};
 use crate::join::Join;
 use crate::login::Login;
 use crate::play::Play;
@@ -54,7 +55,15 @@ impl Model for Seat {
 
     ghost Value = { Player (Runner WorldState Entry) };
 
-    ghost view = { λ c. record { place = place_of c.stage c.come.items; phase = phase_of c.phase; number = c.number; company = c.company; runs = runner_in c.phase c.off c.runs; saying = c.waiting; acked = c.acked } };
+    ghost view = { λ c. record {
+      place = place_of c.stage c.come.items;
+      phase = phase_of c.phase;
+      number = c.number;
+      company = c.company;
+      runs = runner_in c.phase c.off c.runs;
+      saying = c.waiting;
+      acked = c.acked;
+    } };
 
     ghost invariant = { λ c. Stands c.stage c.phase c.off c.runs × IsClear c.stage c.come.items };
 }
@@ -250,37 +259,49 @@ impl Seat {
 }
 
 impl Seat {
-    /// What begins in its stream is heard, one behind the other; or nothing has changed, where memory runs out.
+    /// What is whole of these bytes, of which the first stands at a place of its stream, is heard, one packet behind the other;
+    /// or nothing has changed, where memory runs out.
     pub(crate) fn feed(
         &mut self,
         alloc: Global,
         login: &Login,
-        items: &[Item],
-    ) -> Result<(), OutOfMemory>
+        bytes: &[u8],
+        at: u64,
+    ) -> Result<Read, OutOfMemory>
         requires password { length login.now.password ≤ 32 }
         requires company_password { length login.now.company_password ≤ 32 }
         requires on { is_on running login.now self.old ≡ true }
-        ensures heard { OnOk result (self.new ≡ heard_all running login.now items.now self.old) }
+        ensures heard { OnOk result (self.new ≡ heard_all running login.now (cut_at at bytes.now).items self.old) }
+        ensures read { IfOk result (λ read. record { items = (cut_at at bytes.now).items; rest = drop read.end bytes.now; at = read.at }
+            ≡ cut_at at bytes.now) }
+        ensures within { IfOk result (λ read. read.end ≤ length bytes.now) }
         ensures same { OnErr result (self.new ≡ self.old) }
     {
         if is_loaded(self.phase) {
-            self.feed_playing(alloc, items)
-        } else {
-            self.feed_joining(alloc, login, items)
+            return self.feed_playing(alloc, bytes, at);
         }
+        let pieces = cut(alloc, bytes, at)?;
+        self.feed_joining(alloc, login, pieces.items.as_slice())?;
+        Ok(Read {
+            end: pieces.end,
+            at: pieces.at,
+        })
     }
 
     /// The same of a client in the game.
-    fn feed_playing(&mut self, alloc: Global, items: &[Item]) -> Result<(), OutOfMemory>
+    fn feed_playing(&mut self, alloc: Global, bytes: &[u8], at: u64) -> Result<Read, OutOfMemory>
         requires playing { is_playing self.old ≡ true }
-        ensures heard { OnOk result ((login : Login) → self.new ≡ heard_all running login items.now self.old) }
+        ensures heard { OnOk result ((login : Login) → self.new ≡ heard_all running login (cut_at at bytes.now).items self.old) }
+        ensures read { IfOk result (λ read. record { items = (cut_at at bytes.now).items; rest = drop read.end bytes.now; at = read.at }
+            ≡ cut_at at bytes.now) }
+        ensures within { IfOk result (λ read. read.end ≤ length bytes.now) }
         ensures same { OnErr result (self.new ≡ self.old) }
     {
         let Some(runs) = &mut self.runs else {
             unreachable!();
         };
         let mut play = Play::begin(alloc, runs, self.number, self.company);
-        play.hear_all(runs, items)?;
+        let read = play.hear_bytes(alloc, runs, bytes, at)?;
         let Play {
             news,
             phase,
@@ -296,10 +317,10 @@ impl Seat {
         self.number = number;
         self.company = company;
         self.waiting.token(token);
-        Ok(())
+        Ok(read)
     }
 
-    /// The same of a client that joins.
+    /// What begins in the stream of a client that joins is heard, one behind the other; or nothing has changed.
     fn feed_joining(
         &mut self,
         alloc: Global,
@@ -358,7 +379,8 @@ impl Seat {
         items: &[Item],
     ) -> Result<(), OutOfMemory>
         ensures heard { OnOk result ((login : Login)
-            → self.new ≡ heard_all running login items.now (in_play runs number company (with_bytes answers.now self.old.saying) self.old.acked)) }
+            → self.new ≡ heard_all running login items.now
+            (in_play runs number company (with_bytes answers.now self.old.saying) self.old.acked)) }
         ensures same { OnErr result (self.new ≡ self.old) }
     {
         let mut play = Play::begin(alloc, &runs, number, company);

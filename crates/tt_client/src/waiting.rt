@@ -40,9 +40,16 @@ impl Model for Waiting {
 
     ghost Value = { Saying };
 
-    ghost view = { λ w. record { begun = drop w.gone (ack_spelling w.begun); before = w.before.items; ack = w.ack; behind = w.behind.items; owed = w.owed } };
+    ghost view = { λ w. record {
+      begun = drop w.gone (ack_spelling w.begun);
+      before = w.before.items;
+      ack = w.ack;
+      behind = w.behind.items;
+      owed = w.owed;
+    } };
 
-    ghost invariant = { λ w. (w.gone ≤ 8) × IsSaying (record { begun = []; before = w.before.items; ack = w.ack; behind = w.behind.items; owed = w.owed }) };
+    ghost invariant = { λ w. (w.gone ≤ 8)
+        × IsSaying (record { begun = []; before = w.before.items; ack = w.ack; behind = w.behind.items; owed = w.owed }) };
 }
 
 impl Waiting {

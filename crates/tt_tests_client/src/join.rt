@@ -1,26 +1,13 @@
-//! A login, a join fed whole and byte by byte, and the ways in which a client that plays ends.
-ghost use Rattle.std.specs.Prelude.{◌≡◌, [], codes};
-
+//! A login, a join fed whole, byte by byte and in each two pieces, and the ways in which a client that plays ends.
+use crate::players::{JOIN, ann, command, joined, login};
 use std::alloc::Global;
 use std::test::Fail;
-use tt_client::{Client, Login, State, SubmitErr};
-use tt_frame::{Line, Name, OutOfMemory, Short};
-use tt_world::{Code, Command};
+use tt_client::{Client, State, SubmitErr};
 
 /// The join of Ann, who wants no company; that she asks for the map; that she has it; and, at frame 1, the token 5 given back.
 const SAID: [u8; 31] = [
     17, 0, 2, 0x31, 0x33, 0x2e, 0x34, 0, 13, 0, 0, 0, 0x41, 0x6e, 0x6e, 0, 255, 3, 0, 13, 3, 0, 19,
     8, 0, 23, 1, 0, 0, 0, 5,
-];
-
-/// The welcome of client 2; a map of frame 0 and 65 bytes, of a world in which nothing has happened, whose random words are
-/// 0; that it is whole; and that the server is at frame 0, clients may run to frame 1, and a token 5 is to be given back.
-const JOIN: [u8; 111] = [
-    14, 0, 12, 2, 0, 0, 0, 0, 0, 0, 0, 0x74, 0x74, 0, 7, 0, 15, 0, 0, 0, 0, 7, 0, 16, 65, 0, 0, 0,
-    68, 0, 17, 0x4f, 0x54, 0x54, 0x4e, 0, 1, 0, 0, 0x47, 0x41, 0x4d, 0x45, 0, 0, 0, 6, 0, 0, 0, 0,
-    0, 0, 0x52, 0x41, 0x4e, 0x44, 0, 0, 0, 8, 0, 0, 0, 0, 0, 0, 0, 0, 0x43, 0x4d, 0x50, 0x59, 0, 0,
-    0, 1, 0, 0x53, 0x49, 0x47, 0x4e, 0, 0, 0, 2, 0, 0, 0x45, 0x4e, 0x44, 0x43, 0, 0, 0, 0, 3, 0,
-    18, 12, 0, 21, 0, 0, 0, 0, 1, 0, 0, 0, 5,
 ];
 
 /// The word of frame 1; and that the server is at frame 1, and clients may run to frame 3.
@@ -30,71 +17,6 @@ const BEHIND: [u8; 23] = [
 
 /// A word of frame 1 that is not that of the world.
 const FORGED: [u8; 11] = [11, 0, 22, 1, 0, 0, 0, 0, 0, 0, 0];
-
-fn revision() -> Name
-    ensures { result ≡ codes "13.4" }
-{
-    match Name::new(b"13.4") {
-        Some(revision) => revision,
-        None => unreachable!(),
-    }
-}
-
-fn name() -> Name
-    ensures { result ≡ codes "Ann" }
-{
-    match Name::new(b"Ann") {
-        Some(name) => name,
-        None => unreachable!(),
-    }
-}
-
-fn no_password() -> Line
-    ensures { result ≡ [] }
-{
-    match Line::new(b"") {
-        Some(line) => line,
-        None => unreachable!(),
-    }
-}
-
-/// What Ann joins with.
-fn login() -> Login
-    ensures name { result.name ≡ codes "Ann" }
-    ensures password { result.password ≡ [] }
-    ensures company_password { result.company_password ≡ [] }
-{
-    Login {
-        revision: revision(),
-        grf: 13,
-        name: name(),
-        company: 255,
-        password: no_password(),
-        company_password: no_password(),
-    }
-}
-
-/// A client that was fed nothing yet.
-fn ann(alloc: Global) -> Result<Client, OutOfMemory> {
-    Client::new(alloc, &login())
-}
-
-/// A command that founds a company.
-fn command() -> Result<Command, Fail> {
-    Ok(Command {
-        code: Code::NewCompany,
-        number: 0,
-        to: 0,
-        text: Short::new(b"").ok_or("a text")?,
-    })
-}
-
-/// A client to which its join was fed whole.
-fn joined(alloc: Global) -> Result<Client, Fail> {
-    let mut client = ann(alloc)?;
-    client.feed(&JOIN)?;
-    Ok(client)
-}
 
 /// Feeds bytes one by one.
 fn feed_each(client: &mut Client, bytes: &[u8]) -> Result<(), Fail> {
@@ -121,6 +43,15 @@ fn played_byte_by_byte(alloc: Global) -> Result<Client, Fail> {
     feed_each(&mut client, &BEHIND)?;
     client.advance(9);
     Ok(client)
+}
+
+/// Whether a join that comes in two pieces, of which the first has so many bytes, leads where the whole one does.
+fn is_one_cut_at(alloc: Global, count: usize) -> Result<bool, Fail> {
+    let mut client = ann(alloc)?;
+    client.feed(JOIN.get(..count).ok_or("a piece")?)?;
+    client.feed(JOIN.get(count..).ok_or("a piece")?)?;
+    let ran = client.advance(9);
+    Ok(client.state() == State::Running && ran == 1 && said(&mut client) == (SAID, 31))
 }
 
 /// The words of its world.
@@ -165,6 +96,14 @@ fn a_join_is_one_however_it_is_cut(rt: HostRuntime) -> Result<(), Fail> {
     assert!(rt; words(&whole) == words(&single));
     assert!(rt; said(&mut whole) == (SAID, 31));
     assert!(rt; said(&mut single) == (SAID, 31));
+    Ok(())
+}
+
+#[test]
+fn a_join_is_one_in_each_two_pieces(rt: HostRuntime) -> Result<(), Fail> {
+    for count in 0..=JOIN.len() {
+        assert!(rt; is_one_cut_at(rt.alloc(), count)?);
+    }
     Ok(())
 }
 

@@ -4,4 +4,12 @@
 #![tactic(auto)]
 
 #[cfg(test)]
+mod acknowledging;
+#[cfg(test)]
+mod dialogue;
+#[cfg(test)]
 mod join;
+#[cfg(test)]
+mod players;
+#[cfg(test)]
+mod words;

@@ -1,5 +1,6 @@
 use Rattle.std.proofs.Common.{◌∙◌, sym, ap, ap₂}
 use Rattle.tt_log.specs.Shown.{Place, goes_on}
+use Rattle.tt_client.specs.Cutting.{cut_at}
 use Rattle.tt_client.specs.Held.{off_or, phase_of}
 use Rattle.tt_client.specs.Hearing.{with_news}
 use Rattle.tt_client.specs.Player.{heard_all}
@@ -11,8 +12,8 @@ use Rattle.tt_client.proofs.seat.Seat.feed_playing.Goals as goal
 
 pub invariant_of-self-2 : goal.invariant_of-self-2
 invariant_of-self-2 c = (
-  stands_played c.stage_on-self-inside.result c.hear_all.new.self.phase c.hear_all.new.self.off c.take_in.new.self
-      c.in_ok-hear_all.ensures.stands
+  stands_played c.stage_on-self-inside.result c.hear_bytes.new.self.phase c.hear_bytes.new.self.off c.take_in.new.self
+      c.in_ok-read.ensures.stands
       c.stage_on-self-inside.ensures.loaded,
   c.stage_on-self-inside.ensures.clear c.self.inside.come.items,
 )
@@ -20,9 +21,9 @@ invariant_of-self-2 c = (
 pub returns-clause-heard : goal.returns-clause-heard
 returns-clause-heard c = λ login.
     let i = c.self.inside in
-    let play = c.hear_all.new.self in
+    let play = c.hear_bytes.new.self in
     let k = c.in-Some.runs in
-    let items = c.args.items.now in
+    let items = (cut_at c.args.at c.args.bytes.now).items in
     let with : Place → K → Saying → P = λ place l s. record {
       place = place;
       phase = phase_of play.phase;
@@ -37,5 +38,5 @@ returns-clause-heard c = λ login.
     ap₂ (λ (place : Place) (l : K). with place l c.token.new.self) (c.stage_on-self-inside.ensures.stage i.come.items)
     c.in_ok-take_in.ensures.taken
     ∙ ap (λ (s : Saying). with (place_on (goes_on (phase_of play.phase))) (with_news k play.news) s) c.token.ensures.owed
-    ∙ c.in_ok-hear_all.ensures.heard login i.waiting i.acked
+    ∙ c.in_ok-read.ensures.heard login i.waiting i.acked
     ∙ ap (λ (p : P). heard_all running login items p) (c.begin-play.ensures.none i.waiting i.acked ∙ sym is ∙ c.self.view_is)

@@ -1,5 +1,5 @@
 use Rattle.std.proofs.Common.{ℕ, List, ◌≤◌, length, sym, subst, lit≤}
-use Rattle.tt_tests_client.proofs.join.ann.Goals as goal
+use Rattle.tt_tests_client.proofs.players.ann.Goals as goal
 
 pub new-requires-clause-name : goal.new-requires-clause-name
 new-requires-clause-name c = subst (λ (bytes : List ℕ). length bytes ≤ 24) (sym c.login.ensures.name) (lit≤ tt)
