@@ -16,8 +16,6 @@ mod order;
 mod plan;
 mod queue;
 mod step;
-#[cfg(test)]
-mod tests;
 mod waiting;
 
 pub use commit::count_founders;
