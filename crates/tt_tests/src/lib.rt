@@ -5,14 +5,12 @@
 #[cfg(test)]
 mod edge;
 #[cfg(test)]
+mod hub;
+#[cfg(test)]
 mod outside;
 #[cfg(test)]
 mod room;
 #[cfg(test)]
 mod shared;
-#[cfg(test)]
-mod tests;
-#[cfg(test)]
-mod verdicts;
 #[cfg(test)]
 mod workers;

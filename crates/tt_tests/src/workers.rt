@@ -110,19 +110,41 @@ where
     Some(workers)
 }
 
-/// The plan of a link that fails at these reads and writes, and idles at those.
-fn plan(
-    alloc: Global,
-    failing_reads: &[u64],
-    idle_reads: &[u64],
-    failing_writes: &[u64],
-    idle_writes: &[u64],
-) -> Result<LinkPlan, Fail> {
+/// The numbers of some calls: from the first on, and below the second.
+type Calls = (u64, u64);
+
+/// How a link behaves that brings one packet and ends: how many bytes it moves at most, at which reads and writes it fails and
+/// idles, and at which calls its listener fails.
+#[derive(Clone, Copy, Debug)]
+struct Planned {
+    most: usize,
+    failing_reads: Calls,
+    idle_reads: Calls,
+    failing_writes: Calls,
+    idle_writes: Calls,
+    failing: Calls,
+}
+
+/// A link that works.
+const SOUND: Planned = Planned {
+    most: 9,
+    failing_reads: (0, 0),
+    idle_reads: (0, 0),
+    failing_writes: (0, 0),
+    idle_writes: (0, 0),
+    failing: (0, 0),
+};
+
+fn numbers(alloc: Global, calls: Calls) -> Result<Vec<u64>, Fail> {
+    Ok((calls.0..calls.1).collect(alloc)?)
+}
+
+fn plan(alloc: Global, planned: &Planned) -> Result<LinkPlan, Fail> {
     Ok(LinkPlan {
-        failing_reads: failing_reads.to_vec(alloc)?,
-        idle_reads: idle_reads.to_vec(alloc)?,
-        failing_writes: failing_writes.to_vec(alloc)?,
-        idle_writes: idle_writes.to_vec(alloc)?,
+        failing_reads: numbers(alloc, planned.failing_reads)?,
+        idle_reads: numbers(alloc, planned.idle_reads)?,
+        failing_writes: numbers(alloc, planned.failing_writes)?,
+        idle_writes: numbers(alloc, planned.idle_writes)?,
     })
 }
 
@@ -138,15 +160,28 @@ fn link(alloc: Global, most: usize, plan: LinkPlan) -> Result<MemLink, Fail>
 fn handle<'a, T>(
     alloc: Global,
     link: MemLink,
-    failing: &[u64],
+    failing: Vec<u64>,
     back: &'a AtomicU64,
 ) -> Result<Role<Watched<'a>, Watched<'a>, T>, Fail>
     requires { IsFreshLink link }
 {
     let mut coming = Vec::new(alloc);
     coming.push((link, HOME))?;
-    let door = MemListener::new(alloc, coming, failing.to_vec(alloc)?, Vec::new(alloc))?;
+    let door = MemListener::new(alloc, coming, failing, Vec::new(alloc))?;
     Ok(Role::Game(Watched { door, back }))
+}
+
+/// A game handle that gives such a link.
+fn handle_of<'a, T>(
+    alloc: Global,
+    planned: &Planned,
+    back: &'a AtomicU64,
+) -> Result<Role<Watched<'a>, Watched<'a>, T>, Fail> {
+    if planned.most == 0 {
+        return Err("a link has to move a byte")?;
+    }
+    let link = link(alloc, planned.most, plan(alloc, planned)?)?;
+    handle(alloc, link, numbers(alloc, planned.failing)?, back)
 }
 
 /// A clock that tells Stop once so many links came back.
@@ -171,129 +206,163 @@ fn first_link<'w, T>(
     Some((served.end, link.written()))
 }
 
+/// A worker that serves such handles.
+type Serving<'a> = Worker<EchoCore, Watched<'a>, Watched<'a>, Patient<'a>>;
+
+/// A clock, and a handle for each of these links, the clock first.
+fn roles<'a>(
+    alloc: Global,
+    links: &[Planned],
+    back: &'a AtomicU64,
+    wanted: u64,
+) -> Result<Vec<Role<Watched<'a>, Watched<'a>, Patient<'a>>>, Fail> {
+    let mut roles = Vec::new(alloc);
+    roles.push(patient(back, wanted))?;
+    for planned in links {
+        roles.push(handle_of(alloc, planned, back)?)?;
+    }
+    Ok(roles)
+}
+
+/// Serves these links until so many came back. Of the workers that are left the last link's is the first.
+fn serve<'a, R: Threads + Wait + Clock + Sync, G: Gate + Sync>(
+    rt: &R,
+    alloc: Global,
+    links: &[Planned],
+    back: &'a AtomicU64,
+    wanted: u64,
+    gate: &G,
+) -> Result<Vec<Serving<'a>>, Fail> {
+    let roles = roles(alloc, links, back, wanted)?;
+    match run(rt, alloc, roles, gate) {
+        Some(workers) => Ok(workers),
+        None => Err(SHORT)?,
+    }
+}
+
+/// How the first link of a worker ended.
+fn end_of(workers: &[Serving<'_>], place: usize) -> Option<LinkEnd> {
+    let (end, _) = first_link(workers.get(place)?)?;
+    Some(end)
+}
+
+/// Whether the first link of a worker was written this.
+fn was_written(workers: &[Serving<'_>], place: usize, wanted: &[u8]) -> Option<bool> {
+    let (_, written) = first_link(workers.get(place)?)?;
+    Some(written == wanted)
+}
+
+/// The first link of a worker ended so.
+fn link_ended<R: Abort>(rt: &R, workers: &[Serving<'_>], place: usize, end: LinkEnd) {
+    assert_eq!(rt; end_of(workers, place), Some(end), "worker {place}");
+}
+
+/// The first link of a worker ended so, and was written this.
+fn served<R: Abort>(rt: &R, workers: &[Serving<'_>], place: usize, end: LinkEnd, written: &[u8]) {
+    link_ended(rt, workers, place, end);
+    let same = was_written(workers, place, written);
+    assert_eq!(rt; same, Some(true), "worker {place}, wanted {written:?}");
+}
+
+/// The workers ended so.
+fn ended<R: Abort>(rt: &R, workers: &[Serving<'_>], wanted: &[WorkerEnd]) {
+    assert_eq!(rt; workers.len(), wanted.len());
+    for (place, (worker, end)) in workers.iter().zip(wanted).enumerate() {
+        assert_eq!(rt; worker.end, *end, "worker {place}");
+    }
+}
+
 #[test]
 fn one_connection_is_served_while_another_is_held(rt: HostRuntime) -> Result<(), Fail> {
-    let alloc = rt.alloc();
     let (back, asked, gave_up) = (AtomicU64::new(0), AtomicU64::new(0), AtomicU64::new(0));
-    let mut roles = Vec::new(alloc);
-    roles.push(patient(&back, 2))?;
-    for _ in 0..2 {
-        let link = link(alloc, 9, LinkPlan::working(alloc))?;
-        roles.push(handle(alloc, link, &[], &back)?)?;
-    }
     let gate = SecondFirst {
         asked: &asked,
         gave_up: &gave_up,
     };
-    let workers = run(&rt, alloc, roles, &gate).ok_or(SHORT)?;
+    let workers = serve(&rt, rt.alloc(), &[SOUND, SOUND], &back, 2, &gate)?;
     assert_eq!(rt;
         gave_up.load(Ordering::SeqCst),
         0,
         "connection 2 was not served meanwhile"
     );
-    assert_eq!(rt; workers.len(), 3);
-    for worker in 0..2 {
-        let served = first_link(&workers[worker]);
-        assert_eq!(rt; served, Some((LinkEnd::PeerEnd, ANSWER)), "worker {worker}");
-    }
+    served(&rt, &workers, 0, LinkEnd::PeerEnd, ANSWER);
+    served(&rt, &workers, 1, LinkEnd::PeerEnd, ANSWER);
     Ok(())
 }
 
 #[test]
 fn a_packet_that_comes_in_two_pieces_is_one_packet(rt: HostRuntime) -> Result<(), Fail> {
-    let alloc = rt.alloc();
     let back = AtomicU64::new(0);
-    let mut roles = Vec::new(alloc);
-    roles.push(patient(&back, 1))?;
-    let pieces = link(alloc, 3, plan(alloc, &[], &[1], &[], &[])?)?;
-    roles.push(handle(alloc, pieces, &[], &back)?)?;
-    let workers = run(&rt, alloc, roles, &OpenGate).ok_or(SHORT)?;
-    assert_eq!(rt; workers.len(), 2);
-    assert_eq!(rt; first_link(&workers[0]), Some((LinkEnd::PeerEnd, ANSWER)));
+    let pieces = Planned {
+        most: 3,
+        idle_reads: (1, 2),
+        ..SOUND
+    };
+    let workers = serve(&rt, rt.alloc(), &[pieces], &back, 1, &OpenGate)?;
+    served(&rt, &workers, 0, LinkEnd::PeerEnd, ANSWER);
     Ok(())
 }
 
-/// How a link ended that fails at these reads and writes, and what was written to another, served beside it.
+/// A link that fails at these reads and writes ends, and another that is served beside it is served whole.
 fn beside<R: Threads + Wait + Clock + Abort + Sync>(
     rt: &R,
     alloc: Global,
-    reads: &[u64],
-    writes: &[u64],
+    failing: Planned,
 ) -> Result<(), Fail> {
     let back = AtomicU64::new(0);
-    let mut roles = Vec::new(alloc);
-    roles.push(patient(&back, 2))?;
-    let failing = link(alloc, 1, plan(alloc, reads, &[], writes, &[])?)?;
-    roles.push(handle(alloc, failing, &[], &back)?)?;
-    let sound = link(alloc, 1, LinkPlan::working(alloc))?;
-    roles.push(handle(alloc, sound, &[], &back)?)?;
-    let workers = run(rt, alloc, roles, &OpenGate).ok_or(SHORT)?;
-    assert_eq!(rt; workers.len(), 3);
-    let sound = first_link(&workers[0]);
-    assert_eq!(rt;
-        sound,
-        Some((LinkEnd::PeerEnd, ANSWER)),
-        "beside reads {reads:?}, writes {writes:?}"
-    );
-    let failed = first_link(&workers[1]).map(|(end, _)| end);
-    assert_eq!(rt;
-        failed,
-        Some(LinkEnd::LinkFault),
-        "at reads {reads:?}, writes {writes:?}"
-    );
+    let sound = Planned { most: 1, ..SOUND };
+    let workers = serve(rt, alloc, &[failing, sound], &back, 2, &OpenGate)?;
+    served(rt, &workers, 0, LinkEnd::PeerEnd, ANSWER);
+    link_ended(rt, &workers, 1, LinkEnd::LinkFault);
     Ok(())
 }
 
 #[test]
 fn a_link_that_fails_at_any_of_its_calls_ends_alone(rt: HostRuntime) -> Result<(), Fail> {
     for read in 0..6 {
-        beside(&rt, rt.alloc(), &[read], &[])?;
+        let failing = Planned {
+            most: 1,
+            failing_reads: (read, read + 1),
+            ..SOUND
+        };
+        beside(&rt, rt.alloc(), failing)?;
     }
     for write in 0..3 {
-        beside(&rt, rt.alloc(), &[], &[write])?;
+        let failing = Planned {
+            most: 1,
+            failing_writes: (write, write + 1),
+            ..SOUND
+        };
+        beside(&rt, rt.alloc(), failing)?;
     }
     Ok(())
 }
 
 #[test]
 fn a_link_that_takes_nothing_ends_slow_and_alone(rt: HostRuntime) -> Result<(), Fail> {
-    let alloc = rt.alloc();
     let back = AtomicU64::new(0);
-    let mut roles = Vec::new(alloc);
-    roles.push(patient(&back, 2))?;
-    let idle: Vec<u64> = (1..2500).collect(alloc)?;
-    let stalled: Vec<u64> = (0..2400).collect(alloc)?;
-    let slow = link(alloc, 9, plan(alloc, &[], &idle, &[], &stalled)?)?;
-    roles.push(handle(alloc, slow, &[], &back)?)?;
-    let sound = link(alloc, 9, LinkPlan::working(alloc))?;
-    roles.push(handle(alloc, sound, &[], &back)?)?;
-    let workers = run(&rt, alloc, roles, &OpenGate).ok_or(SHORT)?;
-    assert_eq!(rt; workers.len(), 3);
-    assert_eq!(rt; first_link(&workers[0]), Some((LinkEnd::PeerEnd, ANSWER)));
-    assert_eq!(rt;
-        first_link(&workers[1]),
-        Some((LinkEnd::Slow, b"".as_slice()))
-    );
+    let slow = Planned {
+        idle_reads: (1, 2500),
+        idle_writes: (0, 2400),
+        ..SOUND
+    };
+    let workers = serve(&rt, rt.alloc(), &[slow, SOUND], &back, 2, &OpenGate)?;
+    served(&rt, &workers, 0, LinkEnd::PeerEnd, ANSWER);
+    served(&rt, &workers, 1, LinkEnd::Slow, b"");
     Ok(())
 }
 
 #[test]
 fn a_listener_that_fails_ends_its_worker_alone(rt: HostRuntime) -> Result<(), Fail> {
-    let alloc = rt.alloc();
     let back = AtomicU64::new(0);
-    let mut roles = Vec::new(alloc);
-    roles.push(patient(&back, 1))?;
-    for failing in [[0].as_slice(), &[]] {
-        let link = link(alloc, 9, LinkPlan::working(alloc))?;
-        roles.push(handle(alloc, link, failing, &back)?)?;
-    }
-    let workers = run(&rt, alloc, roles, &OpenGate).ok_or(SHORT)?;
-    assert_eq!(rt; workers.len(), 3);
-    assert_eq!(rt; first_link(&workers[0]), Some((LinkEnd::PeerEnd, ANSWER)));
+    let failing = Planned {
+        failing: (0, 1),
+        ..SOUND
+    };
+    let workers = serve(&rt, rt.alloc(), &[failing, SOUND], &back, 1, &OpenGate)?;
+    served(&rt, &workers, 0, LinkEnd::PeerEnd, ANSWER);
     let wanted = [WorkerEnd::Over, WorkerEnd::ListenFault, WorkerEnd::Stopped];
-    for (worker, end) in wanted.iter().enumerate() {
-        assert_eq!(rt; workers[worker].end, *end, "worker {worker}");
-    }
+    ended(&rt, &workers, &wanted);
     Ok(())
 }
 
@@ -311,35 +380,32 @@ fn two_roles(
     Ok(roles)
 }
 
-/// How a worker with this ticker ended, and one that listens beside it.
+/// This ticker ends all: how its own worker ends, where the one that listens beside it is over.
 fn ends<R: Threads + Wait + Clock + Abort + Sync>(
     rt: &R,
     alloc: Global,
     ticker: MemTicker,
-) -> Result<(WorkerEnd, WorkerEnd), Fail> {
+    wanted: WorkerEnd,
+) -> Result<(), Fail> {
     let roles = two_roles(alloc, ticker)?;
     let workers = run(rt, alloc, roles, &OpenGate).ok_or(SHORT)?;
     assert_eq!(rt; workers.len(), 2);
-    Ok((workers[1].end, workers[0].end))
+    assert_eq!(rt; (workers[1].end, workers[0].end), (wanted, WorkerEnd::Over));
+    Ok(())
+}
+
+/// A ticker of so many ticks that fails and stops at these calls.
+fn ticker(alloc: Global, ticks: u64, failing: &[u64], stopping: &[u64]) -> Result<MemTicker, Fail> {
+    Ok(MemTicker::new(ticks, failing.to_vec(alloc)?, stopping.to_vec(alloc)?))
 }
 
 #[test]
 fn a_ticker_that_fails_or_stops_at_once_ends_all(rt: HostRuntime) -> Result<(), Fail> {
     let alloc = rt.alloc();
-    let failing = MemTicker::new(1, [0].to_vec(alloc)?, Vec::new(alloc));
-    assert_eq!(rt;
-        ends(&rt, alloc, failing)?,
-        (WorkerEnd::TickFault, WorkerEnd::Over)
-    );
-    let stopping = MemTicker::new(1, Vec::new(alloc), [0].to_vec(alloc)?);
-    assert_eq!(rt;
-        ends(&rt, alloc, stopping)?,
-        (WorkerEnd::Stopped, WorkerEnd::Over)
-    );
-    let later = MemTicker::new(9, Vec::new(alloc), [3].to_vec(alloc)?);
-    assert_eq!(rt;
-        ends(&rt, alloc, later)?,
-        (WorkerEnd::Stopped, WorkerEnd::Over)
-    );
-    Ok(())
+    let failing = ticker(alloc, 1, &[0], &[])?;
+    ends(&rt, alloc, failing, WorkerEnd::TickFault)?;
+    let stopping = ticker(alloc, 1, &[], &[0])?;
+    ends(&rt, alloc, stopping, WorkerEnd::Stopped)?;
+    let later = ticker(alloc, 9, &[], &[3])?;
+    ends(&rt, alloc, later, WorkerEnd::Stopped)
 }

@@ -2,11 +2,25 @@
 mod families;
 
 use std::alloc::Global;
-use std::test::Fail;
+use std::process::Abort;
+use std::test::*;
+use tt_frame::Bad;
 use tt_show::{Family, ShowError, show, show_bytes, show_packet};
 
+/// Lists of packets, and the text of each.
+type Row = (&'static [u8], &'static [u8]);
+
+/// The list has this text.
+fn shows<R: Abort>(rt: &R, alloc: Global, row: &Row) {
+    let (input, wanted) = *row;
+    match show(alloc, input) {
+        Ok(text) => assert_eq!(rt; text.as_slice(), wanted, "of {input:?}"),
+        Err(error) => panic!(rt; "{error} in {input:?}"),
+    }
+}
+
 /// A line for each message, and its text.
-const ROWS: [(&[u8], &[u8]); 39] = [
+const ROWS: &[Row] = &[
     (b"game 030000", b"SERVER_FULL\n"),
     (b"game 030001", b"SERVER_BANNED\n"),
     (
@@ -85,28 +99,19 @@ const ROWS: [(&[u8], &[u8]); 39] = [
 ];
 
 /// The rows, for a loop: a check of the loop needn't look at each.
-fn rows() -> &'static [(&'static [u8], &'static [u8])] {
-    &ROWS
-}
-
-fn bad_line(alloc: Global, input: &[u8]) -> Option<u32> {
-    match show(alloc, input) {
-        Err(ShowError::Line(line)) => Some(line),
-        _ => None,
-    }
+fn rows() -> &'static [Row] {
+    ROWS
 }
 
 #[test]
-fn each_message_has_its_line(rt: HostRuntime) -> Result<(), Fail> {
-    for (number, row) in rows().iter().enumerate() {
-        let (line, text) = *row;
-        assert_eq!(rt; show(rt.alloc(), line)?.as_slice(), text, "row {number}");
+fn each_message_has_its_line(rt: HostRuntime) {
+    for row in rows().iter() {
+        shows(&rt, rt.alloc(), row);
     }
-    Ok(())
 }
 
 /// Lists, and their texts.
-const LISTS: [(&[u8], &[u8]); 12] = [
+const LISTS: &[Row] = &[
     (b"", b""),
     (b"game 04000600", b"SERVER_CHECK_NEWGRFS 0\n"),
     (b"game 04000308\n", b"SERVER_ERROR 8\n"),
@@ -127,21 +132,19 @@ const LISTS: [(&[u8], &[u8]); 12] = [
     ),
 ];
 
-fn lists() -> &'static [(&'static [u8], &'static [u8])] {
-    &LISTS
+fn lists() -> &'static [Row] {
+    LISTS
 }
 
 #[test]
-fn each_list_has_its_text(rt: HostRuntime) -> Result<(), Fail> {
-    for (number, row) in lists().iter().enumerate() {
-        let (input, text) = *row;
-        assert_eq!(rt; show(rt.alloc(), input)?.as_slice(), text, "row {number}");
+fn each_list_has_its_text(rt: HostRuntime) {
+    for row in lists().iter() {
+        shows(&rt, rt.alloc(), row);
     }
-    Ok(())
 }
 
 /// Inputs that are no list, and their first bad lines.
-const BAD: [(&[u8], u32); 13] = [
+const BAD: &[(&[u8], u32)] = &[
     (b"\n", 1),
     (b"game", 1),
     (b"game ", 1),
@@ -158,27 +161,39 @@ const BAD: [(&[u8], u32); 13] = [
 ];
 
 fn bad() -> &'static [(&'static [u8], u32)] {
-    &BAD
+    BAD
+}
+
+/// The input is no list, and this is its first bad line.
+fn is_bad<R: Abort>(rt: &R, alloc: Global, input: &[u8], line: u32) {
+    let found = show(alloc, input).err();
+    assert_eq!(rt; found, Some(ShowError::Line(line)), "of {input:?}");
 }
 
 #[test]
 fn the_first_bad_line_is_told(rt: HostRuntime) {
-    for (number, row) in bad().iter().enumerate() {
-        let (input, line) = *row;
-        assert_eq!(rt; bad_line(rt.alloc(), input), Some(line), "row {number}");
+    for (input, line) in bad().iter() {
+        is_bad(&rt, rt.alloc(), input, *line);
+    }
+}
+
+/// Appends two texts, with a packet between them that has none.
+fn append(alloc: Global, text: &mut Vec<u8>) -> Result<(), Bad> {
+    show_packet(alloc, text, Family::Game, 32, &[3, 0, 0, 0, 14])?;
+    if show_packet(alloc, text, Family::Game, 32, &[3, 0, 0, 0]).is_ok() {
+        return Ok(());
+    }
+    match show_bytes(alloc, text, Family::Game, &[3, 0, 35, 9]) {
+        Ok(()) => Ok(()),
+        Err(_) => Err(Bad::Memory),
     }
 }
 
 #[test]
 fn lines_are_appended(rt: HostRuntime) -> Result<(), Fail> {
-    let alloc = rt.alloc();
-    let mut text = Vec::from_slice(alloc, b"> ")?;
-    show_packet(alloc, &mut text, Family::Game, 32, &[3, 0, 0, 0, 14])?;
-    assert!(rt; show_packet(alloc, &mut text, Family::Game, 32, &[3, 0, 0, 0]).is_err());
-    show_bytes(alloc, &mut text, Family::Game, &[3, 0, 35, 9])?;
-    assert_eq!(rt;
-        text.as_slice(),
-        b"> SERVER_MOVE 3 14\nCLIENT_QUIT\npartial 1\n".as_slice()
-    );
+    let mut text = Vec::from_slice(rt.alloc(), b"> ")?;
+    append(rt.alloc(), &mut text)?;
+    let wanted = b"> SERVER_MOVE 3 14\nCLIENT_QUIT\npartial 1\n";
+    assert_eq!(rt; text.as_slice(), wanted.as_slice());
     Ok(())
 }

@@ -1,29 +1,32 @@
 //! Codes that are parsed and drawn, and runs of attempts.
-use std::test::Fail;
-use tt_attempts::{Attempt, Heard, InviteCode, Told, Ways};
+use std::process::Abort;
+use std::test::*;
+use tt_attempts::Heard::{Connected, ServerGone};
+use tt_attempts::Told::{AllFailed, AskStun, Direct, Nothing, Stun, Turn};
+use tt_attempts::{Attempt, Heard, InviteCode, Stage, Told, Ways};
 use tt_world::Random;
+
+fn is_code<R: Abort>(rt: &R, bytes: &[u8], wanted: bool) {
+    assert_eq!(rt; InviteCode::parse(bytes).is_some(), wanted, "of {bytes:?}");
+}
 
 #[test]
 fn a_code_is_parsed(rt: HostRuntime) -> Result<(), Fail> {
     let code = InviteCode::parse(b"+9ZDDVF").ok_or("a code")?;
-    assert_eq!(rt; code.text().as_slice(), b"+9ZDDVF".as_slice());
+    assert_eq!(rt; code.text(), b"+9ZDDVF");
+    is_code(&rt, b"+9ZDDVO", false);
+    is_code(&rt, b"+9ZDDV", false);
+    is_code(&rt, b"+9ZDDVFF", false);
+    is_code(&rt, b"99ZDDVF", false);
+    is_code(&rt, b"", false);
     Ok(())
-}
-
-#[test]
-fn other_bytes_are_no_code(rt: HostRuntime) {
-    assert!(rt; InviteCode::parse(b"+9ZDDVO").is_none());
-    assert!(rt; InviteCode::parse(b"+9ZDDV").is_none());
-    assert!(rt; InviteCode::parse(b"+9ZDDVFF").is_none());
-    assert!(rt; InviteCode::parse(b"99ZDDVF").is_none());
-    assert!(rt; InviteCode::parse(b"").is_none());
 }
 
 #[test]
 fn a_code_is_drawn_from_the_words(rt: HostRuntime) {
     let mut random = Random::of(0, 0);
     let code = InviteCode::draw(&mut random);
-    assert_eq!(rt; code.text().as_slice(), b"+9ZDDVF".as_slice());
+    assert_eq!(rt; code.text(), b"+9ZDDVF");
 }
 
 const ALL: Ways = Ways {
@@ -32,30 +35,11 @@ const ALL: Ways = Ways {
     turn: true,
 };
 
-fn failed(tracking: u8) -> Heard {
-    Heard::Failed { tracking }
-}
-
-fn result(side: u8, ok: bool) -> Heard {
-    Heard::StunResult { side, ok }
-}
-
-#[test]
-fn the_first_way_is_direct(rt: HostRuntime) {
-    let mut attempt = Attempt::new(ALL);
-    assert!(rt; attempt.first() == Told::Direct);
-}
-
-#[test]
-fn ways_that_do_not_apply_are_passed_over(rt: HostRuntime) {
-    let mut attempt = Attempt::new(Ways {
-        direct: false,
-        stun: false,
-        turn: true,
-    });
-    assert!(rt; attempt.first() == Told::Turn);
-    assert!(rt; attempt.step(failed(3)) == Told::AllFailed);
-}
+const TURN: Ways = Ways {
+    direct: false,
+    stun: false,
+    turn: true,
+};
 
 const NONE: Ways = Ways {
     direct: false,
@@ -63,123 +47,200 @@ const NONE: Ways = Ways {
     turn: false,
 };
 
-#[test]
-fn without_any_way_all_failed_at_once(rt: HostRuntime) {
-    let mut attempt = Attempt::new(NONE);
-    assert!(rt; attempt.first() == Told::AllFailed);
-    assert!(rt; attempt.step(failed(1)) == Told::Nothing);
-    assert!(rt; attempt.step(failed(2)) == Told::Nothing);
-    assert!(rt; attempt.step(failed(3)) == Told::Nothing);
-    assert!(rt; attempt.step(result(0, true)) == Told::Nothing);
-    assert!(rt; attempt.step(result(1, true)) == Told::Nothing);
-    assert!(rt; attempt.step(result(0, false)) == Told::Nothing);
-    assert!(rt; attempt.step(Heard::ServerGone) == Told::Nothing);
-    assert!(rt; attempt.step(Heard::Connected) == Told::Nothing);
-    assert!(rt; attempt.step(Heard::ServerGone) == Told::Nothing);
+/// The direct way, STUN and TURN failed.
+const FAILED_1: Heard = Heard::Failed { tracking: 1 };
+
+const FAILED_2: Heard = Heard::Failed { tracking: 2 };
+
+const FAILED_3: Heard = Heard::Failed { tracking: 3 };
+
+/// The results of the server and of the client at the STUN desk.
+const SERVER_OK: Heard = Heard::StunResult { side: 0, ok: true };
+
+const SERVER_NOT: Heard = Heard::StunResult { side: 0, ok: false };
+
+const CLIENT_OK: Heard = Heard::StunResult { side: 1, ok: true };
+
+const CLIENT_NOT: Heard = Heard::StunResult { side: 1, ok: false };
+
+/// What a run is called, the ways that apply, what is told first, and what each event tells.
+type Run = (&'static str, Ways, Told, &'static [(Heard, Told)]);
+
+const RUNS: &[Run] = &[
+    ("the first way is direct", ALL, Direct, &[]),
+    (
+        "ways that do not apply are passed over",
+        TURN,
+        Turn,
+        &[(FAILED_3, AllFailed)],
+    ),
+    (
+        "without any way all failed at once",
+        NONE,
+        AllFailed,
+        &[
+            (FAILED_1, Nothing),
+            (FAILED_2, Nothing),
+            (FAILED_3, Nothing),
+            (SERVER_OK, Nothing),
+            (CLIENT_OK, Nothing),
+            (SERVER_NOT, Nothing),
+            (ServerGone, Nothing),
+            (Connected, Nothing),
+            (ServerGone, Nothing),
+        ],
+    ),
+    (
+        "a result that is not ok leads to TURN",
+        ALL,
+        Direct,
+        &[
+            (FAILED_1, AskStun),
+            (SERVER_OK, Nothing),
+            (CLIENT_NOT, Turn),
+            (CLIENT_OK, Nothing),
+            (FAILED_1, Nothing),
+            (Connected, Nothing),
+            (FAILED_3, Nothing),
+        ],
+    ),
+    (
+        "without a connection the same attempt fails at TURN",
+        ALL,
+        Direct,
+        &[
+            (FAILED_1, AskStun),
+            (SERVER_OK, Nothing),
+            (CLIENT_NOT, Turn),
+            (CLIENT_OK, Nothing),
+            (FAILED_1, Nothing),
+            (FAILED_3, AllFailed),
+            (FAILED_3, Nothing),
+        ],
+    ),
+    (
+        "a side that takes back its ok fails STUN",
+        ALL,
+        Direct,
+        &[
+            (FAILED_1, AskStun),
+            (SERVER_OK, Nothing),
+            (SERVER_NOT, Turn),
+        ],
+    ),
+    (
+        "after the last way all failed",
+        ALL,
+        Direct,
+        &[
+            (FAILED_1, AskStun),
+            (SERVER_NOT, Turn),
+            (FAILED_3, AllFailed),
+            (FAILED_3, Nothing),
+        ],
+    ),
+    (
+        "two results that are ok lead to the addresses",
+        ALL,
+        Direct,
+        &[
+            (FAILED_1, AskStun),
+            (CLIENT_OK, Nothing),
+            (CLIENT_OK, Nothing),
+            (FAILED_2, Nothing),
+            (SERVER_OK, Stun),
+            (SERVER_NOT, Nothing),
+            (FAILED_2, Turn),
+        ],
+    ),
+    (
+        "a server that has gone ends the attempt",
+        ALL,
+        Direct,
+        &[(ServerGone, AllFailed), (ServerGone, Nothing)],
+    ),
+    (
+        "a server that has gone before its result ends the attempt",
+        ALL,
+        Direct,
+        &[
+            (FAILED_1, AskStun),
+            (ServerGone, AllFailed),
+            (SERVER_NOT, Nothing),
+        ],
+    ),
+    (
+        "a server that has gone after one ok ends the attempt",
+        ALL,
+        Direct,
+        &[
+            (FAILED_1, AskStun),
+            (CLIENT_OK, Nothing),
+            (ServerGone, AllFailed),
+            (SERVER_OK, Nothing),
+        ],
+    ),
+    (
+        "a server that has gone after the addresses ends the attempt",
+        ALL,
+        Direct,
+        &[
+            (FAILED_1, AskStun),
+            (SERVER_OK, Nothing),
+            (CLIENT_OK, Stun),
+            (ServerGone, AllFailed),
+            (FAILED_2, Nothing),
+        ],
+    ),
+    (
+        "a server that has gone after TURN ends the attempt",
+        ALL,
+        Direct,
+        &[
+            (FAILED_1, AskStun),
+            (CLIENT_NOT, Turn),
+            (ServerGone, AllFailed),
+            (FAILED_3, Nothing),
+        ],
+    ),
+];
+
+/// The runs, for a loop: a check of the loop needn't look at each.
+fn runs() -> &'static [Run] {
+    RUNS
+}
+
+/// What an event tells, in an attempt that has begun.
+fn step(attempt: &mut Attempt, heard: Heard) -> Option<Told> {
+    match attempt.stage() {
+        Stage::Fresh => None,
+        _ => Some(attempt.step(heard)),
+    }
+}
+
+/// The event tells this.
+fn tells<R: Abort>(rt: &R, attempt: &mut Attempt, run: &str, event: &(Heard, Told)) {
+    let (heard, wanted) = *event;
+    assert_eq!(rt; step(attempt, heard), Some(wanted), "{heard:?}: {run}");
+}
+
+fn begin<R: Abort>(rt: &R, run: &str, ways: Ways, wanted: Told) -> Attempt {
+    let mut attempt = Attempt::new(ways);
+    assert_eq!(rt; attempt.first(), wanted, "at first: {run}");
+    attempt
+}
+
+fn follow<R: Abort>(rt: &R, run: &Run) {
+    let (name, ways, first, events) = *run;
+    let mut attempt = begin(rt, name, ways, first);
+    for event in events {
+        tells(rt, &mut attempt, name, event);
+    }
 }
 
 #[test]
-fn a_result_that_is_not_ok_leads_to_turn(rt: HostRuntime) {
-    let mut attempt = Attempt::new(ALL);
-    assert!(rt; attempt.first() == Told::Direct);
-    assert!(rt; attempt.step(failed(1)) == Told::AskStun);
-    assert!(rt; attempt.step(result(0, true)) == Told::Nothing);
-    assert!(rt; attempt.step(result(1, false)) == Told::Turn);
-    assert!(rt; attempt.step(result(1, true)) == Told::Nothing);
-    assert!(rt; attempt.step(failed(1)) == Told::Nothing);
-    assert!(rt; attempt.step(Heard::Connected) == Told::Nothing);
-    assert!(rt; attempt.step(failed(3)) == Told::Nothing);
-}
-
-#[test]
-fn without_a_connection_the_same_attempt_fails_at_turn(rt: HostRuntime) {
-    let mut attempt = Attempt::new(ALL);
-    assert!(rt; attempt.first() == Told::Direct);
-    assert!(rt; attempt.step(failed(1)) == Told::AskStun);
-    assert!(rt; attempt.step(result(0, true)) == Told::Nothing);
-    assert!(rt; attempt.step(result(1, false)) == Told::Turn);
-    assert!(rt; attempt.step(result(1, true)) == Told::Nothing);
-    assert!(rt; attempt.step(failed(1)) == Told::Nothing);
-    assert!(rt; attempt.step(failed(3)) == Told::AllFailed);
-    assert!(rt; attempt.step(failed(3)) == Told::Nothing);
-}
-
-#[test]
-fn a_side_that_takes_back_its_ok_fails_stun(rt: HostRuntime) {
-    let mut attempt = Attempt::new(ALL);
-    assert!(rt; attempt.first() == Told::Direct);
-    assert!(rt; attempt.step(failed(1)) == Told::AskStun);
-    assert!(rt; attempt.step(result(0, true)) == Told::Nothing);
-    assert!(rt; attempt.step(result(0, false)) == Told::Turn);
-}
-
-#[test]
-fn after_the_last_way_all_failed(rt: HostRuntime) {
-    let mut attempt = Attempt::new(ALL);
-    assert!(rt; attempt.first() == Told::Direct);
-    assert!(rt; attempt.step(failed(1)) == Told::AskStun);
-    assert!(rt; attempt.step(result(0, false)) == Told::Turn);
-    assert!(rt; attempt.step(failed(3)) == Told::AllFailed);
-    assert!(rt; attempt.step(failed(3)) == Told::Nothing);
-}
-
-#[test]
-fn two_results_that_are_ok_lead_to_the_addresses(rt: HostRuntime) {
-    let mut attempt = Attempt::new(ALL);
-    assert!(rt; attempt.first() == Told::Direct);
-    assert!(rt; attempt.step(failed(1)) == Told::AskStun);
-    assert!(rt; attempt.step(result(1, true)) == Told::Nothing);
-    assert!(rt; attempt.step(result(1, true)) == Told::Nothing);
-    assert!(rt; attempt.step(failed(2)) == Told::Nothing);
-    assert!(rt; attempt.step(result(0, true)) == Told::Stun);
-    assert!(rt; attempt.step(result(0, false)) == Told::Nothing);
-    assert!(rt; attempt.step(failed(2)) == Told::Turn);
-}
-
-#[test]
-fn a_server_that_has_gone_ends_the_attempt(rt: HostRuntime) {
-    let mut attempt = Attempt::new(ALL);
-    assert!(rt; attempt.first() == Told::Direct);
-    assert!(rt; attempt.step(Heard::ServerGone) == Told::AllFailed);
-    assert!(rt; attempt.step(Heard::ServerGone) == Told::Nothing);
-}
-
-#[test]
-fn a_server_that_has_gone_before_its_result_ends_the_attempt(rt: HostRuntime) {
-    let mut attempt = Attempt::new(ALL);
-    assert!(rt; attempt.first() == Told::Direct);
-    assert!(rt; attempt.step(failed(1)) == Told::AskStun);
-    assert!(rt; attempt.step(Heard::ServerGone) == Told::AllFailed);
-    assert!(rt; attempt.step(result(0, false)) == Told::Nothing);
-}
-
-#[test]
-fn a_server_that_has_gone_after_one_ok_ends_the_attempt(rt: HostRuntime) {
-    let mut attempt = Attempt::new(ALL);
-    assert!(rt; attempt.first() == Told::Direct);
-    assert!(rt; attempt.step(failed(1)) == Told::AskStun);
-    assert!(rt; attempt.step(result(1, true)) == Told::Nothing);
-    assert!(rt; attempt.step(Heard::ServerGone) == Told::AllFailed);
-    assert!(rt; attempt.step(result(0, true)) == Told::Nothing);
-}
-
-#[test]
-fn a_server_that_has_gone_after_the_addresses_ends_the_attempt(rt: HostRuntime) {
-    let mut attempt = Attempt::new(ALL);
-    assert!(rt; attempt.first() == Told::Direct);
-    assert!(rt; attempt.step(failed(1)) == Told::AskStun);
-    assert!(rt; attempt.step(result(0, true)) == Told::Nothing);
-    assert!(rt; attempt.step(result(1, true)) == Told::Stun);
-    assert!(rt; attempt.step(Heard::ServerGone) == Told::AllFailed);
-    assert!(rt; attempt.step(failed(2)) == Told::Nothing);
-}
-
-#[test]
-fn a_server_that_has_gone_after_turn_ends_the_attempt(rt: HostRuntime) {
-    let mut attempt = Attempt::new(ALL);
-    assert!(rt; attempt.first() == Told::Direct);
-    assert!(rt; attempt.step(failed(1)) == Told::AskStun);
-    assert!(rt; attempt.step(result(1, false)) == Told::Turn);
-    assert!(rt; attempt.step(Heard::ServerGone) == Told::AllFailed);
-    assert!(rt; attempt.step(failed(3)) == Told::Nothing);
+fn each_run_tells_its_ways(rt: HostRuntime) {
+    for run in runs() {
+        follow(&rt, run);
+    }
 }

@@ -1,17 +1,13 @@
 //! The admin desk: words of the console, messages, bits by type, periods, and who is there.
+ghost use Rattle.std.specs.Prelude.{◌<◌};
+
 use std::alloc::Global;
+use std::process::Abort;
 use std::test::*;
 use tt_admin::AdminMsg;
-use tt_admin_desk::{ConsoleCommand, Desk, Heard, console};
+use tt_admin_desk::{Admin, ConsoleCommand, Desk, Heard, console};
 use tt_frame::{Line, OutOfMemory};
 use tt_world::Setup;
-
-/// What a desk hears of its first admin.
-fn hears(desk: &Desk, setup: &Setup, msg: Option<AdminMsg>) -> Option<Heard> {
-    let msg = msg?;
-    let admin = desk.all().first()?;
-    Some(desk.heard(setup, admin.conn, &msg))
-}
 
 /// What a line of the console asks for; nothing where the bytes are no line.
 fn asked(bytes: &[u8]) -> Option<ConsoleCommand> {
@@ -20,20 +16,24 @@ fn asked(bytes: &[u8]) -> Option<ConsoleCommand> {
 }
 
 /// What the server is told to say.
-fn says(bytes: &[u8]) -> Option<ConsoleCommand> {
+fn said(bytes: &[u8]) -> Option<ConsoleCommand> {
     let line = Line::new(bytes)?;
     Some(ConsoleCommand::Say(line))
 }
 
+/// The line of the console has the server say this.
+fn says<R: Abort>(rt: &R, line: &[u8], words: &[u8]) {
+    assert_eq!(rt; asked(line), said(words), "of {line:?}");
+}
+
 #[test]
-fn all_behind_say_is_said(rt: HostRuntime) -> Result<(), Fail> {
-    assert_eq!(rt; asked(b"say hi"), says(b"hi"));
-    assert_eq!(rt; asked(b"say  hi  you "), says(b" hi  you "));
-    assert_eq!(rt; asked("say h\u{e9}".as_bytes()), says("h\u{e9}".as_bytes()));
+fn all_behind_say_is_said(rt: HostRuntime) {
+    says(&rt, b"say hi", b"hi");
+    says(&rt, b"say  hi  you ", b" hi  you ");
+    says(&rt, b"say h\xc3\xa9", b"h\xc3\xa9");
     let mut longest = [b'a'; 899];
     longest[..4].copy_from_slice(b"say ");
-    assert_eq!(rt; asked(longest.as_slice()), says(&longest[4..]));
-    Ok(())
+    says(&rt, &longest, &longest[4..]);
 }
 
 /// A desk with an admin at connection 1 that has joined.
@@ -44,71 +44,128 @@ fn joined(alloc: Global) -> Result<Desk, OutOfMemory> {
     Ok(desk)
 }
 
+/// What a desk hears of its first admin.
+fn heard(desk: &Desk, setup: &Setup, msg: AdminMsg) -> Option<Heard> {
+    let admin = desk.all().first()?;
+    Some(desk.heard(setup, admin.conn, &msg))
+}
+
+/// Bits are taken where they are among the most of their type.
+fn takes<R: Abort>(rt: &R, desk: &Desk, kind: u16, bits: u16, most: u16) {
+    let found = heard(
+        desk,
+        &Setup::plain(),
+        AdminMsg::AdminUpdateFrequency { kind, bits },
+    );
+    let wanted = if kind < 10 && bits & most == bits {
+        Heard::Bits { kind, bits }
+    } else {
+        Heard::Ends(4)
+    };
+    assert_eq!(rt; found, Some(wanted), "of type {kind}");
+}
+
+/// All bits below 256 of a type.
+fn takes_all<R: Abort>(rt: &R, desk: &Desk, kind: u16, most: u16) {
+    for bits in 0..256_u16 {
+        takes(rt, desk, kind, bits, most);
+    }
+}
+
 #[test]
 fn bits_are_taken_by_type(rt: HostRuntime) -> Result<(), Fail> {
-    let setup = Setup::plain();
     let desk = joined(rt.alloc())?;
     let allowed: [u16; 11] = [63, 65, 65, 61, 61, 64, 64, 1, 64, 64, 0];
     let mut kind = 0_u16;
     for most in allowed {
-        for bits in 0..256_u16 {
-            let msg = AdminMsg::AdminUpdateFrequency { kind, bits };
-            let wanted = if kind < 10 && bits & most == bits {
-                Heard::Bits { kind, bits }
-            } else {
-                Heard::Ends(4)
-            };
-            assert_eq!(rt;
-                hears(&desk, &setup, Some(msg)),
-                Some(wanted),
-                "of type {kind}"
-            );
-        }
+        takes_all(&rt, &desk, kind, most);
         kind = kind.saturating_add(1);
     }
     Ok(())
+}
+
+/// An admin is due for a type on a day, or not.
+fn is_due<R: Abort>(rt: &R, desk: &Desk, conn: u32, kind: u16, day: u32, wanted: bool) {
+    assert_eq!(rt;
+        desk.due(conn, kind, day),
+        wanted,
+        "{conn}, type {kind}, at day {day}"
+    );
+}
+
+/// An admin asks for a type by these bits.
+fn ask(desk: &mut Desk, conn: u32, kind: u16, bits: u16) {
+    desk.commit(conn, &Heard::Bits { kind, bits });
+}
+
+/// Both admins ask for type 0 by this bit: the first alone, which has joined, is due, once in so many days.
+fn divides<R: Abort>(rt: &R, desk: &mut Desk, bit: u16, days: u32)
+    requires { 0 < days }
+{
+    ask(desk, 1, 0, bit);
+    ask(desk, 2, 0, bit);
+    for day in 0..=720_u32 {
+        is_due(rt, desk, 1, 0, day, day % days == 0);
+        is_due(rt, desk, 1, 3, day, false);
+        is_due(rt, desk, 1, 10, day, false);
+        is_due(rt, desk, 2, 0, day, false);
+        is_due(rt, desk, 3, 0, day, false);
+    }
 }
 
 #[test]
 fn periods_divide_the_days(rt: HostRuntime) -> Result<(), Fail> {
     let mut desk = joined(rt.alloc())?;
     let _ = desk.open(2, 0)?;
-    let periods = [(2, 1), (4, 7), (8, 30), (16, 90), (32, 360)];
-    for (bit, days) in periods {
-        let bits = Heard::Bits { kind: 0, bits: bit };
-        desk.commit(1, &bits);
-        desk.commit(2, &bits);
-        for day in 0..=720_u32 {
-            assert_eq!(rt; desk.due(1, 0, day), day % days == 0, "at day {day}");
-            assert_eq!(rt; (desk.due(1, 3, day), desk.due(1, 10, day)), (false, false));
-            assert_eq!(rt; (desk.due(2, 0, day), desk.due(3, 0, day)), (false, false));
-        }
-    }
-    desk.commit(1, &Heard::Bits { kind: 3, bits: 12 });
+    divides(&rt, &mut desk, 2, 1);
+    divides(&rt, &mut desk, 4, 7);
+    divides(&rt, &mut desk, 8, 30);
+    divides(&rt, &mut desk, 16, 90);
+    divides(&rt, &mut desk, 32, 360);
+    ask(&mut desk, 1, 3, 12);
     for day in 0..=720_u32 {
-        let wanted = day % 7 == 0 || day % 30 == 0;
-        assert_eq!(rt; desk.due(1, 3, day), wanted, "at day {day}");
+        is_due(&rt, &desk, 1, 3, day, day % 7 == 0 || day % 30 == 0);
     }
     Ok(())
 }
 
+fn opens<R: Abort>(rt: &R, desk: &mut Desk, conn: u32, since: u32, stays: bool) {
+    assert_eq!(rt; desk.open(conn, since), Ok(stays), "the connection {conn}");
+}
+
+/// How many there are, and who is at a place, since when.
+fn stands<R: Abort>(rt: &R, desk: &Desk, count: usize, place: usize, conn: u32, since: u32) {
+    let admin = desk
+        .all()
+        .get(place)
+        .map(|admin: &Admin| (admin.conn, admin.since));
+    assert_eq!(rt; (desk.all().len(), admin), (count, Some((conn, since))));
+}
+
+fn close(desk: &mut Desk, conn: u32) {
+    desk.close(conn);
+}
+
+/// Whether the admin at a place has joined, and its bits.
+fn bits_at(desk: &Desk, place: usize) -> Option<(bool, [u16; 10])> {
+    let admin = desk.all().get(place)?;
+    Some((admin.joined, admin.bits))
+}
+
 #[test]
-fn sixteen_are_there_at_most(rt: HostRuntime) -> Result<(), Fail> {
+fn sixteen_are_there_at_most(rt: HostRuntime) {
     let mut desk = Desk::new(rt.alloc());
     for conn in 1..=16_u32 {
-        assert_eq!(rt; desk.open(conn, 100 + conn), Ok(true), "connection {conn}");
+        opens(&rt, &mut desk, conn, 100 + conn, true);
     }
-    assert_eq!(rt; desk.open(17, 200), Ok(false));
-    assert_eq!(rt; desk.all().len(), 16);
-    desk.close(3);
-    desk.close(18);
-    assert_eq!(rt; desk.open(17, 200), Ok(true));
-    assert_eq!(rt; desk.all().len(), 16);
-    desk.commit(17, &Heard::Bits { kind: 1, bits: 64 });
-    let last = desk.all().get(15).ok_or("the last one")?;
-    assert_eq!(rt; (last.conn, last.since, last.joined), (17, 200, false));
-    assert_eq!(rt; last.bits, [0, 64, 0, 0, 0, 0, 0, 0, 0, 0]);
-    let third = desk.all().get(2).ok_or("the third one")?;
-    assert_eq!(rt; (third.conn, third.since), (4, 104));
-    Ok(())
+    opens(&rt, &mut desk, 17, 200, false);
+    stands(&rt, &desk, 16, 15, 16, 116);
+    close(&mut desk, 3);
+    close(&mut desk, 18);
+    opens(&rt, &mut desk, 17, 200, true);
+    stands(&rt, &desk, 16, 15, 17, 200);
+    stands(&rt, &desk, 16, 2, 4, 104);
+    ask(&mut desk, 17, 1, 64);
+    let bits = bits_at(&desk, 15);
+    assert_eq!(rt; bits, Some((false, [0, 64, 0, 0, 0, 0, 0, 0, 0, 0])));
 }

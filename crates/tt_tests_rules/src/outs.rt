@@ -5,7 +5,7 @@ ghost use Rattle.tt_outgoing.specs.Waiting.{opened};
 use std::collections::VecDeque;
 use std::process::Abort;
 use std::test::Fail;
-use tt_hub::Outs;
+use tt_outgoing::Outs;
 use tt_world::Random;
 
 #[test]

@@ -9,8 +9,9 @@ use std::sync::atomic::{AtomicU64, Ordering};
 use std::test::*;
 use std::thread::{self, Threads, join};
 use std::time::{Clock, Duration};
-use tt_edge::{Beat, ClockTicker, TcpDoor, Ticker};
-use tt_workers::{OpenGate, Role, WorkerEnd};
+use tt_edge::echo::EchoCore;
+use tt_edge::{Beat, ClockTicker, Listener, TcpDoor, Ticker};
+use tt_workers::{OpenGate, Role, Worker, WorkerEnd};
 
 /// How many handles there are, at the main door and at the side door.
 const GAME: u32 = 256;
@@ -65,15 +66,22 @@ where
         roles.push(Role::Admin(door.another().ok()?)).ok()?;
     }
     let workers = run(rt, alloc, roles, &OpenGate)?;
-    let over = workers
-        .iter()
-        .filter(|worker| worker.end == WorkerEnd::Over)
-        .count();
-    let stopped = workers
-        .iter()
-        .filter(|worker| worker.end == WorkerEnd::Stopped)
-        .count();
-    Some((u32::try_from(over).ok()?, u32::try_from(stopped).ok()?))
+    let over = how_many(&workers, WorkerEnd::Over);
+    Some((over, how_many(&workers, WorkerEnd::Stopped)))
+}
+
+/// How many workers ended so.
+fn how_many<L: Listener, A: Listener, T: Ticker>(
+    workers: &[Worker<EchoCore, L, A, T>],
+    end: WorkerEnd,
+) -> u32 {
+    let mut count = 0_u32;
+    for worker in workers.iter() {
+        if worker.end == end {
+            count = count.saturating_add(1);
+        }
+    }
+    count
 }
 
 /// Asks a connection, and answers whether it was answered as the echo core answers.

@@ -5,7 +5,7 @@ use Rattle.tt_world.specs.World.{world_of_parts}
 use Rattle.tt_world.specs.Sound.{IsSound}
 use Rattle.tt_world.specs.declared.company.Company.{Company}
 use Rattle.tt_world.proofs.SoundLaws.{IsSound-start}
-use Rattle.tt_tests_rules.proofs.world.the_last_day_stays.Goals as goal
+use Rattle.tt_tests_rules.proofs.world.near_the_end.Goals as goal
 
 abbrev nobody : Option Company
 nobody = None
@@ -17,7 +17,7 @@ nobody_sound words day part lt =
     record { part = lt; places = s.places; companies = s.companies; names = s.names; few = s.few; rising = s.rising; signs = s.signs }
 
 pub from_parts-world-requires : goal.from_parts-world-requires
-from_parts-world-requires g c = record {
-  sound = rw (c.in_ok-signs.ensures.items, c.no_companies.ensures.nobody) (nobody_sound c.seeded.result 4294967294 73 (lit< tt));
-  room = omega (arith, c.in_ok-signs.ensures.capacity);
+from_parts-world-requires g = record {
+  sound = rw (g.in_ok-signs.ensures.items, g.no_companies.ensures.nobody) (nobody_sound g.seeded.result 4294967294 73 (lit< tt));
+  room = omega (arith, g.in_ok-signs.ensures.capacity);
 }
