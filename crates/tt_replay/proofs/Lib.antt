@@ -1,6 +1,7 @@
 pub mod Steps
 pub mod Compared
 pub mod Streams
+pub mod Events
 pub mod Plays
-pub mod Reports
 pub mod Answering
+pub mod Reports

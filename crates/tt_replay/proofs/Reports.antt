@@ -1,41 +1,50 @@
 -- A report is its parts, one behind the other.
-use Rattle.std.proofs.Common.{◌≡◌, ℕ, List, [], ◌++◌, ap, ap₂, ◌∙◌}
+use Rattle.std.proofs.Common.{◌≡◌, ℕ, suc, ◌+◌, List, [], ◌++◌, sym, ap, ap₂, ◌∙◌, append_assoc, arith}
+use Rattle.std.specs.List.{flat_map}
 use Rattle.tt_edge.specs.declared.event.Event.{Event}
 use Rattle.tt_edge.specs.Event.{opens}
-use Rattle.tt_world.specs.declared.setup.Setup.{Setup}
+use Rattle.tt_world.specs.declared.command.Entry.{Entry}
 use Rattle.tt_world.specs.World.{WorldState}
-use Rattle.tt_hub.specs.Stepped.{table_of}
-use Rattle.tt_hub.specs.Hub.{world_of}
-use Rattle.tt_log.specs.Contents.{Contents}
-use Rattle.tt_replay.specs.Begun.{world_from}
-use Rattle.tt_replay.specs.Played.{Played, played}
-use Rattle.tt_replay.specs.Report.{conn_lines, server_line, holding_lines, refused_line, report_of, report}
+use Rattle.tt_log.specs.History.{table_of, journal_of, world_behind}
+use Rattle.tt_log.specs.Origin.{Origin}
+use Rattle.tt_replay.specs.Played.{Played}
+use Rattle.tt_replay.specs.Report.{conn_line, conn_lines, entry_line, server_line, holding_lines, refused_line, report_of}
 
--- the lines of the connections, of the server, of its world and of what was refused are written behind nothing
-pub report-joined : (start first_start then_start : WorldState) (setup first then : Setup) (p : Played) (events later : List Event)
-    (world : WorldState) (refused : ℕ) (none conns server holdings whole : List ℕ)
-    → none ≡ [] → conns ≡ none ++ conn_lines first events (opens events) → server ≡ conns
-    ++ server_line (table_of then later) (world_of then_start then later)
-    → holdings ≡ server ++ holding_lines world → whole ≡ holdings ++ refused_line refused
-    → first_start ≡ start → then_start ≡ first_start → first ≡ setup → then ≡ first → events ≡ p.events → later ≡ events
-    → world ≡ world_of then_start then later → refused ≡ p.refused
-    → whole ≡ report_of start setup p
-report-joined start first_start then_start setup first then p events later world refused none conns server holdings whole begins told
-    stands holds counts starts start_stays same goes_on of_p kept is as_many =
-    let line : WorldState → Setup → List Event → List ℕ = λ from made es. server_line (table_of made es) (world_of from made es) in
-    let lines : Setup → List Event → List ℕ = λ made es. conn_lines made es (opens es) in
-    let first_part : conns ≡ lines setup p.events = told ∙ ap (λ (xs : List ℕ). xs ++ lines first events) begins ∙ ap₂ lines same of_p in
-    let own : then_start ≡ start = start_stays ∙ starts in
-    let server_part : line then_start then later ≡ line start setup p.events =
-    ap (λ (w : WorldState). line w then later) own ∙ ap₂ (line start) (goes_on ∙ same) (kept ∙ of_p) in
-    let second_part : server ≡ lines setup p.events ++ line start setup p.events =
-    stands ∙ ap₂ (λ (xs ys : List ℕ). xs ++ ys) first_part server_part in
-    let same_world : world ≡ world_of start setup p.events =
-    is ∙ ap (λ (w : WorldState). world_of w then later) own ∙ ap₂ (world_of start) (goes_on ∙ same) (kept ∙ of_p) in
-    let third_part = holds ∙ ap₂ (λ (xs : List ℕ) (w : WorldState). xs ++ holding_lines w) second_part same_world in
-    counts ∙ ap₂ (λ (xs : List ℕ) (k : ℕ). xs ++ refused_line k) third_part as_many
+-- the lines of the connections, of the journal, of the server, of its world and of what was refused are written behind nothing
+pub report-joined : (o first then : Origin) (p : Played) (events later : List Event) (connections : ℕ) (entries : List Entry)
+    (world : WorldState) (refused : ℕ) (none conns journal server holdings whole : List ℕ)
+    → none ≡ [] → conns ≡ none ++ conn_lines first events connections → journal ≡ conns ++ flat_map entry_line entries
+    → server ≡ journal ++ server_line (table_of then later) (world_behind then later) → holdings ≡ server ++ holding_lines world
+    → whole ≡ holdings ++ refused_line refused
+    → first ≡ o → then ≡ first → events ≡ p.events → later ≡ events → connections ≡ opens p.events → entries ≡ journal_of then later
+    → world ≡ world_behind then later → refused ≡ p.refused
+    → whole ≡ report_of o p
+report-joined o first then p events later connections entries world refused none conns journal server holdings whole begins told stamped
+    stands holds counts same goes_on of_p kept count entries_are world_is as_many =
+    let own : then ≡ o = goes_on ∙ same in
+    let now : later ≡ p.events = kept ∙ of_p in
+    let A : List ℕ = conn_lines o p.events (opens p.events) in
+    let B : List ℕ = flat_map entry_line (journal_of o p.events) in
+    let C : List ℕ = server_line (table_of o p.events) (world_behind o p.events) in
+    let a : conns ≡ A =
+    told ∙ ap (λ (xs : List ℕ). xs ++ conn_lines first events connections) begins
+    ∙ ap₂ (λ (g : Origin) (es : List Event). conn_lines g es connections) same of_p ∙ ap (conn_lines o p.events) count in
+    let the_journal : entries ≡ journal_of o p.events = entries_are ∙ ap₂ journal_of own now in
+    let b : journal ≡ A ++ B = stamped ∙ ap₂ (λ (xs : List ℕ) (es : List Entry). xs ++ flat_map entry_line es) a the_journal in
+    let the_line : server_line (table_of then later) (world_behind then later) ≡ C =
+    ap₂ (λ (g : Origin) (es : List Event). server_line (table_of g es) (world_behind g es)) own now in
+    let c : server ≡ A ++ B ++ C = stands ∙ ap₂ (λ (xs ys : List ℕ). xs ++ ys) b the_line in
+    let the_world : world ≡ world_behind o p.events = world_is ∙ ap₂ world_behind own now in
+    let d : holdings ≡ A ++ B ++ C ++ holding_lines (world_behind o p.events) =
+    holds ∙ ap₂ (λ (xs : List ℕ) (w : WorldState). xs ++ holding_lines w) c the_world in
+    counts ∙ ap₂ (λ (xs : List ℕ) (k : ℕ). xs ++ refused_line k) d as_many
 
--- the report of a game from the start of its script is the script's
-pub report_from : (script : Contents) {start : WorldState} {text : List ℕ} → start ≡ world_from script.setup script.saved
-    → text ≡ report_of start script.setup (played script.setup script.lines) → text ≡ report script
-report_from script begins is = is ∙ ap (λ (w : WorldState). report_of w script.setup (played script.setup script.lines)) begins
+-- one connection's line more
+pub next_line : (o g : Origin) (es fs : List Event) (n next : ℕ) (start text after : List ℕ) → text ≡ start ++ conn_lines o es n
+    → after ≡ text ++ conn_line g fs next → g ≡ o → fs ≡ es → next ≡ n + 1 → after ≡ start ++ conn_lines o es next
+next_line o g es fs n next start text after so_far more same kept count =
+    let one : next ≡ suc n = omega (arith, count) in
+    let line : conn_line g fs next ≡ conn_line o es (suc n) =
+    ap₂ (λ (a : Origin) (xs : List Event). conn_line a xs next) same kept ∙ ap (conn_line o es) one in
+    more ∙ ap₂ (λ (xs ys : List ℕ). xs ++ ys) so_far line ∙ append_assoc start (conn_lines o es n) (conn_line o es (suc n))
+    ∙ ap (λ (m : ℕ). start ++ conn_lines o es m) (sym one)

@@ -1,13 +1,14 @@
 -- Scripts that are played, step by step.
 use Rattle.std.proofs.Common.{◌≡◌, ℕ, ◌+◌, ◌-◌, ◌≤◌, List, [], ◌∷◌, ◌++◌, length, take, drop, map, true, refl, sym, ap, ap₂, subst, ◌∙◌}
 use Rattle.std.proofs.Common.{arith, ◌<◌, ◌↔◌, inl, inr, Result, Ok, Err}
-use Rattle.std.specs.Prelude.{sum_by, fold}
+use Rattle.std.specs.Prelude.{false, fold}
 use Rattle.std.proofs.lemmas.List.{take-append-drop, take-map, length-map, length-append, append-nil}
-use Rattle.std.proofs.lemmas.List.Sums.{sum_by-append, sum_by-cons, fold-append}
+use Rattle.std.proofs.lemmas.List.Sums.{fold-append}
 use Rattle.std.proofs.lemmas.Grind.{flat_map-append}
 use Rattle.std.proofs.Math.Seq.{take-append_seam}
 use Rattle.tt_lines.specs.Lines.{lines_of, IsFirstBad}
-use Rattle.tt_log.specs.Steps.{step_text, opens}
+use Rattle.tt_log.specs.Origin.{Origin}
+use Rattle.tt_log.specs.Steps.{step_text}
 use Rattle.tt_log.specs.Contents.{Contents}
 use Rattle.tt_log.specs.Script.{Spells, IsScriptText, setup_of, saved_in, line_in, lines_in, contents_of}
 use Rattle.tt_log.specs.Standing.{Standing}
@@ -26,44 +27,27 @@ use Rattle.tt_map.proofs.MapLaws.{map_is_read}
 use Rattle.tt_log.specs.Saved.{IsSaved}
 use Rattle.tt_log.specs.Printing.{IsScript}
 use Rattle.tt_log.proofs.PrintLaws.{told_fits, spelled_script}
-use Rattle.tt_replay.specs.Begun.{world_or, world_from, MayStart}
+use Rattle.tt_replay.specs.Begun.{world_or, world_from, origin_from, origin_in, MayStart}
 use Rattle.tt_replay.specs.declared.play.Play.{Play}
-use Rattle.tt_replay.specs.Script.{is_built, ticks_in, IsBuilt, IsPlayed, IsPlayedWith, MayFollow}
+use Rattle.tt_replay.specs.Script.{needs_client, IsBuilt, IsPlayed, IsPlayedWith}
 use Rattle.tt_replay.specs.Played.{nothing, done, played}
 use Rattle.tt_replay.specs.Playing.{IsAt, PlayedTo}
 
 -- ---- steps that are played
 
-pub sum_snoc : (f : Step → ℕ) (steps : List Step) (step : Step) → sum_by f (steps ++ step ∷ []) ≡ sum_by f steps + f step
-sum_snoc f steps step = omega (arith, sum_by-append f steps (step ∷ []), sum_by-cons f step [])
-
 -- the first of them are played
 built_front : (steps more : List Step) → IsBuilt (steps ++ more) → IsBuilt steps
-built_front steps more built = record {
-  each = all_front (λ step. is_built step ≡ true) steps more built.each;
-  openings = omega (arith, sum_by-append opens steps more, built.openings);
-  ticks = omega (arith, sum_by-append ticks_in steps more, built.ticks);
-}
+built_front steps more built = all_front (λ step. needs_client step ≡ false) steps more built
 
 built_take : (n : ℕ) (steps : List Step) → IsBuilt steps → IsBuilt (take n steps)
 built_take n steps built = built_front (take n steps) (drop n steps) (subst IsBuilt (sym (take-append-drop n steps)) built)
 
 -- one step more
-pub built_snoc : (steps : List Step) (step : Step) (openings ticks : ℕ) → IsBuilt steps → 1 ≡ openings + sum_by opens steps
-    → 100 ≡ ticks + sum_by ticks_in steps → MayFollow openings ticks step → IsBuilt (steps ++ step ∷ [])
-built_snoc steps step openings ticks built few early may = record {
-  each = all_snoc (λ s. is_built s ≡ true) steps step built.each may.built;
-  openings = omega (arith, sum_snoc opens steps step, few, may.openings_left);
-  ticks = omega (arith, sum_snoc ticks_in steps step, early, may.ticks_left);
-}
+pub built_snoc : (steps : List Step) (step : Step) → IsBuilt steps → needs_client step ≡ false → IsBuilt (steps ++ step ∷ [])
+built_snoc steps step built may = all_snoc (λ s. needs_client s ≡ false) steps step built may
 
-pub built_last : (steps : List Step) (step : Step) (openings ticks : ℕ) → IsBuilt (steps ++ step ∷ []) → 1 ≡ openings + sum_by opens steps
-    → 100 ≡ ticks + sum_by ticks_in steps → MayFollow openings ticks step
-built_last steps step openings ticks built few early = record {
-  built = all_last (λ s. is_built s ≡ true) steps step built.each;
-  openings_left = omega (arith, sum_snoc opens steps step, few, built.openings);
-  ticks_left = omega (arith, sum_snoc ticks_in steps step, early, built.ticks);
-}
+pub built_last : (steps : List Step) (step : Step) → IsBuilt (steps ++ step ∷ []) → needs_client step ≡ false
+built_last steps step built = all_last (λ s. needs_client s ≡ false) steps step built
 
 -- ---- the lines that were read
 
@@ -121,11 +105,10 @@ first_unread r bytes steps line at built first here = record {
 }
 
 -- a line that is not played in its place
-pub first_unplayed : (r s : Standing) (bytes : List ℕ) (steps : List Step) (step : Step) (openings ticks line : ℕ)
-    → reader.IsAt r bytes steps → reader.IsAt s bytes (steps ++ step ∷ []) → IsBuilt steps
-    → 1 ≡ openings + sum_by opens steps → 100 ≡ ticks + sum_by ticks_in steps → (MayFollow openings ticks step → ⊥)
-    → line ≡ length steps + 1 → IsFirstBad IsPlayed (lines_of bytes) line
-first_unplayed r s bytes steps step openings ticks line at next built few early never here =
+pub first_unplayed : (r s : Standing) (bytes : List ℕ) (steps : List Step) (step : Step) (line : ℕ) → reader.IsAt r bytes steps
+    → reader.IsAt s bytes (steps ++ step ∷ []) → IsBuilt steps → (needs_client step ≡ false → ⊥) → line ≡ length steps + 1
+    → IsFirstBad IsPlayed (lines_of bytes) line
+first_unplayed r s bytes steps step line at next built never here =
     let long : line ≡ length (steps ++ step ∷ []) = omega (arith, here, length-append steps (step ∷ [])) in
     let texts = front_texts s bytes (steps ++ step ∷ []) line next long in
     record {
@@ -136,7 +119,7 @@ first_unplayed r s bytes steps step openings ticks line at next built few early 
           let spelled = is.1.spelled in
           let same : spelled.steps ≡ steps ++ step ∷ [] =
           same_steps spelled.steps (steps ++ step ∷ []) spelled.is.each next.is.each (sym spelled.text ∙ texts) in
-          never (built_last steps step openings ticks (subst IsBuilt same is.1.built) few early);
+          never (built_last steps step (subst IsBuilt same is.1.built));
     }
 
 -- the first lines of a script that is played are one
@@ -178,27 +161,22 @@ read_built setup saved r bytes steps is at =
 -- and so the last line that was read may stand there
 pub read_last : (setup : Setup) (saved : List ℕ) (r : Standing) (bytes : List ℕ) (steps : List Step) (step : Step)
     → IsPlayedWith setup saved (lines_of bytes) → reader.IsAt r bytes (steps ++ step ∷ [])
-    → (is_built step ≡ true) × (sum_by opens steps + opens step ≤ 1) × (sum_by ticks_in steps + ticks_in step ≤ 100)
-read_last setup saved r bytes steps step is at =
-    let built = read_built setup saved r bytes (steps ++ step ∷ []) is at in (
-      all_last (λ s. is_built s ≡ true) steps step built.each,
-      omega (arith, sum_snoc opens steps step, built.openings),
-      omega (arith, sum_snoc ticks_in steps step, built.ticks),
-    )
+    → needs_client step ≡ false
+read_last setup saved r bytes steps step is at = built_last steps step (read_built setup saved r bytes (steps ++ step ∷ []) is at)
 
 -- one line more was done
-pub played_snoc : (setup : Setup) (steps : List Step) (step : Step) → played setup (lines_in (steps ++ step ∷ [])) ≡ fold (done setup)
-    (played setup (lines_in steps)) (line_in step)
-played_snoc setup steps step =
+pub played_snoc : (o : Origin) (steps : List Step) (step : Step) → played o (lines_in (steps ++ step ∷ [])) ≡ fold (done o)
+    (played o (lines_in steps)) (line_in step)
+played_snoc o steps step =
     let lines : lines_in (steps ++ step ∷ []) ≡ lines_in steps ++ line_in step =
     flat_map-append line_in steps (step ∷ []) ∙ ap (λ (t : List Line1). lines_in steps ++ t) (append-nil (line_in step)) in
-    ap (played setup) lines ∙ fold-append (done setup) nothing (lines_in steps) (line_in step)
+    ap (played o) lines ∙ fold-append (done o) nothing (lines_in steps) (line_in step)
 
 -- all of it was done
 pub played_to : (setup : Setup) (saved : List ℕ) (r : Standing) (bytes : List ℕ) (steps : List Step) (play : Play)
     → IsPlayedWith setup saved (lines_of bytes) → reader.IsAt r bytes steps → r.rest ≡ []
-    → play.hub.start ≡ world_from setup saved → IsAt setup play (played setup (lines_in steps)) → PlayedTo (lines_of bytes) play
-played_to setup saved r bytes steps play is at none begins done_so =
+    → IsAt (origin_from setup saved) play (played (origin_from setup saved) (lines_in steps)) → PlayedTo (lines_of bytes) play
+played_to setup saved r bytes steps play is at none done_so =
     let spelled = all_read r bytes steps at none in
     let same = one_of is.script (contents_of steps) (lines_of bytes) is.plays.spelled spelled in
     let made : setup ≡ setup_of steps = is.made ∙ ap (λ (c : Contents). c.setup) same in
@@ -206,8 +184,7 @@ played_to setup saved r bytes steps play is at none begins done_so =
     record {
       script = contents_of steps;
       plays = record { spelled = spelled; built = read_built setup saved r bytes steps is at };
-      start = begins ∙ ap₂ world_from made told;
-      at = subst (λ (s : Setup). IsAt s play (played s (lines_in steps))) made done_so;
+      at = subst (λ (o : Origin). IsAt o play (played o (lines_in steps))) (ap₂ origin_from made told) done_so;
     }
 
 -- ---- the start

@@ -1,26 +1,50 @@
 -- What a script means: its lines, done in order.
-use Rattle.std.specs.Prelude.{ℕ, ◌+◌, List, [], ◌∷◌, ◌++◌, length, map, drop, replicate, fold, if◌then◌else◌}
+use Rattle.std.specs.Prelude.{ℕ, ◌+◌, Bool, false, not, ◌||◌, ◌==◌, List, [], ◌∷◌, ◌++◌, length, map, drop, replicate, fold}
+use Rattle.std.specs.Prelude.{if◌then◌else◌}
 use Rattle.tt_frame.specs.Packet.{Packet}
 use Rattle.tt_frame.specs.Stream.{End, rest_of, bad_size}
 use Rattle.tt_frame.specs.StreamReading.{reading}
-use Rattle.tt_edge.specs.declared.event.Door.TheVariants.{Main}
+use Rattle.tt_edge.specs.declared.event.Door.{Door}
+use Rattle.tt_edge.specs.declared.event.Door.TheVariants as door
 use Rattle.tt_edge.specs.declared.event.Peer.{Peer}
 use Rattle.tt_edge.specs.declared.event.Event.{Event}
 use Rattle.tt_edge.specs.declared.event.Event.TheVariants as event
-use Rattle.tt_world.specs.declared.setup.Setup.{Setup}
-use Rattle.tt_hub.specs.Hub.{is_live}
+use Rattle.tt_log.specs.Origin.{Origin}
+use Rattle.tt_log.specs.History.{table_of}
+use Rattle.tt_log.specs.Table as table
 use Rattle.tt_log.specs.declared.script.line.Line1.{Line1}
-use Rattle.tt_log.specs.declared.script.line.Line1.TheVariants.{Open, Bytes, Tick}
+use Rattle.tt_log.specs.declared.script.line.Line1.TheVariants.{Open, Side, Bytes, Shut, Tick, Stop}
 
--- the events so far, all bytes that were fed to the one connection, and how many lines were refused
+-- the events so far, all bytes that were fed to each connection, and how many lines were refused
 pub record Played : Type 0 where
   pub events : List Event
-  pub fed : List ℕ
+  pub fed : ℕ → List ℕ
   pub refused : ℕ
 
 -- nothing was done yet
 abbrev pub nothing : Played
-nothing = record { events = []; fed = []; refused = 0 }
+nothing = record { events = []; fed = λ conn. []; refused = 0 }
+
+-- ---- how the game stands behind some events
+
+abbrev pub is_live : Origin → List Event → ℕ → Bool
+is_live o events conn = table.is_live (table_of o events) conn
+
+abbrev pub is_over : Origin → List Event → Bool
+is_over o events = (table_of o events).over
+
+-- more events, in order, each as long as this holds before it
+abbrev pub as_long_as : (List Event → Bool) → List Event → List Event → List Event
+as_long_as goes_on events [] = events
+as_long_as goes_on events (e ∷ more) = if goes_on events then as_long_as goes_on (events ++ e ∷ []) more else events
+
+-- more events of a connection, until it has ended
+abbrev pub until_ended : Origin → ℕ → List Event → List Event → List Event
+until_ended o conn events more = as_long_as (λ es. is_live o es conn) events more
+
+-- more events, until the game is over
+abbrev pub until_over : Origin → List Event → List Event → List Event
+until_over o events more = as_long_as (λ es. not (is_over o es)) events more
 
 -- ---- the stream of a connection
 
@@ -45,30 +69,65 @@ stream_events conn bytes = let read = reading reader_limit bytes in map (packet_
 abbrev pub added : ℕ → List ℕ → List ℕ → List Event
 added conn fed piece = drop (length (stream_events conn fed)) (stream_events conn (fed ++ piece))
 
--- more events, in order, until the connection has ended
-abbrev pub until_ended : Setup → ℕ → List Event → List Event → List Event
-until_ended setup conn events [] = events
-until_ended setup conn events (e ∷ more) = if is_live setup events conn then until_ended setup conn (events ++ e ∷ []) more else events
+-- ---- which lines are refused
 
--- ---- the lines
+-- a connection is not live, or the game is over
+abbrev pub is_gone : Origin → List Event → ℕ → Bool
+is_gone o events conn = is_over o events || not (is_live o events conn)
+
+-- a line whose opening, events or piece find the game over, or that names a connection that is not live
+abbrev pub is_refused : Origin → List Event → Line1 → Bool
+is_refused o events Open = is_over o events
+is_refused o events Side = is_over o events
+is_refused o events (Bytes conn piece) = is_gone o events conn
+is_refused o events (Shut conn) = is_gone o events conn
+is_refused o events (Tick n) = is_over o events
+is_refused o events Stop = is_over o events
+is_refused o events line = false
+
+-- ---- what the other lines do
+
+abbrev pub with_event : Event → Played → Played
+with_event e p = record p { events = p.events ++ e ∷ [] }
 
 -- every opening of a script comes from nowhere
 abbrev pub nobody : Peer
 nobody = record { host = 0 ∷ 0 ∷ 0 ∷ 0 ∷ []; port = 0 }
 
-abbrev pub with_piece : Setup → ℕ → List ℕ → Played → Played
-with_piece setup conn piece p = record p { events = until_ended setup conn p.events (added conn p.fed piece); fed = p.fed ++ piece }
+abbrev pub opened : Door → Played → Played
+opened at p = with_event (event.Open at nobody) p
+
+-- a piece more was fed to a connection
+abbrev pub fed_more : ℕ → List ℕ → (ℕ → List ℕ) → ℕ → List ℕ
+fed_more conn piece fed other = if other == conn then fed other ++ piece else fed other
+
+-- the piece's packets, joined with what came before it; what stands behind the connection's end is lost
+abbrev pub with_piece : Origin → ℕ → List ℕ → Played → Played
+with_piece o conn piece p =
+    record p { events = until_ended o conn p.events (added conn (p.fed conn) piece); fed = fed_more conn piece p.fed }
+
+-- a game that is over runs no tick more
+abbrev pub with_ticks : Origin → ℕ → Played → Played
+with_ticks o n p = record p { events = until_over o p.events (replicate n event.Tick) }
+
+-- An expected line does nothing, and the lines of attached clients are in no script that is played.
+abbrev pub did : Origin → Played → Line1 → Played
+did o p Open = opened door.Main p
+did o p Side = opened door.Side p
+did o p (Bytes conn piece) = with_piece o conn piece p
+did o p (Shut conn) = with_event (event.Shut conn) p
+did o p (Tick n) = with_ticks o n p
+did o p Stop = with_event event.Stop p
+did o p line = p
+
+-- ---- the lines
 
 abbrev pub one_refused : Played → Played
 one_refused p = record p { refused = p.refused + 1 }
 
--- A line of a game with this setup. A piece of a connection that isn't live is refused, and changes nothing else. An
--- expected line does nothing, and the other lines are in no script that is played.
-abbrev pub done : Setup → Played → Line1 → Played
-done setup p Open = record p { events = p.events ++ event.Open Main nobody ∷ [] }
-done setup p (Bytes conn piece) = if is_live setup p.events conn then with_piece setup conn piece p else one_refused p
-done setup p (Tick n) = record p { events = p.events ++ replicate n event.Tick }
-done setup p line = p
+-- a line of a game that is made from this; one that is refused is counted, and changes nothing else
+abbrev pub done : Origin → Played → Line1 → Played
+done o p line = if is_refused o p.events line then one_refused p else did o p line
 
-abbrev pub played : Setup → List Line1 → Played
-played setup lines = fold (done setup) nothing lines
+abbrev pub played : Origin → List Line1 → Played
+played o lines = fold (done o) nothing lines

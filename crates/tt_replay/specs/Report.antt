@@ -5,18 +5,24 @@ use Rattle.std.specs.List.{flat_map}
 use Rattle.std.specs.Fmt.{decimal, signed_decimal}
 use Rattle.hex.specs.Hex.{encode_lower}
 use Rattle.tt_lines.specs.Digits.{bytes_text}
+use Rattle.tt_edge.specs.declared.event.Door.{Door}
+use Rattle.tt_edge.specs.declared.event.Door.TheVariants.{Main, Side}
 use Rattle.tt_edge.specs.declared.event.Event.{Event}
 use Rattle.tt_edge.specs.Event.{opens}
-use Rattle.tt_world.specs.declared.setup.Setup.{Setup}
-use Rattle.tt_hub.specs.declared.table.Table.{Table}
+use Rattle.tt_world.specs.declared.command.Command.{Command}
+use Rattle.tt_world.specs.declared.command.Entry.{Entry}
 use Rattle.tt_world.specs.declared.company.Company.{Company}
 use Rattle.tt_world.specs.declared.sign.Sign.{Sign}
 use Rattle.tt_world.specs.World.{WorldState, company_of}
-use Rattle.tt_hub.specs.Stepped.{table_of}
-use Rattle.tt_hub.specs.Hub.{world_of, is_live, sent}
+use Rattle.tt_rules.specs.Commands.{number_of}
 use Rattle.tt_log.specs.Contents.{Contents}
-use Rattle.tt_replay.specs.Begun.{world_from}
-use Rattle.tt_replay.specs.Played.{Played, played}
+use Rattle.tt_log.specs.Doors.{door_of}
+use Rattle.tt_log.specs.History.{table_of, journal_of, world_behind}
+use Rattle.tt_log.specs.Origin.{Origin}
+use Rattle.tt_log.specs.Table.{Table}
+use Rattle.tt_log.specs.Told.{sent}
+use Rattle.tt_replay.specs.Begun.{origin_in}
+use Rattle.tt_replay.specs.Played.{Played, is_live, played}
 
 -- ---- a connection
 
@@ -24,16 +30,40 @@ abbrev pub life_text : Bool → List ℕ
 life_text true = codes "live"
 life_text false = codes "ended"
 
+-- the main door is the game's, the side door the admins'
+abbrev pub door_text : Door → List ℕ
+door_text Main = codes "game"
+door_text Side = codes "admin"
+
+-- the door of a connection that was opened
+abbrev pub place_text : Option Door → List ℕ
+place_text None = []
+place_text (Some door) = door_text door
+
 -- a connection's line: its number, its door, whether it is live, and all that it was told
-abbrev pub conn_line : Setup → List Event → ℕ → List ℕ
-conn_line setup events conn =
-    codes "conn " ++ decimal conn ++ codes " game " ++ life_text (is_live setup events conn) ++ codes " "
-    ++ bytes_text (sent setup events conn) ++ codes "\n"
+abbrev pub conn_line : Origin → List Event → ℕ → List ℕ
+conn_line o events conn =
+    codes "conn " ++ decimal conn ++ codes " " ++ place_text (door_of events conn) ++ codes " " ++ life_text (is_live o events conn)
+    ++ codes " " ++ bytes_text (sent o events conn) ++ codes "\n"
 
 -- the lines of the connections up to a number
-abbrev pub conn_lines : Setup → List Event → ℕ → List ℕ
-conn_lines setup events zero = []
-conn_lines setup events (suc conn) = conn_lines setup events conn ++ conn_line setup events (suc conn)
+abbrev pub conn_lines : Origin → List Event → ℕ → List ℕ
+conn_lines o events zero = []
+conn_lines o events (suc conn) = conn_lines o events conn ++ conn_line o events (suc conn)
+
+-- ---- the journal
+
+-- what a command says: its code, its number, the company that it names, and its text
+abbrev pub command_text : Command → List ℕ
+command_text c =
+    decimal (number_of c.code) ++ codes " " ++ decimal c.number ++ codes " " ++ decimal c.to ++ codes " " ++ bytes_text c.text
+
+-- what it was stamped with: its frame, who sent it, and for which company
+abbrev pub stamp_text : Entry → List ℕ
+stamp_text e = decimal e.frame ++ codes " " ++ decimal e.sender ++ codes " " ++ decimal e.company
+
+abbrev pub entry_line : Entry → List ℕ
+entry_line e = codes "entry " ++ stamp_text e ++ codes " " ++ command_text e.command ++ codes "\n"
 
 -- ---- the server
 
@@ -94,14 +124,14 @@ abbrev pub refused_line : ℕ → List ℕ
 refused_line zero = []
 refused_line (suc k) = codes "refused " ++ decimal (suc k) ++ codes "\n"
 
--- the report of a game that started from this world: the connections, the server and its world, and how many lines were
--- refused
-abbrev pub report_of : WorldState → Setup → Played → List ℕ
-report_of start setup p =
-    let world = world_of start setup p.events in
-    conn_lines setup p.events (opens p.events) ++ server_line (table_of setup p.events) world ++ holding_lines world
-    ++ refused_line p.refused
+-- the report of a game that was made from this: the connections, the journal, the server and its world, and how many lines
+-- were refused
+abbrev pub report_of : Origin → Played → List ℕ
+report_of o p =
+    let world = world_behind o p.events in
+    conn_lines o p.events (opens p.events) ++ flat_map entry_line (journal_of o p.events)
+    ++ server_line (table_of o p.events) world ++ holding_lines world ++ refused_line p.refused
 
 -- the report of a script
 abbrev pub report : Contents → List ℕ
-report script = report_of (world_from script.setup script.saved) script.setup (played script.setup script.lines)
+report script = report_of (origin_in script) (played (origin_in script) script.lines)

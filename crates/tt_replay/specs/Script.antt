@@ -1,52 +1,34 @@
 -- Which scripts are played.
-use Rattle.std.specs.Prelude.{◌≡◌, ℕ, ◌≤◌, List, Bool, true, false, sum_by}
+use Rattle.std.specs.Prelude.{◌≡◌, ℕ, List, Bool, true, false}
 use Rattle.std.specs.List.{AllByRecursion}
 use Rattle.tt_log.specs.Contents.{Contents}
-use Rattle.tt_log.specs.Steps.{opens}
 use Rattle.tt_log.specs.Script.{Spells}
 use Rattle.tt_log.specs.declared.script.line.Line1.{Line1}
-use Rattle.tt_log.specs.declared.script.line.Line1.TheVariants.{Open, Bytes, Tick, Expect}
-use Rattle.tt_log.specs.declared.script.setting.Setting.{Setting}
-use Rattle.tt_log.specs.declared.script.setting.Setting.TheVariants.{Seed}
+use Rattle.tt_log.specs.declared.script.line.Line1.TheVariants.{Join, Up, Down, Run, Pump, Do, Forge}
 use Rattle.tt_log.specs.declared.script.step.Step.{Step}
 use Rattle.tt_log.specs.declared.script.step.Step.TheVariants.{Set, Saved, Line}
 use Rattle.tt_world.specs.declared.setup.Setup.{Setup}
 
--- the settings that are played: the seed
-abbrev pub is_setting_built : Setting → Bool
-is_setting_built (Seed seed) = true
-is_setting_built setting = false
+-- a line of an attached client
+abbrev pub is_of_client : Line1 → Bool
+is_of_client (Join name company password own) = true
+is_of_client (Up conn n) = true
+is_of_client (Down conn n) = true
+is_of_client (Run conn n) = true
+is_of_client (Pump conn) = true
+is_of_client (Do conn order) = true
+is_of_client (Forge conn bytes) = true
+is_of_client line = false
 
--- the lines that are played: openings at the main door, pieces, ticks, and expected lines
-abbrev pub is_line_built : Line1 → Bool
-is_line_built Open = true
-is_line_built (Bytes conn piece) = true
-is_line_built (Tick n) = true
-is_line_built (Expect line) = true
-is_line_built line = false
+-- every setting is played, and a game may start from any map
+abbrev pub needs_client : Step → Bool
+needs_client (Set setting) = false
+needs_client (Saved map) = false
+needs_client (Line line) = is_of_client line
 
--- what is played of a script's lines, settings included; a game may start from any map
-abbrev pub is_built : Step → Bool
-is_built (Set setting) = is_setting_built setting
-is_built (Saved map) = true
-is_built (Line line) = is_line_built line
-
--- how many ticks a line asks for
-abbrev pub ticks_of : Line1 → ℕ
-ticks_of (Tick n) = n
-ticks_of line = 0
-
--- a setting and a map ask for none
-abbrev pub ticks_in : Step → ℕ
-ticks_in (Set setting) = 0
-ticks_in (Saved map) = 0
-ticks_in (Line line) = ticks_of line
-
--- the lines of a script that is played: each is, and there are at most one opening and at most 100 ticks in sum
-pub record IsBuilt (steps : List Step) : Type 0 where
-  pub each : AllByRecursion (λ step. is_built step ≡ true) steps
-  pub openings : sum_by opens steps ≤ 1
-  pub ticks : sum_by ticks_in steps ≤ 100
+-- a script that is played has no attached clients
+abbrev pub IsBuilt : List Step → Type 0
+IsBuilt steps = AllByRecursion (λ step. needs_client step ≡ false) steps
 
 -- the lines of an input spell the script, and it is played
 pub record Plays (script : Contents) (texts : List (List ℕ)) : Type 0 where
@@ -63,9 +45,3 @@ pub record IsPlayedWith (setup : Setup) (saved : List ℕ) (texts : List (List �
   pub plays : Plays script texts
   pub made : setup ≡ script.setup
   pub told : saved ≡ script.saved
-
--- what may stand behind lines that leave so many openings and ticks
-pub record MayFollow (openings ticks : ℕ) (step : Step) : Type 0 where
-  pub built : is_built step ≡ true
-  pub openings_left : opens step ≤ openings
-  pub ticks_left : ticks_in step ≤ ticks

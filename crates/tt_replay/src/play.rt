@@ -1,27 +1,29 @@
 //! The lines of a script, done on a hub in order.
 //!
-//! A play keeps the hub, the bytes of the one connection that are no whole packet yet, and how many lines were refused.
-ghost use Rattle.std.specs.Prelude.{◌≡◌, ◌+◌, ◌<◌, ◌≤◌, [], ◌∷◌, ◌++◌, true, false, length, drop, Ok, IfOk, OnOk, OnErr, replicate, fold};
+//! A play keeps the hub, of each connection its door and the bytes that are no whole packet yet, and how many lines were
+//! refused. Whether a line is refused is asked before it is done (`is_refused`), so the hub takes all that is put to it.
+ghost use Rattle.std.specs.Prelude.{◌≡◌, ◌+◌, ◌<◌, ◌≤◌, ℕ, [], ◌∷◌, ◌++◌, true, false, length, drop, fold, replicate};
+ghost use Rattle.std.specs.Prelude.{Ok, IfOk, OnOk, OnErr};
 ghost use Rattle.tt_frame.specs.Packet.{IsBytes};
 ghost use Rattle.tt_frame.specs.Stream.{rest_of};
 ghost use Rattle.tt_frame.specs.StreamReading.{reading};
 ghost use Rattle.tt_edge.specs.Event.{opens};
-ghost use Rattle.tt_hub.specs.Table.{is_taken, is_there};
-ghost use Rattle.tt_hub.specs.Stepped.{table_of};
-ghost use Rattle.tt_hub.specs.Hub.{is_live};
+ghost use Rattle.tt_hub.specs.Hub.{origin, taken};
 ghost use Rattle.tt_lines.specs.Lines.{lines_of};
-ghost use Rattle.tt_log.specs.Lines.{openings_of};
-ghost use Rattle.tt_log.specs.Script.{line_in};
-ghost use Rattle.tt_log.specs.Steps.{opens as step_opens};
-ghost use Rattle.tt_replay.specs.Script.{is_built, is_line_built, ticks_of, ticks_in, IsPlayedWith};
-ghost use Rattle.tt_world.specs.Setup.{Fits};
-ghost use Rattle.tt_map.specs.Reading.{map_in};
+ghost use Rattle.tt_log.specs.Events.{takes};
+ghost use Rattle.tt_log.specs.History.{table_of};
+ghost use Rattle.tt_log.specs.Origin.{Origin};
 ghost use Rattle.tt_log.specs.Saved.{IsSaved};
-ghost use Rattle.tt_replay.specs.Begun.{world_from, MayStart};
-ghost use Rattle.tt_replay.specs.Played.{Played, nothing, reader_limit, stream_events, until_ended, with_piece, done};
+ghost use Rattle.tt_log.specs.Script.{line_in};
+ghost use Rattle.tt_map.specs.Reading.{map_in};
+ghost use Rattle.tt_world.specs.Setup.{Fits};
+ghost use Rattle.tt_replay.specs.Begun.{origin_from, world_from, MayStart};
+ghost use Rattle.tt_replay.specs.Played.{Played, nothing, reader_limit, is_live, is_over, stream_events, until_ended, until_over};
+ghost use Rattle.tt_replay.specs.Played.{is_refused, opened, one_refused, with_event, with_piece, with_ticks, did, done};
 ghost use Rattle.tt_replay.specs.Playing.{IsAt, PlayedTo};
+ghost use Rattle.tt_replay.specs.Script.{needs_client, is_of_client, IsPlayedWith};
 
-use crate::script::Start;
+use crate::script::{Start, next_number};
 use std::alloc::Global;
 use tt_edge::{Body, Core, CoreErr, Door, Event, Peer};
 use tt_frame::{Next, OutOfMemory, first_of};
@@ -39,13 +41,22 @@ const NOBODY: Peer = Peer {
     port: 0,
 };
 
+/// A connection that the lines done so far have opened.
+#[derive(Drop)]
+pub struct Connection {
+    /// Where it came in.
+    pub door: Door,
+    /// What of its stream is no whole packet yet.
+    pub rest: Vec<u8>,
+}
+
 /// What the lines done so far came to.
 #[derive(Drop)]
 pub struct Play {
     /// The hub, which has taken their events.
     pub hub: Hub,
-    /// What of the connection's stream is no whole packet yet.
-    pub rest: Vec<u8>,
+    /// The connections, in the order of their openings: that of number 1 stands first.
+    pub connections: Vec<Connection>,
     /// How many lines were refused.
     pub refused: u32,
 }
@@ -76,13 +87,11 @@ pub fn play_script(alloc: Global, start: &Start, bytes: &[u8]) -> Result<Play, O
 fn begun(alloc: Global, start: &Start) -> Result<Play, OutOfMemory>
     requires setup { Fits start.now.setup }
     requires saved { MayStart start.now.saved.items }
-    ensures at { IfOk result (λ play. IsAt start.now.setup play nothing) }
-    ensures setup { IfOk result (λ play. play.hub.setup ≡ start.now.setup) }
-    ensures start { IfOk result (λ play. play.hub.start ≡ world_from start.now.setup start.now.saved.items) }
+    ensures at { IfOk result (λ play. IsAt (origin_from start.now.setup start.now.saved.items) play nothing) }
 {
     Ok(Play {
         hub: hub_from(alloc, &start.setup, &start.saved)?,
-        rest: Vec::new(alloc),
+        connections: Vec::new(alloc),
         refused: 0,
     })
 }
@@ -94,7 +103,7 @@ fn hub_from(alloc: Global, setup: &Setup, saved: &[u8]) -> Result<Hub, OutOfMemo
     ensures start { IfOk result (λ hub. hub.start ≡ world_from setup.now saved.now) }
     ensures setup { IfOk result (λ hub. hub.setup ≡ setup.now) }
     ensures events { IfOk result (λ hub. hub.events ≡ []) }
-    ensures taken { IfOk result (λ hub. hub.taken ≡ 0) }
+    ensures counts { IfOk result (λ hub. hub.counts ≡ []) }
 {
     if saved.is_empty() {
         return Hub::new(alloc, setup);
@@ -123,14 +132,9 @@ fn saved_world(alloc: Global, saved: &[u8]) -> Result<World, OutOfMemory>
 
 /// Does one line, settings included. What a setting says and the map are in the start of the game already.
 fn do_step(alloc: Global, play: &mut Play, step: Step) -> Result<(), OutOfMemory>
-    requires built { is_built step ≡ true }
-    requires early { (table_of play.old.hub.setup play.old.hub.events).frame + ticks_in step ≤ 100 }
-    requires few { opens play.old.hub.events + step_opens step ≤ 1 }
-    ensures at { (p : Played) → IsAt play.old.hub.setup play.old p → OnOk result (IsAt play.old.hub.setup play.new (fold (done play.old.hub.setup) p (line_in step))) }
-    ensures setup { play.new.hub.setup ≡ play.old.hub.setup }
-    ensures start { play.new.hub.start ≡ play.old.hub.start }
-    ensures frame { OnOk result ((table_of play.old.hub.setup play.new.hub.events).frame ≡ (table_of play.old.hub.setup play.old.hub.events).frame + ticks_in step) }
-    ensures openings { OnOk result (opens play.new.hub.events ≡ opens play.old.hub.events + step_opens step) }
+    requires built { needs_client step ≡ false }
+    requires count { length play.old.connections.items ≡ opens play.old.hub.events }
+    ensures at { (o : Origin) (p : Played) → IsAt o play.old p → OnOk result (IsAt o play.new (fold (done o) p (line_in step))) }
 {
     match step {
         Step::Set(_setting) => Ok(()),
@@ -139,37 +143,54 @@ fn do_step(alloc: Global, play: &mut Play, step: Step) -> Result<(), OutOfMemory
     }
 }
 
-/// Does one line.
+/// Does one line, or counts it where it is refused.
 fn do_line(alloc: Global, play: &mut Play, line: &Line1) -> Result<(), OutOfMemory>
-    requires built { is_line_built line.now ≡ true }
-    requires early { (table_of play.old.hub.setup play.old.hub.events).frame + ticks_of line.now ≤ 100 }
-    requires few { opens play.old.hub.events + openings_of line.now ≤ 1 }
-    ensures at { (p : Played) → IsAt play.old.hub.setup play.old p → OnOk result (IsAt play.old.hub.setup play.new (done play.old.hub.setup p line.now)) }
-    ensures setup { play.new.hub.setup ≡ play.old.hub.setup }
-    ensures start { play.new.hub.start ≡ play.old.hub.start }
-    ensures frame { OnOk result ((table_of play.old.hub.setup play.new.hub.events).frame ≡ (table_of play.old.hub.setup play.old.hub.events).frame + ticks_of line.now) }
-    ensures openings { OnOk result (opens play.new.hub.events ≡ opens play.old.hub.events + openings_of line.now) }
+    requires built { is_of_client line.now ≡ false }
+    requires count { length play.old.connections.items ≡ opens play.old.hub.events }
+    ensures at { (o : Origin) (p : Played) → IsAt o play.old p → OnOk result (IsAt o play.new (done o p line.now)) }
+{
+    if is_refused(&play.hub, line) {
+        refuse(play)
+    } else {
+        do_accepted(alloc, play, line)
+    }
+}
+
+/// Whether a line is refused: what it asks for finds the game over, or it names a connection that isn't live.
+fn is_refused(hub: &Hub, line: &Line1) -> bool
+    ensures refused { result ≡ is_refused (origin hub.now) hub.now.events line.now }
 {
     match line {
-        Line1::Open => {
-            open(&mut play.hub)?;
-            Ok(())
-        }
-        Line1::Bytes(conn, piece) => {
-            if play.hub.live(*conn) {
-                feed(alloc, play, *conn, piece.bytes())?;
-                Ok(())
-            } else {
-                refuse(play)?;
-                Ok(())
-            }
-        }
-        Line1::Tick(n) => {
-            run_ticks(&mut play.hub, *n)?;
-            Ok(())
-        }
+        Line1::Open | Line1::Side | Line1::Tick(_) | Line1::Stop => hub.over(),
+        Line1::Bytes(conn, _) | Line1::Shut(conn) => hub.over() || !hub.live(*conn),
+        Line1::Join(_, _, _, _) | Line1::Up(_, _) | Line1::Down(_, _) | Line1::Run(_, _) => false,
+        Line1::Pump(_) | Line1::Do(_, _) | Line1::Forge(_, _) | Line1::Expect(_) => false,
+    }
+}
+
+/// Counts a line that is refused. More than can be told are answered by want of memory.
+fn refuse(play: &mut Play) -> Result<(), OutOfMemory>
+    ensures at { (o : Origin) (p : Played) → IsAt o play.old p → OnOk result (IsAt o play.new (one_refused p)) }
+{
+    play.refused = next_number(play.refused)?;
+    Ok(())
+}
+
+/// Does a line that isn't refused.
+fn do_accepted(alloc: Global, play: &mut Play, line: &Line1) -> Result<(), OutOfMemory>
+    requires built { is_of_client line.now ≡ false }
+    requires accepted { is_refused (origin play.old.hub) play.old.hub.events line.now ≡ false }
+    requires count { length play.old.connections.items ≡ opens play.old.hub.events }
+    ensures at { (o : Origin) (p : Played) → IsAt o play.old p → OnOk result (IsAt o play.new (did o p line.now)) }
+{
+    match line {
+        Line1::Open => open(alloc, play, Door::Main),
+        Line1::Side => open(alloc, play, Door::Side),
+        Line1::Bytes(conn, piece) => feed(alloc, play, *conn, piece.bytes()),
+        Line1::Shut(conn) => shut(play, *conn),
+        Line1::Tick(n) => run_ticks(play, *n),
+        Line1::Stop => stop(play),
         Line1::Expect(_) => Ok(()),
-        Line1::Side | Line1::Shut(_) | Line1::Stop => unreachable!(),
         Line1::Join(_, _, _, _) | Line1::Up(_, _) | Line1::Down(_, _) | Line1::Run(_, _) => {
             unreachable!()
         }
@@ -177,75 +198,122 @@ fn do_line(alloc: Global, play: &mut Play, line: &Line1) -> Result<(), OutOfMemo
     }
 }
 
-/// Counts a line that is refused. More than can be told are answered by want of memory.
-fn refuse(play: &mut Play) -> Result<(), OutOfMemory>
-    ensures ok { OnOk result (play.new ≡ record play.old { refused = play.old.refused + 1 }) }
-    ensures hub { play.new.hub ≡ play.old.hub }
+/// An opening, of a game that is not over.
+fn open(alloc: Global, play: &mut Play, door: Door) -> Result<(), OutOfMemory>
+    requires going { is_over (origin play.old.hub) play.old.hub.events ≡ false }
+    ensures at { (o : Origin) (p : Played) → IsAt o play.old p → OnOk result (IsAt o play.new (opened door p)) }
 {
-    play.refused = play.refused.checked_add(1).ok_or(OutOfMemory)?;
+    put(&mut play.hub, Event::Open { door, peer: NOBODY })?;
+    play.connections.push(Connection {
+        door,
+        rest: Vec::new(alloc),
+    })?;
     Ok(())
 }
 
-/// The first opening.
-fn open(hub: &mut Hub) -> Result<(), OutOfMemory>
-    requires early { (table_of hub.old.setup hub.old.events).frame ≤ 100 }
-    requires none { opens hub.old.events ≡ 0 }
-    ensures events { OnOk result (hub.new.events ≡ hub.old.events ++ Event.Open Door.Main NOBODY ∷ []) }
-    ensures setup { hub.new.setup ≡ hub.old.setup }
-    ensures start { hub.new.start ≡ hub.old.start }
-    ensures taken { hub.new.taken ≡ hub.old.taken }
+/// A connection that is live is closed.
+fn shut(play: &mut Play, conn: u32) -> Result<(), OutOfMemory>
+    requires going { is_over (origin play.old.hub) play.old.hub.events ≡ false }
+    requires live { is_live (origin play.old.hub) play.old.hub.events conn ≡ true }
+    ensures at { (o : Origin) (p : Played) → IsAt o play.old p → OnOk result (IsAt o play.new (with_event (Event.Shut conn) p)) }
 {
-    put(
-        hub,
-        Event::Open {
-            door: Door::Main,
-            peer: NOBODY,
-        },
-    )
+    put(&mut play.hub, Event::Shut { conn })?;
+    Ok(())
 }
 
-/// So many ticks.
-fn run_ticks(hub: &mut Hub, n: u32) -> Result<(), OutOfMemory>
-    requires early { (table_of hub.old.setup hub.old.events).frame + n ≤ 100 }
-    ensures events { OnOk result (hub.new.events ≡ hub.old.events ++ replicate n Event.Tick) }
-    ensures setup { hub.new.setup ≡ hub.old.setup }
-    ensures start { hub.new.start ≡ hub.old.start }
-    ensures taken { hub.new.taken ≡ hub.old.taken }
-    ensures frame { OnOk result ((table_of hub.old.setup hub.new.events).frame ≡ (table_of hub.old.setup hub.old.events).frame + n) }
+/// A game that is not over is stopped.
+fn stop(play: &mut Play) -> Result<(), OutOfMemory>
+    requires going { is_over (origin play.old.hub) play.old.hub.events ≡ false }
+    ensures at { (o : Origin) (p : Played) → IsAt o play.old p → OnOk result (IsAt o play.new (with_event Event.Stop p)) }
 {
-    for _ in 0..n {
+    put(&mut play.hub, Event::Stop)?;
+    Ok(())
+}
+
+/// So many ticks, until the game is over.
+fn run_ticks(play: &mut Play, n: u32) -> Result<(), OutOfMemory>
+    ensures at { (o : Origin) (p : Played) → IsAt o play.old p → OnOk result (IsAt o play.new (with_ticks o n p)) }
+{
+    put_ticks(&mut play.hub, n)?;
+    Ok(())
+}
+
+/// So many ticks, until the game is over.
+fn put_ticks(hub: &mut Hub, n: u32) -> Result<(), OutOfMemory>
+    ensures events { OnOk result (hub.new.events ≡ until_over (origin hub.old) hub.old.events (replicate n Event.Tick)) }
+    ensures origin { origin hub.new ≡ origin hub.old }
+    ensures taken { (conn : ℕ) → taken hub.new conn ≡ taken hub.old conn }
+{
+    let mut left = n;
+    'ticks: while left > 0 && !hub.over() {
         put(hub, Event::Tick)?;
+        left -= 1;
     }
     Ok(())
 }
 
 /// Feeds a piece to a connection that is live.
 fn feed(alloc: Global, play: &mut Play, conn: u32, piece: &[u8]) -> Result<(), OutOfMemory>
-    requires live { is_live play.old.hub.setup play.old.hub.events conn ≡ true }
-    ensures at { (p : Played) → IsAt play.old.hub.setup play.old p → OnOk result (IsAt play.old.hub.setup play.new (with_piece play.old.hub.setup conn piece.now p)) }
-    ensures setup { play.new.hub.setup ≡ play.old.hub.setup }
-    ensures start { play.new.hub.start ≡ play.old.hub.start }
-    ensures frame { (table_of play.old.hub.setup play.new.hub.events).frame ≡ (table_of play.old.hub.setup play.old.hub.events).frame }
-    ensures openings { opens play.new.hub.events ≡ opens play.old.hub.events }
+    requires going { is_over (origin play.old.hub) play.old.hub.events ≡ false }
+    requires live { is_live (origin play.old.hub) play.old.hub.events conn ≡ true }
+    requires count { length play.old.connections.items ≡ opens play.old.hub.events }
+    ensures at { (o : Origin) (p : Played) → IsAt o play.old p → OnOk result (IsAt o play.new (with_piece o conn piece.now p)) }
 {
-    play.rest.extend_from_slice(piece)?;
-    let end = take_packets(alloc, &mut play.hub, conn, &play.rest)?;
-    let rest = Vec::from_slice(alloc, &play.rest[end..])?;
-    play.rest = rest;
+    let place = place_of(&play.hub, conn);
+    feed_rest(
+        alloc,
+        &mut play.hub,
+        &mut play.connections[place].rest,
+        conn,
+        piece,
+    )?;
+    Ok(())
+}
+
+/// The place of a connection that is live, from 0 on.
+fn place_of(hub: &Hub, conn: u32) -> usize
+    requires live { is_live (origin hub.now) hub.now.events conn ≡ true }
+    ensures place { result + 1 ≡ conn }
+    ensures within { result < opens hub.now.events }
+{
+    (conn - 1) as usize
+}
+
+/// Feeds a piece to a connection that is live, behind the rest of its stream, which becomes the new rest. It costs what the
+/// piece does: a rest that no packet ends in is not moved, and another one is a part of the piece.
+fn feed_rest(
+    alloc: Global,
+    hub: &mut Hub,
+    rest: &mut Vec<u8>,
+    conn: u32,
+    piece: &[u8],
+) -> Result<(), OutOfMemory>
+    requires live { is_live (origin hub.old) hub.old.events conn ≡ true }
+    ensures events { OnOk result (hub.new.events
+        ≡ until_ended (origin hub.old) conn hub.old.events (stream_events conn (rest.old.items ++ piece.now))) }
+    ensures rest { OnOk result (is_live (origin hub.old) hub.new.events conn ≡ true
+        → (reading reader_limit (rest.old.items ++ piece.now)).1 ≡ rest_of rest.new.items) }
+    ensures kept { IsBytes rest.old.items → OnOk result (IsBytes rest.new.items) }
+    ensures origin { origin hub.new ≡ origin hub.old }
+    ensures taken { (conn : ℕ) → taken hub.new conn ≡ taken hub.old conn }
+{
+    rest.extend_from_slice(piece)?;
+    let end = take_packets(alloc, hub, conn, rest)?;
+    if end > 0 {
+        *rest = Vec::from_slice(alloc, &rest[end..])?;
+    }
     Ok(())
 }
 
 /// Hands over the packets of the bytes until the connection has ended, and answers where they end.
 fn take_packets(alloc: Global, hub: &mut Hub, conn: u32, bytes: &[u8]) -> Result<usize, OutOfMemory>
-    requires live { is_live hub.old.setup hub.old.events conn ≡ true }
-    ensures events { OnOk result (hub.new.events ≡ until_ended hub.old.setup conn hub.old.events (stream_events conn bytes.now)) }
-    ensures rest { IfOk result (λ end. is_there (table_of hub.old.setup hub.new.events).standing ≡ true → (reading reader_limit bytes.now).1 ≡ rest_of (drop end bytes.now)) }
+    requires live { is_live (origin hub.old) hub.old.events conn ≡ true }
+    ensures events { OnOk result (hub.new.events ≡ until_ended (origin hub.old) conn hub.old.events (stream_events conn bytes.now)) }
+    ensures rest { IfOk result (λ end. is_live (origin hub.old) hub.new.events conn ≡ true
+        → (reading reader_limit bytes.now).1 ≡ rest_of (drop end bytes.now)) }
     ensures within { IfOk result (λ end. end ≤ length bytes.now) }
-    ensures setup { hub.new.setup ≡ hub.old.setup }
-    ensures start { hub.new.start ≡ hub.old.start }
-    ensures taken { hub.new.taken ≡ hub.old.taken }
-    ensures frame { (table_of hub.old.setup hub.new.events).frame ≡ (table_of hub.old.setup hub.old.events).frame }
-    ensures openings { opens hub.new.events ≡ opens hub.old.events }
+    ensures origin { origin hub.new ≡ origin hub.old }
+    ensures taken { (conn : ℕ) → taken hub.new conn ≡ taken hub.old conn }
 {
     let mut end = 0;
     'packets: while hub.live(conn) {
@@ -272,15 +340,11 @@ fn put_packet(
     kind: u8,
     body: &[u8],
 ) -> Result<(), OutOfMemory>
-    requires live { is_live hub.old.setup hub.old.events conn ≡ true }
+    requires live { is_live (origin hub.old) hub.old.events conn ≡ true }
     requires length { length body.now ≤ 32764 }
     ensures events { OnOk result (hub.new.events ≡ hub.old.events ++ Event.Packet conn kind body.now ∷ []) }
-    ensures setup { hub.new.setup ≡ hub.old.setup }
-    ensures start { hub.new.start ≡ hub.old.start }
-    ensures taken { hub.new.taken ≡ hub.old.taken }
-    ensures frame { (table_of hub.old.setup hub.new.events).frame ≡ (table_of hub.old.setup hub.old.events).frame }
-    ensures openings { opens hub.new.events ≡ opens hub.old.events }
-    ensures conn { (table_of hub.old.setup hub.new.events).conn ≡ (table_of hub.old.setup hub.old.events).conn }
+    ensures origin { origin hub.new ≡ origin hub.old }
+    ensures taken { (conn : ℕ) → taken hub.new conn ≡ taken hub.old conn }
 {
     let body = Body::new(alloc, body)?;
     put(hub, Event::Packet { conn, kind, body })
@@ -288,14 +352,11 @@ fn put_packet(
 
 /// A bad size in the stream of a connection that is live.
 fn put_broken(hub: &mut Hub, conn: u32) -> Result<(), OutOfMemory>
-    requires live { is_live hub.old.setup hub.old.events conn ≡ true }
+    requires live { is_live (origin hub.old) hub.old.events conn ≡ true }
     ensures events { OnOk result (hub.new.events ≡ hub.old.events ++ Event.Broken conn ∷ []) }
-    ensures setup { hub.new.setup ≡ hub.old.setup }
-    ensures start { hub.new.start ≡ hub.old.start }
-    ensures taken { hub.new.taken ≡ hub.old.taken }
-    ensures frame { (table_of hub.old.setup hub.new.events).frame ≡ (table_of hub.old.setup hub.old.events).frame }
-    ensures openings { opens hub.new.events ≡ opens hub.old.events }
-    ensures ended { OnOk result (is_there (table_of hub.old.setup hub.new.events).standing ≡ false) }
+    ensures origin { origin hub.new ≡ origin hub.old }
+    ensures taken { (conn : ℕ) → taken hub.new conn ≡ taken hub.old conn }
+    ensures ended { OnOk result (is_live (origin hub.old) hub.new.events conn ≡ false) }
 {
     put(hub, Event::Broken { conn })?;
     Ok(())
@@ -303,12 +364,11 @@ fn put_broken(hub: &mut Hub, conn: u32) -> Result<(), OutOfMemory>
 
 /// One event that the hub takes now, unless memory runs out.
 fn put(hub: &mut Hub, event: Event) -> Result<(), OutOfMemory>
-    requires taken { is_taken (table_of hub.old.setup hub.old.events) event ≡ true }
+    requires takes { takes (table_of (origin hub.old) hub.old.events) event ≡ true }
     ensures ok { OnOk result (hub.new.events ≡ hub.old.events ++ event ∷ []) }
     ensures err { OnErr result (hub.new.events ≡ hub.old.events) }
-    ensures setup { hub.new.setup ≡ hub.old.setup }
-    ensures start { hub.new.start ≡ hub.old.start }
-    ensures taken { hub.new.taken ≡ hub.old.taken }
+    ensures origin { origin hub.new ≡ origin hub.old }
+    ensures taken { (conn : ℕ) → taken hub.new conn ≡ taken hub.old conn }
 {
     match hub.event(event) {
         Ok(_) => Ok(()),

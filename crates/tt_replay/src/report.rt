@@ -1,30 +1,37 @@
-//! The report of a game: a line for each connection, one for the server and those of its companies and signs, and one
-//! where lines were refused.
-ghost use Rattle.std.specs.Prelude.{◌≡◌, ◌≢◌, ◌+◌, ◌++◌, ℕ, IfOk, OnOk};
+//! The report of a game: a line for each connection, one for each command of the journal, one for the server and those of
+//! its companies and signs, and one where lines were refused.
+ghost use Rattle.std.specs.Prelude.{◌≡◌, ◌≢◌, ◌+◌, ◌++◌, ℕ, Some, length, IfOk, OnOk};
 ghost use Rattle.std.specs.List.{flat_map};
 ghost use Rattle.tt_edge.specs.Event.{opens};
-ghost use Rattle.tt_world.specs.declared.setup.Setup.{Setup};
+ghost use Rattle.tt_hub.specs.Hub.{origin, taken};
+ghost use Rattle.tt_log.specs.Doors.{door_of};
+ghost use Rattle.tt_log.specs.History.{table_of, world_behind};
+ghost use Rattle.tt_log.specs.Origin.{Origin};
 ghost use Rattle.tt_world.specs.World.{company_of};
-ghost use Rattle.tt_hub.specs.Stepped.{table_of};
-ghost use Rattle.tt_hub.specs.Hub.{world_of, taken};
 ghost use Rattle.tt_replay.specs.Played.{Played};
-ghost use Rattle.tt_replay.specs.Playing.{IsAt};
-ghost use Rattle.tt_replay.specs.Report.{report_of, conn_line, conn_lines, server_line, holding_lines, company_lines, place_line, company_line, sign_place, sign_line, refused_line, life_text, word_text, words_text, world_text};
+ghost use Rattle.tt_replay.specs.Playing.{AreDoors, IsAt};
+ghost use Rattle.tt_replay.specs.Report.{report_of, conn_line, conn_lines, entry_line, stamp_text, command_text, server_line};
+ghost use Rattle.tt_replay.specs.Report.{holding_lines, company_lines, place_line, company_line, sign_place, sign_line, refused_line};
+ghost use Rattle.tt_replay.specs.Report.{door_text, life_text, word_text, words_text, world_text};
 
-use crate::play::Play;
+use crate::play::{Connection, Play};
+use crate::script::next_number;
 use std::alloc::Global;
-use tt_edge::drain;
+use tt_edge::{Door, drain};
 use tt_frame::OutOfMemory;
 use tt_hub::Hub;
 use tt_lines::{put, put_bytes, put_number};
-use tt_world::{Company, Random, Sign, World};
+use tt_rules::number_of;
+use tt_world::{Command, Company, Entry, Random, Sign, World};
 
 /// The report's text. What the connections were told is taken from the hub.
 pub fn report_of(alloc: Global, play: &mut Play) -> Result<Vec<u8>, OutOfMemory>
-    ensures text { (setup : Setup) (p : Played) → IsAt setup play.old p → IfOk result (λ text. text.items ≡ report_of play.old.hub.start setup p) }
+    requires at { (o : Origin) × (p : Played) × IsAt o play.old p }
+    ensures text { (o : Origin) (p : Played) → IsAt o play.old p → IfOk result (λ text. text.items ≡ report_of o p) }
 {
     let mut text = Vec::new(alloc);
-    put_connections(alloc, &mut text, &mut play.hub)?;
+    put_connections(alloc, &mut text, &mut play.hub, &play.connections)?;
+    put_journal(alloc, &mut text, play.hub.journal())?;
     put_server(&mut text, &play.hub)?;
     put_holdings(alloc, &mut text, play.hub.world())?;
     put_refused(&mut text, play.refused)?;
@@ -32,14 +39,22 @@ pub fn report_of(alloc: Global, play: &mut Play) -> Result<Vec<u8>, OutOfMemory>
 }
 
 /// Appends a line for each connection, in order.
-fn put_connections(alloc: Global, text: &mut Vec<u8>, hub: &mut Hub) -> Result<(), OutOfMemory>
-    ensures text { hub.old.taken ≡ 0 → OnOk result (text.new.items ≡ text.old.items ++ conn_lines hub.old.setup hub.old.events (opens hub.old.events)) }
-    ensures setup { hub.new.setup ≡ hub.old.setup }
-    ensures start { hub.new.start ≡ hub.old.start }
+fn put_connections(
+    alloc: Global,
+    text: &mut Vec<u8>,
+    hub: &mut Hub,
+    connections: &[Connection],
+) -> Result<(), OutOfMemory>
+    requires untaken { (conn : ℕ) → taken hub.old conn ≡ 0 }
+    requires doors { AreDoors hub.old.events connections.now }
+    ensures text { OnOk result (text.new.items ≡ text.old.items ++ conn_lines (origin hub.old) hub.old.events (length connections.now)) }
+    ensures origin { origin hub.new ≡ origin hub.old }
     ensures events { hub.new.events ≡ hub.old.events }
 {
-    for before in 0..hub.connections() {
-        put_connection(alloc, text, hub, before + 1)?;
+    let mut conn = 0u32;
+    for connection in connections {
+        conn = next_number(conn)?;
+        put_connection(alloc, text, hub, conn, connection.door)?;
     }
     Ok(())
 }
@@ -50,10 +65,12 @@ fn put_connection(
     text: &mut Vec<u8>,
     hub: &mut Hub,
     conn: u32,
+    door: Door,
 ) -> Result<(), OutOfMemory>
-    ensures text { taken hub.old conn ≡ 0 → OnOk result (text.new.items ≡ text.old.items ++ conn_line hub.old.setup hub.old.events conn) }
-    ensures setup { hub.new.setup ≡ hub.old.setup }
-    ensures start { hub.new.start ≡ hub.old.start }
+    requires untaken { taken hub.old conn ≡ 0 }
+    requires door { door_of hub.old.events conn ≡ Some door }
+    ensures text { OnOk result (text.new.items ≡ text.old.items ++ conn_line (origin hub.old) hub.old.events conn) }
+    ensures origin { origin hub.new ≡ origin hub.old }
     ensures events { hub.new.events ≡ hub.old.events }
     ensures others { (other : ℕ) → other ≢ conn → taken hub.new other ≡ taken hub.old other }
 {
@@ -61,12 +78,24 @@ fn put_connection(
     let told = drain(alloc, hub, conn)?;
     put(text, b"conn ")?;
     put_number(text, conn)?;
-    put(text, b" game ")?;
+    put(text, b" ")?;
+    put_door(text, door)?;
+    put(text, b" ")?;
     put_life(text, live)?;
     put(text, b" ")?;
     put_bytes(alloc, text, &told)?;
     put(text, b"\n")?;
     Ok(())
+}
+
+/// Appends whose door it is.
+fn put_door(text: &mut Vec<u8>, door: Door) -> Result<(), OutOfMemory>
+    ensures text { OnOk result (text.new.items ≡ text.old.items ++ door_text door) }
+{
+    match door {
+        Door::Main => put(text, b"game"),
+        Door::Side => put(text, b"admin"),
+    }
 }
 
 /// Appends whether a connection is live.
@@ -80,9 +109,58 @@ fn put_life(text: &mut Vec<u8>, live: bool) -> Result<(), OutOfMemory>
     }
 }
 
+/// Appends a line for each command of the journal, in order.
+fn put_journal(alloc: Global, text: &mut Vec<u8>, journal: &[Entry]) -> Result<(), OutOfMemory>
+    ensures text { OnOk result (text.new.items ≡ text.old.items ++ flat_map entry_line journal.now) }
+{
+    for entry in journal {
+        put_entry(alloc, text, entry)?;
+    }
+    Ok(())
+}
+
+/// Appends the line of a command of the journal.
+fn put_entry(alloc: Global, text: &mut Vec<u8>, entry: &Entry) -> Result<(), OutOfMemory>
+    ensures text { OnOk result (text.new.items ≡ text.old.items ++ entry_line entry.now) }
+{
+    put(text, b"entry ")?;
+    put_stamp(text, entry)?;
+    put(text, b" ")?;
+    put_command(alloc, text, &entry.command)?;
+    put(text, b"\n")?;
+    Ok(())
+}
+
+/// Appends what a command was stamped with: its frame, who sent it, and for which company.
+fn put_stamp(text: &mut Vec<u8>, entry: &Entry) -> Result<(), OutOfMemory>
+    ensures text { OnOk result (text.new.items ≡ text.old.items ++ stamp_text entry.now) }
+{
+    put_number(text, entry.frame)?;
+    put(text, b" ")?;
+    put_number(text, entry.sender)?;
+    put(text, b" ")?;
+    put_number(text, entry.company)?;
+    Ok(())
+}
+
+/// Appends what a command says: its code, its number, the company that it names, and its text.
+fn put_command(alloc: Global, text: &mut Vec<u8>, command: &Command) -> Result<(), OutOfMemory>
+    ensures text { OnOk result (text.new.items ≡ text.old.items ++ command_text command.now) }
+{
+    put_number(text, number_of(command.code))?;
+    put(text, b" ")?;
+    put_number(text, command.number)?;
+    put(text, b" ")?;
+    put_number(text, command.to)?;
+    put(text, b" ")?;
+    put_bytes(alloc, text, command.text.bytes())?;
+    Ok(())
+}
+
 /// Appends the server's line.
 fn put_server(text: &mut Vec<u8>, hub: &Hub) -> Result<(), OutOfMemory>
-    ensures text { OnOk result (text.new.items ≡ text.old.items ++ server_line (table_of hub.now.setup hub.now.events) (world_of hub.now.start hub.now.setup hub.now.events)) }
+    ensures text { OnOk result (text.new.items ≡ text.old.items
+        ++ server_line (table_of (origin hub.now) hub.now.events) (world_behind (origin hub.now) hub.now.events)) }
 {
     put(text, b"server ")?;
     put_number(text, hub.frame())?;

@@ -1,6 +1,11 @@
+use Rattle.tt_replay.specs.Begun.{origin_in}
 use Rattle.tt_replay.specs.Played.{played}
-use Rattle.tt_replay.proofs.Reports.{report_from}
 use Rattle.tt_replay.proofs.replay.report_of_script.Goals as goal
+
+pub report_of-requires : goal.report_of-requires
+report_of-requires c =
+    let to = c.in_ok-play.ensures.played in
+    record { at = (origin_in to.script, played (origin_in to.script) to.script.lines, to.at) }
 
 pub returns : goal.returns
 returns c =
@@ -9,7 +14,6 @@ returns c =
       answer = (
         to.script,
         to.plays,
-        report_from to.script to.start (c.in_ok-report.ensures.text to.script.setup
-            (played to.script.setup to.script.lines) to.at),
+        c.in_ok-report.ensures.text (origin_in to.script) (played (origin_in to.script) to.script.lines) to.at,
       );
     }

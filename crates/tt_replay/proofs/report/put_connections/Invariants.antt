@@ -1,14 +1,14 @@
 use Rattle.std.proofs.Common.{◌≡◌, ◌<◌, ◌++◌, ℕ}
-use Rattle.tt_hub.specs.Hub.{taken}
+use Rattle.tt_hub.specs.Hub.{origin, taken}
 use Rattle.tt_replay.specs.Report.{conn_lines}
 use Rattle.tt_replay.proofs.report.put_connections.Given as goal
 
 -- the lines of the connections so far, and nothing of the later ones was taken
-abbrev pub invariant-loop-before : goal.invariant-loop-before
-invariant-loop-before l = record {
-  text : l.fn.hub.taken ≡ 0 → l.text.items ≡ l.fn.text.items ++ conn_lines l.fn.hub.setup l.fn.hub.events l.before;
-  setup : l.hub.setup ≡ l.fn.hub.setup;
-  start : l.hub.start ≡ l.fn.hub.start;
+abbrev pub invariant-loop-connection : goal.invariant-loop-connection
+invariant-loop-connection l = record {
+  number : l.conn ≡ l.connection-index;
+  text : l.text.items ≡ l.fn.text.items ++ conn_lines (origin l.fn.hub) l.fn.hub.events l.conn;
+  origin : origin l.hub ≡ origin l.fn.hub;
   events : l.hub.events ≡ l.fn.hub.events;
-  untaken : l.fn.hub.taken ≡ 0 → (other : ℕ) → l.before < other → taken l.hub other ≡ 0;
+  untaken : (other : ℕ) → l.conn < other → taken l.hub other ≡ 0;
 }

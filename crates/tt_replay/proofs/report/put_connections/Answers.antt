@@ -1,0 +1,18 @@
+use Rattle.std.proofs.Common.{◌∙◌, sym, arith}
+use Rattle.tt_hub.specs.Hub.{origin}
+use Rattle.tt_replay.proofs.Reports.{next_line}
+use Rattle.tt_replay.proofs.report.put_connections.Goals as goal
+
+pub loop-connection-preserved : goal.loop-connection-preserved
+loop-connection-preserved c =
+    let so_far = c.loop-connection.invariant in
+    let put = c.in_ok-put_connection.ensures in
+    let next = c.in_ok-conn.ensures.next in
+    record {
+      number = omega (arith, next, so_far.number);
+      text = next_line (origin c.args.hub.now) _ c.args.hub.now.events _ c.loop-connection.conn c.in_ok-conn.conn c.args.text.now.items _ _
+          so_far.text put.text so_far.origin so_far.events next;
+      origin = put.origin ∙ so_far.origin;
+      events = put.events ∙ so_far.events;
+      untaken = λ other above. put.others other (λ e. omega (arith, e, above)) ∙ so_far.untaken other (omega (arith, above, next));
+    }
