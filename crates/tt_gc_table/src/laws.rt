@@ -92,8 +92,8 @@ pub fn only_asked_servers_are_listed()
         → EndsListing step ⊎ ListsServer t.servers revision step }
 {}
 
-/// A code that is live belongs to one server, as long as no code was drawn twice. (That none is while codes are left isn't among
-/// the laws yet.)
+/// A code that is live belongs to one server, as long as no code was drawn twice. `Parts` draws none
+/// twice, as `Parts::drawn_count` says.
 pub fn a_code_has_one_server()
     ensures { (s : GcSetup) (es : List Event) (code : List ℕ) → NoneTwice (table_of s es).drawn → holders (table_of s es) code ≤ 1 }
 {}
