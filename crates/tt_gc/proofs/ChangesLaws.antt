@@ -32,7 +32,8 @@ use Rattle.tt_gc.specs.Changes.{applied, Fits, heard_change, first_change, IsPla
 
 -- ---- what tells nobody anything
 
-pub planned_done : (s : GcSetup) (d : Deed) (t : Table) (out : List Tell) (change : Change) → IsDone d t change → IsPlanned s d t out out change
+pub planned_done : (s : GcSetup) (d : Deed) (t : Table) (out : List Tell) (change : Change) → IsDone d t change
+    → IsPlanned s d t out out change
 planned_done s d t out change is = record {
   told = λ c. sym (ap (λ (xs : List ℕ). told_to c out ++ xs) (is.told c) ∙ append-nil (told_to c out));
   done = is.done s;
@@ -116,7 +117,8 @@ begun_done s code words m t = by (is_over m.state.stage)
     by true = sym (word_table s w m (behind_token t))
     by false = sym (word_table s w m (record (behind_token t) { meetings = t.meetings ++ m ∷ [] }))
 
-pub begun_fits : (words : ℕ × ℕ) (m : Meeting) (t : Table) → t.attempts < 2 ^ 32 - 1 → words ≡ words_behind 8 t.words → m.token ≡ new_token t
+pub begun_fits : (words : ℕ × ℕ) (m : Meeting) (t : Table) → t.attempts < 2 ^ 32 - 1 → words ≡ words_behind 8 t.words
+    → m.token ≡ new_token t
     → Fits (first_change words m.state.stage m) t
 begun_fits words m t few are token = by (is_over m.state.stage)
   where

@@ -42,7 +42,8 @@ closed_told : (x : ℕ) (s : GcSetup) (e : Event) (t : Table) → bytes_to x (cl
 closed_told x s e t = by (is_stop e || nat_le s.cost t.cost || (eqb t.ticks last_tick))
   where
     by : (b : Bool) → bytes_to x (where_ b shut_down t).told ≡ []
-    by true = append-nil (copies x (map (λ (c : Connection). c.conn) t.connections) []) ∙ no_bytes x (map (λ (c : Connection). c.conn) t.connections)
+    by true = append-nil (copies x (map (λ (c : Connection). c.conn) t.connections) [])
+        ∙ no_bytes x (map (λ (c : Connection). c.conn) t.connections)
     by false = refl
 
 abbrev pub done : GcSetup → Event → Table → Deed
@@ -51,7 +52,8 @@ done s e t = by_event s e (counted e t)
 abbrev pub paid : Event → Table → Table
 paid e t = record t { cost = t.cost + event_cost e }
 
-pub stepped_table : (s : GcSetup) (e : Event) (t : Table) → takes t e ≡ true → (closed s e (paid e (done s e t).table)).table ≡ stepped s t e
+pub stepped_table : (s : GcSetup) (e : Event) (t : Table) → takes t e ≡ true
+    → (closed s e (paid e (done s e t).table)).table ≡ stepped s t e
 stepped_table s e t taken =
     ap (λ (b : Bool). (where_ b (λ t. by_event s e t ▹ charged e ▹ closed s e) (counted e t)).table) (sym taken)
 

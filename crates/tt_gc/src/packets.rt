@@ -119,7 +119,8 @@ fn plan_message(
     message: &CoordMsg,
 ) -> Result<Change, OutOfMemory>
     requires there { is_some (connection_of parts.now seen.now.conn) ≡ true }
-    ensures { IfOk result (λ change. IsPlanned rules.now (on_message rules.now seen.now message.now parts.now) parts.now out.old out.new change) }
+    ensures { IfOk result (λ change. IsPlanned rules.now (on_message rules.now seen.now message.now parts.now) parts.now
+        out.old out.new change) }
 {
     let conn = seen.conn;
     match message {

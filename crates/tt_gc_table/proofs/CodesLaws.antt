@@ -13,7 +13,8 @@ use Rattle.tt_edge.specs.declared.event.Event.{Event}
 use Rattle.tt_edge.specs.declared.event.Event.TheVariants.{Open, Packet, Broken, Shut, Tick, Stop}
 use Rattle.tt_attempts.specs.Attempts.{from_direct}
 use Rattle.tt_gc_table.specs.declared.setup.GcSetup.{GcSetup}
-use Rattle.tt_gc_table.specs.Table.{Table, Connection, Server, Drawn, Meeting, first, connection_of, live_sides, meeting_of, server_on, server_by}
+use Rattle.tt_gc_table.specs.Table.{Table, Connection, Server, Drawn, Meeting, first, connection_of, live_sides, meeting_of, server_on}
+use Rattle.tt_gc_table.specs.Table.{server_by}
 use Rattle.tt_gc_table.specs.Table.{drawn_by, holders, NoneTwice}
 use Rattle.tt_gc_table.specs.Deed.{Deed, ◌▹◌, either, given, becomes}
 use Rattle.tt_gc_table.specs.Codes.{new_token, behind_token, IsOwners}
@@ -22,10 +23,12 @@ use Rattle.tt_gc_table.specs.Ending.{goes, leaves, ends}
 use Rattle.tt_gc_table.specs.PacketRules.{most_servers, registers, registers_new, is_known, is_empty, may_return, may_register, on_register}
 use Rattle.tt_gc_table.specs.PacketRules.{read_msg, heard}
 use Rattle.tt_gc_table.specs.Desk.{most_sides, shows, read_stun, at_desk}
-use Rattle.tt_gc_table.specs.Events.{arrives, opened, on_packet, on_broken, on_shut, by_event, charged, is_stop, last_tick, shut_down, closed}
+use Rattle.tt_gc_table.specs.Events.{arrives, opened, on_packet, on_broken, on_shut, by_event, charged, is_stop, last_tick, shut_down}
+use Rattle.tt_gc_table.specs.Events.{closed}
 use Rattle.tt_gc_table.specs.Events.{counted, deed, stepped, table_of}
 use Rattle.tt_gc_table.specs.Events as events
-use Rattle.tt_gc_table.specs.Walk.{IsKept, Registers, Returns, Draws, kept_given, kept_where, kept_either, kept_leaves, kept_ends, kept_heard}
+use Rattle.tt_gc_table.specs.Walk.{IsKept, Registers, Returns, Draws, kept_given, kept_where, kept_either, kept_leaves, kept_ends}
+use Rattle.tt_gc_table.specs.Walk.{kept_heard}
 use Rattle.tt_gc_table.specs.Walk.{kept_desk}
 use Rattle.tt_gc_table.proofs.Finding.{find_behind}
 use Rattle.tt_gc_table.proofs.OneConnection.{IsStill, still_heard, still_shows}

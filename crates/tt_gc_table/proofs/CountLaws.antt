@@ -14,7 +14,8 @@ use Rattle.tt_gc_table.specs.Meetings.{is_over, hears_it, new_meeting, stands, b
 use Rattle.tt_gc_table.specs.Ending.{goes, leaves, ends}
 use Rattle.tt_gc_table.specs.PacketRules.{read_msg, heard}
 use Rattle.tt_gc_table.specs.Desk.{most_sides, shows, read_stun, at_desk}
-use Rattle.tt_gc_table.specs.Events.{arrives, opened, on_packet, on_broken, on_shut, by_event, charged, is_stop, last_tick, shut_down, closed}
+use Rattle.tt_gc_table.specs.Events.{arrives, opened, on_packet, on_broken, on_shut, by_event, charged, is_stop, last_tick, shut_down}
+use Rattle.tt_gc_table.specs.Events.{closed}
 use Rattle.tt_gc_table.specs.Events.{names_live, counted, stepped, table_of}
 use Rattle.tt_gc_table.specs.Events as events
 use Rattle.tt_gc_table.specs.Told as book

@@ -191,7 +191,8 @@ closed_of s h p over t front (m ∷ ms) none apart =
           (ap (λ (v : Table). bytes_to c (each (map (λ (m : Meeting). m.token) (filter p ms)) (is_heard s h) v).told) f.table ∙ one.told c),
     )
     by false one two = (
-      ap (λ (xs : List Meeting). (each (map (λ (m : Meeting). m.token) (filter p ms)) (is_heard s h) (record t { meetings = xs })).table) moved
+      ap (λ (xs : List Meeting). (each (map (λ (m : Meeting). m.token) (filter p ms)) (is_heard s h)
+          (record t { meetings = xs })).table) moved
           ∙ two.table
           ∙ ap (λ (xs : List Meeting). record t { meetings = xs }) (append_assoc front (m ∷ []) left),
       λ c. ap (λ (xs : List Meeting). bytes_to c (each (map (λ (m : Meeting). m.token) (filter p ms)) (is_heard s h)

@@ -38,11 +38,13 @@ use Rattle.tt_gc_table.specs.Ending.{goes, leaves, ends}
 use Rattle.tt_gc_table.specs.PacketRules.{read_msg, heard, most_attempts, by_code, on_register, on_update, on_listing, may_fail, on_failed}
 use Rattle.tt_gc_table.specs.PacketRules.{is_side, on_result, on_connected, on_message}
 use Rattle.tt_gc_table.specs.Desk.{most_sides, is_at_stun, with_note, shows, read_stun, at_desk}
-use Rattle.tt_gc_table.specs.Events.{arrives, opened, on_packet, on_broken, on_shut, by_event, charged, is_stop, last_tick, shut_down, closed}
+use Rattle.tt_gc_table.specs.Events.{arrives, opened, on_packet, on_broken, on_shut, by_event, charged, is_stop, last_tick, shut_down}
+use Rattle.tt_gc_table.specs.Events.{closed}
 use Rattle.tt_gc_table.specs.Events.{counted, deed, stepped, table_of}
 use Rattle.tt_gc_table.specs.Events as events
 use Rattle.tt_gc_table.specs.Ways.{word_in, word_of, hears_of, of_steps, steps_from, words_for, hearings, numbered, numbers}
-use Rattle.tt_gc_table.specs.Walk.{IsKept, kept_given, kept_where, kept_either, kept_leaves, kept_ends, kept_register, kept_update, kept_listing}
+use Rattle.tt_gc_table.specs.Walk.{IsKept, kept_given, kept_where, kept_either, kept_leaves, kept_ends, kept_register, kept_update}
+use Rattle.tt_gc_table.specs.Walk.{kept_listing}
 use Rattle.tt_gc_table.specs.Walk.{kept_said, kept_heard, kept_desk}
 use Rattle.tt_gc_table.proofs.Finding.{unwrapped, found, find_filter_other, find_filter_same, find_map, find_changed, find_behind, find_new}
 

@@ -21,7 +21,8 @@ use Rattle.tt_attempts.specs.declared.attempt.Heard.{Heard}
 use Rattle.tt_attempts.specs.declared.attempt.Told as word
 use Rattle.tt_attempts.specs.declared.attempt.Told.TheVariants.{Nothing, Direct, AskStun, Stun, Turn, AllFailed}
 use Rattle.tt_gc_table.specs.declared.setup.GcSetup.{GcSetup}
-use Rattle.tt_gc_table.specs.Table.{Table, Connection, Server, Meeting, first, is_on, connection_of, live_sides, meeting_of, without_meeting}
+use Rattle.tt_gc_table.specs.Table.{Table, Connection, Server, Meeting, first, is_on, connection_of, live_sides, meeting_of}
+use Rattle.tt_gc_table.specs.Table.{without_meeting}
 use Rattle.tt_gc_table.specs.Table.{with_meeting}
 use Rattle.tt_gc_table.specs.Table as table
 use Rattle.tt_gc_table.specs.Deed.{What, Step, Deed, begins, hears, ◌▹◌, where_, either, given, becomes, tells, notes}
@@ -30,7 +31,8 @@ use Rattle.tt_gc_table.specs.Meetings.{host_text, shown, tells_word, is_over, re
 use Rattle.tt_gc_table.specs.Ending.{goes, leaves, ends}
 use Rattle.tt_gc_table.specs.PacketRules.{read_msg, heard}
 use Rattle.tt_gc_table.specs.Desk.{most_sides, is_at_stun, with_note, read_stun, at_desk}
-use Rattle.tt_gc_table.specs.Events.{arrives, opened, on_packet, on_broken, on_shut, by_event, charged, is_stop, last_tick, shut_down, closed}
+use Rattle.tt_gc_table.specs.Events.{arrives, opened, on_packet, on_broken, on_shut, by_event, charged, is_stop, last_tick, shut_down}
+use Rattle.tt_gc_table.specs.Events.{closed}
 use Rattle.tt_gc_table.specs.Events.{names_live, counted, deed, stepped, table_of}
 use Rattle.tt_gc_table.specs.Events as events
 use Rattle.tt_gc_table.specs.Told.{copies, bytes_of, bytes_to, told, sent_from, sent, is_live, takes}

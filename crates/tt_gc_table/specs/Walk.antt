@@ -24,8 +24,10 @@ use Rattle.tt_gc_table.specs.Deed.{Deed, ◌▹◌, where_, either, given, each,
 use Rattle.tt_gc_table.specs.Codes.{new_token, new_code, new_secret, behind_code}
 use Rattle.tt_gc_table.specs.Meetings.{is_heard, new_meeting, begins_it}
 use Rattle.tt_gc_table.specs.Ending.{goes, client_gone, server_gone, leaves, ends}
-use Rattle.tt_gc_table.specs.PacketRules.{most_servers, most_attempts, registers, registers_new, may_register, may_return, is_known, is_empty}
-use Rattle.tt_gc_table.specs.PacketRules.{on_register, on_update, is_listed, listed_item, tells_server, on_listing, by_code, on_connect, may_fail}
+use Rattle.tt_gc_table.specs.PacketRules.{most_servers, most_attempts, registers, registers_new, may_register, may_return, is_known}
+use Rattle.tt_gc_table.specs.PacketRules.{is_empty}
+use Rattle.tt_gc_table.specs.PacketRules.{on_register, on_update, is_listed, listed_item, tells_server, on_listing, by_code, on_connect}
+use Rattle.tt_gc_table.specs.PacketRules.{may_fail}
 use Rattle.tt_gc_table.specs.PacketRules.{is_side, on_message, heard}
 use Rattle.tt_gc_table.specs.Desk.{shows, on_stun, at_desk}
 use Rattle.tt_gc_table.specs.Ways.{word_in}

@@ -3,7 +3,8 @@
 //! Contracts see it as the table that the rules speak of.
 ghost use Rattle.std.specs.Prelude.{◌≡◌, ◌<◌, ◌+◌, ◌-◌, ◌^◌, Some, true, false, is_some, length, map, filter, cond, not, OnOk, OnErr};
 ghost use Rattle.std.specs.Option.{option_copied};
-ghost use Rattle.tt_gc_table.specs.Table.{Meeting, first, is_on, connection_of, is_live, live_sides, server_on, server_by, drawn_by, meeting_of};
+ghost use Rattle.tt_gc_table.specs.Table.{Meeting, first, is_on, connection_of, is_live, live_sides, server_on, server_by, drawn_by};
+ghost use Rattle.tt_gc_table.specs.Table.{meeting_of};
 ghost use Rattle.tt_gc_table.specs.Table.{with_info, with_meeting, without_meeting, NoneTwice};
 ghost use Rattle.tt_attempts.specs.Attempts.{stepped};
 ghost use Rattle.std.specs.Prelude.{option_map};

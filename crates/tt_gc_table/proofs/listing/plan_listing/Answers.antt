@@ -19,7 +19,8 @@ returns c = record {
       let rows : List Step = (each vs (tells_server c.args.conn) t).told in
       let last : Table → List Step = λ u. (tells (c.args.conn ∷ []) (GcListing []) u).told in
       c.in_ok-tell.ensures.told x
-      ∙ ap (λ (m : CoordMsg). told_to x c.tell_listed.new.out ++ bytes_to x (tells (c.args.conn ∷ []) m t).told) c.last_of_listing-message.ensures
+      ∙ ap (λ (m : CoordMsg). told_to x c.tell_listed.new.out ++ bytes_to x (tells (c.args.conn ∷ []) m t).told)
+      c.last_of_listing-message.ensures
       ∙ ap (λ (xs : List ℕ). xs ++ bytes_to x (last t)) (c.in_ok-tell_listed.ensures.told x)
       ∙ append_assoc (told_to x c.args.out.now) (bytes_to x rows) (bytes_to x (last t))
       ∙ ap (λ (xs : List ℕ). told_to x c.args.out.now ++ xs) (sym (bytes_joined x rows

@@ -26,7 +26,8 @@ returns c = record {
   told = λ x.
       let t : Table = c.args.parts.now in
       let v : Server = server_at (c.args.code.now, c.args.served.now) in
-      let said : Option Info → List Step = λ o. (given o (λ info. tells (c.args.conn ∷ []) (GcListing (listed_item v.code info ∷ []))) t).told in
+      let said : Option Info → List Step =
+      λ o. (given o (λ info. tells (c.args.conn ∷ []) (GcListing (listed_item v.code info ∷ []))) t).told in
       c.in_ok-tell.ensures.told x
       ∙ ap (λ (m : CoordMsg). told_to x c.args.out.now ++ bytes_to x (tells (c.args.conn ∷ []) m t).told) c.in_ok-message.ensures
       ∙ ap (λ (o : Option Info). told_to x c.args.out.now ++ bytes_to x (said o)) (sym c.in-Some.is)

@@ -31,7 +31,8 @@ returns-clause-ok c =
     let step : IsStepped gc.rules e gc.parts gc.outs c.advance.new.parts c.advance.new.outs =
     on_ok c.advance.result _ (sym c.is_err-2.ensures.value ∙ c.if-is_err-2.false) c.advance.ensures.ok in
     let now : IsRunning gc.rules c.add.new.self.events c.advance.new.parts c.advance.new.outs =
-    running_after gc.rules es c.add.new.self.events e gc.parts c.advance.new.parts gc.outs c.advance.new.outs c.self.invariant.0 step at in (
+    running_after gc.rules es c.add.new.self.events e gc.parts c.advance.new.parts gc.outs c.advance.new.outs c.self.invariant.0 step
+    at in (
       at ∙ ap (λ (st : CoordinatorState). st.events ++ e ∷ []) c.self.view_is,
       c.about-about.ensures ∙ ap (λ (t : Table). about t e) (now.table_is ∙ ap (table_of gc.rules) at) ∙ about_of gc.rules es e
           ∙ ap (λ (st : CoordinatorState). conn_of st.events e) c.self.view_is,
