@@ -80,11 +80,30 @@ impl Outbox {
         }
     }
 
+    /// The room in a connection's queue isn't meant for anything any more.
+    fn release_one(&mut self, conn: u32)
+        ensures { (c : ℕ) → IsAsFull (queue_of self.old c) (queue_of self.new c) }
+    {
+        if let Some(at) = self.place(conn) {
+            self.queues[at].release();
+        }
+    }
+
+    /// No room is meant for anything any more where something is told: some may be left of an event for which memory ran out.
+    fn release(&mut self, tells: &Tells)
+        ensures { (c : ℕ) → IsAsFull (queue_of self.old c) (queue_of self.new c) }
+    {
+        for tell in tells.as_slice() {
+            self.release_one(tell.conn);
+        }
+    }
+
     /// Takes room for all that is told. What waits stays as it is.
     pub(crate) fn reserve(&mut self, tells: &Tells) -> Result<(), OutOfMemory>
         ensures same { (c : ℕ) → IsAsFull (queue_of self.old c) (queue_of self.new c) }
         ensures room { OnOk result ((c : ℕ) → length (told_to c tells.now) ≤ (queue_of self.new c).spare) }
     {
+        self.release(tells);
         for tell in tells.as_slice() {
             self.reserve_one(tell.conn, tell.bytes().len())?;
         }

@@ -58,6 +58,13 @@ impl Queue {
         Ok(())
     }
 
+    /// The room that is taken isn't meant for anything any more. It is still there, so that taking it again takes no memory.
+    pub(crate) fn release(&mut self)
+        ensures { IsAsFull self.old self.new }
+    {
+        self.spare = 0;
+    }
+
     /// More bytes are told. No memory is taken.
     pub(crate) fn tell(&mut self, bytes: &[u8])
         requires room { length bytes.now ≤ self.old.spare }

@@ -5,6 +5,6 @@ use Rattle.tt_gc.proofs.outbox.Outbox.reserve.Given as goal
 
 abbrev pub invariant-loop-tell : goal.invariant-loop-tell
 invariant-loop-tell l = record {
-  same : (c : ℕ) → IsAsFull (queue_of l.initial.self c) (queue_of l.self c);
+  same : (c : ℕ) → IsAsFull (queue_of l.fn.self c) (queue_of l.self c);
   room : (c : ℕ) → length (told_to c l.tells) ≤ (queue_of l.self c).spare + length (told_to c (drop l.tell-index l.tells));
 }
