@@ -1,30 +1,27 @@
-//! The coordinator core: servers are found by codes, and a client is brought to one way by way.
+//! The coordinator core: it takes events, and tells servers and clients how they reach each other.
 //!
-//! What a list of events makes of a coordinator stands in specs/: the table (Table.antt), small steps that tell (Deed.antt),
-//! each packet's rule (PacketRules.antt), the STUN desk (Desk.antt), the rule of an event (Events.antt), and what each connection
-//! is told (Told.antt). `core_laws`, `ways_in_order` and `strangers_change_nothing` say what holds of every list; `tt_gc_rows`
-//! computes what small lists come to.
+//! `Coordinator::new` makes one that nothing has reached yet. `event` takes one event, or refuses it and changes nothing; `take` hands
+//! out what a connection is told. What events come to is told by the definitions of `tt_gc_table`, whose laws hold of every list.
 //!
-//! The core itself is not built yet. What stands is the table by its parts (`parts`, over `lines`, `registry` and `meetings`): each
-//! call finds by key and is told by the table's own words. And a plan's messages (`tells`, `words`, `hosts`, `tokens`), with what an
-//! open attempt hears as the first rule that is planned and then done (`heard`).
+//! An event is planned first: which messages it tells, made from the table as it stands (`servers`, `clients`, `desk`, `packets`,
+//! `planning`), and what is done to the table (`change`). Then room is taken for all that (`outbox`), and it is done at once.
 #![tactic(auto)]
 
-mod heard;
-mod hosts;
-mod laws;
-mod lines;
-mod meetings;
-mod parts;
-mod registry;
-mod setup;
-mod tells;
-mod tokens;
-mod words;
+mod advance;
+mod change;
+mod clients;
+mod coordinator;
+mod desk;
+mod outbox;
+mod packets;
+mod planning;
+mod queue;
+mod rules;
+mod servers;
 
-pub use laws::{
-    a_bad_packet_ends_its_own_connection, a_code_has_one_server, a_code_is_its_owners,
+pub use coordinator::Coordinator;
+pub use tt_gc_table::{
+    GcSetup, a_bad_packet_ends_its_own_connection, a_code_has_one_server, a_code_is_its_owners,
     all_is_over_exactly_then, core_laws, only_asked_servers_are_listed, strangers_change_nothing,
     ways_in_order,
 };
-pub use setup::GcSetup;

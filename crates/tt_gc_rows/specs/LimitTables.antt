@@ -3,9 +3,9 @@ use Rattle.std.specs.Prelude.{ℕ, false, true, [], ◌∷◌, codes, replicate,
 use Rattle.tt_edge.specs.declared.event.Peer.{Peer}
 use Rattle.tt_edge.specs.declared.event.Event.{Event}
 use Rattle.tt_attempts.specs.declared.attempt.Stage.TheVariants.{TryingDirect}
-use Rattle.tt_gc.specs.Table.{Table, Server, End, Meeting, first, is_live}
-use Rattle.tt_gc.specs.Events.{stepped}
-use Rattle.tt_gc.specs.Told.{told}
+use Rattle.tt_gc_table.specs.Table.{Table, Server, End, Meeting, first, is_live}
+use Rattle.tt_gc_table.specs.Events.{stepped}
+use Rattle.tt_gc_table.specs.Told.{told}
 use Rattle.tt_gc_rows.specs.Words.{plain, Line}
 
 abbrev pub peer : Peer

@@ -7,9 +7,9 @@ use Rattle.tt_edge.specs.declared.event.Event.{Event}
 use Rattle.tt_edge.specs.declared.event.Event.TheVariants.{Open, Packet}
 use Rattle.tt_edge.specs.Event as edge
 use Rattle.tt_attempts.specs.declared.attempt.Heard.{Heard}
-use Rattle.tt_gc.specs.declared.setup.GcSetup.{GcSetup}
-use Rattle.tt_gc.specs.Told.{sent, is_live, is_over}
-use Rattle.tt_gc.specs.Ways.{ways, hearings}
+use Rattle.tt_gc_table.specs.declared.setup.GcSetup.{GcSetup}
+use Rattle.tt_gc_table.specs.Told.{sent, is_live, is_over}
+use Rattle.tt_gc_table.specs.Ways.{ways, hearings}
 
 -- ---- bytes
 

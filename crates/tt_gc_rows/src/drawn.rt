@@ -1,7 +1,7 @@
 //! Codes, counted and drawn. This function does nothing: its contract is computed.
 ghost use Rattle.std.specs.Prelude.{◌≡◌, [], ◌∷◌, codes};
-ghost use Rattle.tt_gc.specs.Table.{first};
-ghost use Rattle.tt_gc.specs.Codes.{next_code, new_code};
+ghost use Rattle.tt_gc_table.specs.Table.{first};
+ghost use Rattle.tt_gc_table.specs.Codes.{next_code, new_code};
 ghost use Rattle.tt_gc_rows.specs.Words.{plain};
 
 /// The last character counts fastest, and the codes wrap. Where the code that is drawn was drawn before, the next one that wasn't

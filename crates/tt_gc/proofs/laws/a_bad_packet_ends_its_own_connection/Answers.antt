@@ -1,5 +1,0 @@
-use Rattle.tt_gc.proofs.OneConnection.{bad_packet}
-use Rattle.tt_gc.proofs.laws.a_bad_packet_ends_its_own_connection.Goals as goal
-
-pub returns : goal.returns
-returns c = bad_packet

@@ -1,5 +1,0 @@
-use Rattle.tt_gc.proofs.CodesLaws.{code_owned}
-use Rattle.tt_gc.proofs.laws.a_code_is_its_owners.Goals as goal
-
-pub returns : goal.returns
-returns c = code_owned

@@ -1,5 +1,0 @@
-use Rattle.tt_gc.proofs.ListingLaws.{listing_steps}
-use Rattle.tt_gc.proofs.laws.only_asked_servers_are_listed.Goals as goal
-
-pub returns : goal.returns
-returns c = listing_steps

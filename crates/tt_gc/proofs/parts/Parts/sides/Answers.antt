@@ -1,7 +1,0 @@
-use Rattle.std.proofs.Common.{sym, ap, ◌∙◌}
-use Rattle.tt_gc.specs.Table.{live_sides}
-use Rattle.tt_gc.proofs.LinesLaws.{sides_live}
-use Rattle.tt_gc.proofs.parts.Parts.sides.Goals as goal
-
-pub returns : goal.returns
-returns c = c.sides.ensures ∙ sym (sides_live c.self.inside.lines.lines) ∙ ap live_sides c.self.view_is

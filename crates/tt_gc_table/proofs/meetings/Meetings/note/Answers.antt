@@ -1,0 +1,69 @@
+use Rattle.std.proofs.Common.{◌≡◌, ℕ, map, cond, List, Option, Some, sym, subst, ap, ◌∙◌}
+use Rattle.std.specs.Prelude.{find}
+use Rattle.tt_gc_table.specs.Table.{Meeting, is_for}
+use Rattle.tt_gc_table.specs.Parts.{IsBegun}
+use Rattle.tt_gc_table.specs.OpenAttempts.{meetings_of, IsNumbered}
+use Rattle.tt_gc_table.specs.Desk.{with_note}
+use Rattle.tt_gc_table.proofs.Numbers.{nowhere}
+use Rattle.tt_gc_table.proofs.ByToken.{Looked, missing, nobody, changed_here, begun_set, numbered_set, same_token}
+use Rattle.tt_gc_table.proofs.meetings.Meetings.note.Goals as goal
+
+pub returns-in_default-clause-meetings : goal.returns-in_default-clause-meetings
+returns-in_default-clause-meetings c = λ m some.
+    nobody (find (is_for c.args.token.now) (meetings_of c.args.self.now)) m (subst (λ (es : List (ℕ × Meeting)).
+    find (is_for c.args.token.now) (meetings_of es) ≡ Option.None) c.self.view_is (nowhere c.args.token.now c.in_default.ensures.none
+    c.self.inside.by_number.entries c.self.invariant.0)) some
+
+pub returns-in_default-get_mut-clause-meetings : goal.returns-in_default-get_mut-clause-meetings
+returns-in_default-get_mut-clause-meetings c = λ m some.
+    let l : Looked c.args.token.now c.in-Some.number c.self.inside.by_number.entries =
+    record {
+      small = c.in-Some.ensures.small;
+      digits = c.in-Some.ensures.found;
+      numbered = c.self.invariant.0;
+      sorted = c.self.invariant.1;
+    } in
+    nobody (find (is_for c.args.token.now) (meetings_of c.args.self.now)) m (subst (λ (es : List (ℕ × Meeting)).
+    find (is_for c.args.token.now) (meetings_of es) ≡ Option.None) c.self.view_is (missing c.args.token.now c.in-Some.number
+    c.self.inside.by_number.entries l (sym c.in_default-get_mut.ensures.value))) some
+
+pub invariant_of-self-2 : goal.invariant_of-self-2
+invariant_of-self-2 c =
+    let v : Meeting = c.in-Some-get_mut.meeting.now in
+    let w : Meeting = c.note.new.self in (
+      subst IsNumbered (sym (c.get_mut.follows.holds w).0) (numbered_set c.in-Some.number c.self.inside.by_number.entries v w
+          (sym c.in-Some-get_mut.ensures.value) (ap (λ (m : Meeting). m.token) c.note.ensures ∙ same_token c.args.side c.args.peer v)
+          c.self.invariant.0),
+      (c.get_mut.follows.holds w).4,
+    )
+
+pub returns-clause-meetings : goal.returns-clause-meetings
+returns-clause-meetings c =
+    let l : Looked c.args.token.now c.in-Some.number c.self.inside.by_number.entries =
+    record {
+      small = c.in-Some.ensures.small;
+      digits = c.in-Some.ensures.found;
+      numbered = c.self.invariant.0;
+      sorted = c.self.invariant.1;
+    } in
+    let v : Meeting = c.in-Some-get_mut.meeting.now in
+    let w : Meeting = c.note.new.self in
+    subst (λ (es : List (ℕ × Meeting)). (m : Meeting) → find (is_for c.args.token.now) (meetings_of es) ≡ Some m
+    → meetings_of (c.get_mut.follows.lender w).entries ≡ map (λ x. cond (is_for c.args.token.now x)
+    (with_note c.args.side c.args.peer x) x) (meetings_of es)) c.self.view_is
+    (λ m some. ap meetings_of (c.get_mut.follows.holds w).0
+    ∙ changed_here c.args.token.now c.in-Some.number c.self.inside.by_number.entries v w m (with_note c.args.side c.args.peer) l
+    (sym c.in-Some-get_mut.ensures.value) some c.note.ensures)
+
+pub returns-in_default-clause-begun : goal.returns-in_default-clause-begun
+returns-in_default-clause-begun c = λ last begun. subst (IsBegun last) (sym c.self.view_is) begun
+
+pub returns-in_default-get_mut-clause-begun : goal.returns-in_default-get_mut-clause-begun
+returns-in_default-get_mut-clause-begun c = λ last begun.
+    subst (λ m. IsBegun last m.entries) (sym c.get_mut.follows.holds-at-none) (subst (IsBegun last) (sym c.self.view_is) begun)
+
+pub returns-clause-begun : goal.returns-clause-begun
+returns-clause-begun c = λ last begun.
+    let w : Meeting = c.note.new.self in
+    subst (IsBegun last) (sym (c.get_mut.follows.holds w).0) (begun_set c.in-Some.number last c.self.inside.by_number.entries w
+    (subst (IsBegun last) (sym c.self.view_is) begun))

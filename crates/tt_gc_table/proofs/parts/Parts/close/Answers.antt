@@ -1,0 +1,15 @@
+use Rattle.std.proofs.Common.{◌≡◌, List, Some, ap, subst}
+use Rattle.tt_gc_table.specs.contracts.parts.Parts.{the_view}
+use Rattle.tt_gc_table.specs.Table.{Table, Meeting, meeting_of, without_meeting}
+use Rattle.tt_gc_table.specs.OpenAttempts.{meetings_of}
+use Rattle.tt_gc_table.proofs.parts.Parts.close.Goals as goal
+
+pub invariant_of-self : goal.invariant_of-self
+invariant_of-self c = (c.self.invariant.0, c.close.ensures.begun c.self.inside.begun c.self.invariant.1, c.self.invariant.2)
+
+pub returns : goal.returns
+returns c =
+    let t : Table = the_view c.self.inside in
+    let now : Table = record t { meetings = meetings_of c.close.new.self } in
+    subst (λ (t : Table). (m : Meeting) → meeting_of t c.args.token.now ≡ Some m → now ≡ without_meeting c.args.token.now t)
+    c.self.view_is (λ m some. ap (λ (ms : List Meeting). record t { meetings = ms }) (c.close.ensures.meetings m some))
