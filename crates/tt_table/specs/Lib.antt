@@ -1,0 +1,4 @@
+pub mod Change
+pub mod Held
+pub mod Does
+pub mod Ending
