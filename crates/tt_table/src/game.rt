@@ -1,17 +1,21 @@
 //! A game: its events, its table by parts, and its world.
-ghost use Rattle.std.specs.Prelude.{◌≡◌, ◌≤◌, ◌&&◌, not, [], IfOk, length};
+ghost use Rattle.std.specs.Prelude.{◌≡◌, ◌+◌, [], false, find, is_some, length};
 ghost use Rattle.tt_edge.specs.Event.{conn_of, opens};
 ghost use Rattle.tt_world.specs.Setup.{Fits};
-ghost use Rattle.tt_log.specs.Events.{names_live, takes};
-ghost use Rattle.tt_log.specs.Table.{is_live, world_of};
-ghost use Rattle.tt_table.specs.Held.{table};
+ghost use Rattle.tt_log.specs.Events.{names_live};
+ghost use Rattle.tt_log.specs.Table.{admin_of, is_admin_on, is_live, is_on, living_in, member_of, world_of};
+ghost use Rattle.tt_log.specs.Tick.{left_of};
+ghost use Rattle.tt_members.specs.Rules.{Rise};
+ghost use Rattle.tt_table.specs.Held.{left_in, table};
 
 use std::alloc::Global;
 use std::marker::Model;
-use tt_admin_desk::Desk;
+use tt_admin_desk::{Admin, Desk};
 use tt_edge::{Event, Record};
-use tt_join::Members;
+use tt_join::{Members, Now};
+use tt_members::{Member, place_of};
 use tt_outgoing::Download;
+use tt_rules::Live;
 use tt_world::{Entry, Setup, World};
 
 /// A game. Contracts see what it was made from and the events that it has taken; all else follows from these. They also see the
@@ -145,6 +149,22 @@ impl Game {
         &self.history
     }
 
+    /// Whether a member is on a connection.
+    pub(crate) fn has_member(&self, conn: u32) -> bool
+        requires going { (table self.now).over ≡ false }
+        ensures has { result ≡ is_some (member_of (table self.now) conn) }
+    {
+        is_member(self.members.all(), conn)
+    }
+
+    /// Whether an admin is on a connection.
+    pub(crate) fn has_admin(&self, conn: u32) -> bool
+        requires going { (table self.now).over ≡ false }
+        ensures has { result ≡ is_some (admin_of (table self.now) conn) }
+    {
+        is_admin(self.desk.all(), conn)
+    }
+
     /// Whether a connection was opened and has not ended.
     pub fn live(&self, conn: u32) -> bool
         ensures live { result ≡ is_live (table self.now) conn }
@@ -164,15 +184,77 @@ impl Game {
         }
     }
 
+    /// The connection that is opened next.
+    pub(crate) fn next_opening(&self) -> u32
+        requires going { (table self.now).over ≡ false }
+        ensures next { result ≡ (table self.now).openings + 1 }
+        ensures opened { result ≡ opens self.now.events + 1 }
+    {
+        self.openings + 1
+    }
+
     /// The connection that an event is about; 0 for a tick and a stop.
     pub fn about(&self, event: &Event) -> u32
         requires going { (table self.now).over ≡ false }
         ensures conn { result ≡ conn_of self.now.events event.now }
     {
         match event {
-            Event::Open { .. } => self.openings + 1,
+            Event::Open { .. } => self.next_opening(),
             Event::Packet { conn, .. } | Event::Broken { conn } | Event::Shut { conn } => *conn,
             Event::Tick | Event::Stop => 0,
         }
+    }
+
+    /// The time, and what of the world the members look at.
+    pub(crate) fn now(&self) -> Now
+        requires going { (table self.now).over ≡ false }
+        ensures frame { result.frame ≡ (table self.now).frame }
+        ensures top { result.top ≡ (table self.now).top }
+        ensures live { result.live ≡ living_in self.now.origin (table self.now) }
+        ensures many { length result.live ≡ 15 }
+        ensures left { result.left ≡ length (left_of self.now.origin (table self.now)) }
+    {
+        Now {
+            frame: self.frame,
+            top: self.top,
+            live: Live::of(&self.world),
+            left: left_in(&self.download),
+        }
+    }
+}
+
+/// Whether a member is on a connection.
+fn is_member(members: &[Member], conn: u32) -> bool
+    requires rise { Rise members.now }
+    ensures is { result ≡ is_some (find (is_on conn) members.now) }
+{
+    match place_of(members, conn) {
+        Some(at) => {
+            let _member = &members[at];
+            true
+        }
+        None => false,
+    }
+}
+
+/// Whether an admin is on a connection.
+fn is_admin(admins: &[Admin], conn: u32) -> bool
+    ensures is { result ≡ is_some (find (is_admin_on conn) admins.now) }
+{
+    for admin in admins.iter() {
+        if admin.conn == conn {
+            return true;
+        }
+    }
+    false
+}
+
+/// How many bytes of a download were not told yet; 0 where none runs.
+fn left_in(download: &Option<Download>) -> u32
+    ensures left { result ≡ length (left_in download.now) }
+{
+    match download {
+        Some(download) => download.left(),
+        None => 0,
     }
 }

@@ -12,6 +12,7 @@
 //! ```
 #![tactic(auto)]
 
+mod answers;
 mod asides;
 mod change;
 mod frames;

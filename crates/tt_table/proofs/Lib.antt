@@ -1,0 +1,10 @@
+pub mod Oks
+pub mod Paid
+pub mod Playing
+pub mod Coming
+pub mod Reserved
+pub mod Inputs
+pub mod Admins
+pub mod Says
+pub mod ClientLines
+pub mod AnswerLists
