@@ -46,6 +46,9 @@ pub record Left (start : Waiting) (all : List Packet) (now : Waiting) (rest : Li
   pub parts : parts_in rest ≤ now.parts
   pub told : (c : ℕ) → 1 ≤ c → c ≤ opened start → list_of now c ++ bytes_for c rest ≡ list_of start c ++ bytes_for c all
   pub same : opened now ≡ opened start
+  -- what was spare at the start is spare still, but for what was put
+  pub spare_bytes : start.bytes + bytes_in rest ≤ now.bytes + bytes_in all
+  pub spare_parts : start.parts + parts_in rest ≤ now.parts + parts_in all
 
 -- what `share` does with the first of them
 pub record Shared (now after : Waiting) (p : Packet) : Type 0 where
@@ -66,6 +69,8 @@ left_shared start all now after p rest was does = record {
       ∙ ap (λ (l : List ℕ). (list_of now c ++ l) ++ bytes_for c rest) (told_once p.to c p.bytes was.each.0.distinct)
       ∙ append_assoc (list_of now c) b (bytes_for c rest) ∙ was.told c low high;
   same = does.same ∙ was.same;
+  spare_bytes = omega (arith, was.spare_bytes, does.bytes);
+  spare_parts = omega (arith, was.spare_parts, does.parts);
 }
 
 pub left_step : (start now after : Waiting) (all : List Packet) (cuts more : List Cut) (c : Cut) (conns bytes to packet others rest : List

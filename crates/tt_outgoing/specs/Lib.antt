@@ -3,3 +3,4 @@ pub mod Outgoing
 pub mod Staging
 pub mod Sources
 pub mod Companies
+pub mod Carrying

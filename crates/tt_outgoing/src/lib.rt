@@ -21,7 +21,7 @@ mod staged;
 mod staging;
 
 pub use download::Download;
-pub use laws::{packets_are_told, packets_may_be_told};
+pub use laws::{a_download_goes_on, all_may_be_told, packets_are_told, packets_may_be_told};
 pub use outs::Outs;
 pub use sources::Sources;
 pub use staged::Staged;

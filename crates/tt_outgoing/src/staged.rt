@@ -109,6 +109,8 @@ impl Staged {
         requires parts { parts_in self.now ≤ outs.old.parts }
         ensures told { (c : ℕ) → 1 ≤ c → c ≤ opened outs.old → list_of outs.new c ≡ list_of outs.old c ++ bytes_for c self.now }
         ensures opened { opened outs.new ≡ opened outs.old }
+        ensures spare_bytes { outs.old.bytes ≤ outs.new.bytes + bytes_in self.now }
+        ensures spare_parts { outs.old.parts ≤ outs.new.parts + parts_in self.now }
     {
         let cuts = self.cuts.as_slice();
         let mut conns = self.conns.as_slice();
