@@ -2,3 +2,4 @@ pub mod Change
 pub mod Held
 pub mod Does
 pub mod Ending
+pub mod Frames
