@@ -41,9 +41,9 @@ pub due_is : (o : Origin) (journal left stamped : List Entry) (past frame : ℕ)
 due_is o journal left stamped past frame rise is next =
     let rest : List Entry = above o past journal in
     let first : for_frame frame (front frame left) ≡ at_frame o frame journal =
-        ap (λ (es : List Entry). for_frame frame (front frame es)) is
-        ∙ front_is o 0 frame rest (AreRising-above (game_of o) 0 past journal rise)
-        ∙ for_frame_is o frame rest
-        ∙ of_frame-above (game_of o) past frame journal next
+    ap (λ (es : List Entry). for_frame frame (front frame es)) is
+    ∙ front_is o 0 frame rest (AreRising-above (game_of o) 0 past journal rise)
+    ∙ for_frame_is o frame rest
+    ∙ of_frame-above (game_of o) past frame journal next
     in
     ap₂ (λ (xs ys : List Entry). xs ++ ys) first (for_frame_is o frame stamped) ∙ sym (of_frame-append (game_of o) frame journal stamped)

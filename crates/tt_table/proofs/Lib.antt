@@ -1,1 +1,6 @@
 pub mod Due
+pub mod Running
+pub mod Limits
+pub mod Days
+pub mod Ticks
+pub mod Beaten

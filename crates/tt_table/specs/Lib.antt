@@ -3,3 +3,4 @@ pub mod Held
 pub mod Does
 pub mod Ending
 pub mod Frames
+pub mod Ticking

@@ -11,6 +11,7 @@ returns c = record {
       let stamped : List Entry = for_frame c.args.frame (stamped_in c.args.steps.now) in
       let waited : List Entry = for_frame c.args.frame (front c.args.frame c.args.left.now) in
       c.in_ok-add_stamped.ensures.due
-      ∙ ap (λ (xs : List Entry). xs ++ stamped) (c.in_ok-add_front.ensures.due ∙ ap (λ (xs : List Entry). xs ++ waited) c.new-due.ensures.items)
+      ∙ ap (λ (xs : List Entry). xs ++ stamped) (c.in_ok-add_front.ensures.due
+      ∙ ap (λ (xs : List Entry). xs ++ waited) c.new-due.ensures.items)
       ∙ due_is o journal c.args.left.now (stamped_in c.args.steps.now) past c.args.frame rise is next;
 }
