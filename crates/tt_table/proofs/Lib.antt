@@ -8,3 +8,9 @@ pub mod Admins
 pub mod Says
 pub mod ClientLines
 pub mod AnswerLists
+pub mod Due
+pub mod Running
+pub mod Limits
+pub mod Days
+pub mod Ticks
+pub mod Beaten

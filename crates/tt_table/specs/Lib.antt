@@ -3,3 +3,5 @@ pub mod Held
 pub mod Does
 pub mod Ending
 pub mod Coming
+pub mod Frames
+pub mod Ticking

@@ -18,6 +18,7 @@ mod change;
 mod frames;
 mod game;
 mod hearing;
+mod needs;
 mod planning;
 mod putting;
 mod staging;
