@@ -1,0 +1,16 @@
+pub mod Oks
+pub mod Paid
+pub mod Playing
+pub mod Coming
+pub mod Reserved
+pub mod Inputs
+pub mod Admins
+pub mod Says
+pub mod ClientLines
+pub mod AnswerLists
+pub mod Due
+pub mod Running
+pub mod Limits
+pub mod Days
+pub mod Ticks
+pub mod Beaten
