@@ -2,3 +2,5 @@ pub mod Change
 pub mod Held
 pub mod Does
 pub mod Ending
+pub mod Putting
+pub mod Telling

@@ -1,0 +1,13 @@
+pub mod Journals
+pub mod Sixteen
+pub mod Clocks
+pub mod Recalls
+pub mod Counts
+pub mod Passwords
+pub mod Behind
+pub mod AtHand
+pub mod Seats
+pub mod Paid
+pub mod PutFacts
+pub mod Stagings
+pub mod StageFacts
