@@ -164,7 +164,8 @@ change-at-hand o e t c s is are rising =
     let none : is_tick e ≡ true → recalls (steps_of c) ≡ false = λ so. no-recalls t.admins (steps_of c)
     (subst AreNoRecalls (sym is.does.told) (calm-at o e t so)) in
     steps-at-hand o t u c s are (steps_of c) (record {
-      world_is = λ need. are.world ∙ world-behind (is_tick e) c.behind o t u (need_world (steps_of c)) (run-by o e t) is.behind is.needed need;
+      world_is = λ need. are.world
+          ∙ world-behind (is_tick e) c.behind o t u (need_world (steps_of c)) (run-by o e t) is.behind is.needed need;
       size_is = λ begins. are.size ∙ size-begun c.download o u (begins_map (steps_of c)) is.begins is.begun begins;
       word_is = λ told. are.word told;
       journal_is = λ recalled. (are.journal ∙ journal-by (is_tick e) o t u (recalls (steps_of c)) (run-by o e t) none recalled, rising);

@@ -1,5 +1,6 @@
 -- What a game holds behind an event, where its change was put in force.
-use Rattle.std.proofs.Common.{◌≡◌, ℕ, ◌+◌, ◌≤◌, ◌<◌, Bool, true, false, List, [], ◌∷◌, ◌++◌, Option, Some, None, arith, length, refl, ap, sym}
+use Rattle.std.proofs.Common.{◌≡◌, ℕ, ◌+◌, ◌≤◌, ◌<◌, Bool, true, false, List, [], ◌∷◌, ◌++◌, Option, Some, None}
+use Rattle.std.proofs.Common.{arith, length, refl, ap, sym}
 use Rattle.std.proofs.Common.{◌∙◌, append-nil, subst}
 use Rattle.std.specs.Prelude.{◌^◌, ◌==◌, ◌||◌, drop, fold, if◌then◌else◌, is_some, map, nat_le}
 use Rattle.std.proofs.lemmas.List.{length-append}
@@ -136,7 +137,8 @@ clock-by true o t u due h k runs held is near rising carried frame top world =
     let next : u.frame ≡ t.frame + 1 = runs.frame in
     let place : IsNextPlace o t.frame h.carried u.journal =
     subst (λ (xs : List Entry). IsNextPlace o t.frame h.carried xs) (sym runs.journal) (carried-on o t.frame h.carried t.journal (stamps t)
-    (subst (λ (xs : List Entry). IsJournal o xs) runs.journal rising) (AreAbove-less (game_of o) t.frame t.top (stamps t) (stamps-above o t) near) held.some held.carried) in
+    (subst (λ (xs : List Entry). IsJournal o xs) runs.journal rising)
+    (AreAbove-less (game_of o) t.frame t.top (stamps t) (stamps-above o t) near) held.some held.carried) in
     let now : due ≡ at_frame o (t.frame + 1) u.journal = is ∙ ap (λ (f : ℕ). at_frame o f u.journal) next in
     let at : k.carried ≡ h.carried + length (at_frame o (t.frame + 1) u.journal) =
     carried ∙ ap (λ (xs : List Entry). h.carried + length xs) now in
@@ -152,7 +154,8 @@ clock-by true o t u due h k runs held is near rising carried frame top world =
 clock-by false o t u due h k runs held is near rising carried frame top world =
     let at : k.carried ≡ h.carried = carried ∙ ap (λ (xs : List Entry). h.carried + length xs) is ∙ omega arith in
     let same : drop h.carried u.journal ≡ above o u.frame u.journal =
-    ap (λ (xs : List Entry). drop h.carried xs) runs.journal ∙ held.carried ∙ ap (λ (xs : List Entry). above o t.frame xs) (sym runs.journal)
+    ap (λ (xs : List Entry). drop h.carried xs) runs.journal ∙ held.carried
+    ∙ ap (λ (xs : List Entry). above o t.frame xs) (sym runs.journal)
     ∙ ap (λ (f : ℕ). above o f u.journal) (sym runs.frame) in
     record {
       carried = ap (λ (n : ℕ). drop n u.journal) at ∙ same;
@@ -323,7 +326,8 @@ module _ (o : Origin) (es : List Event) (e : Event) (c : Change) (h k : Held) wh
       let t : Table = table_of o es in
       ap (λ (x : Crew). conns_where k.over (λ (m : Member). m.conn) x.members) ruled.alive.crew
       ∙ where-conns k.over (λ (m : Member). m.conn) (by_event o e t).table.members
-      ∙ ap (λ (b : Bool). if b then map (λ (m : Member). m.conn) (by_event o e t).table.members else []) (over-behind o es e c h k ruled is put)
+      ∙ ap (λ (b : Bool). if b then map (λ (m : Member). m.conn) (by_event o e t).table.members else [])
+      (over-behind o es e c h k ruled is put)
 
   pub admins-told : IsRuled o (charged e (by_event o e (table_of o es)).table).table k → IsChange o e (table_of o es) c → IsPut o e c h k
       → conns_where k.over (λ (a : Admin). a.conn) k.admins ≡ ended_admins o e (table_of o es)
@@ -331,4 +335,5 @@ module _ (o : Origin) (es : List Event) (e : Event) (c : Change) (h k : Held) wh
       let t : Table = table_of o es in
       ap (λ (xs : List Admin). conns_where k.over (λ (a : Admin). a.conn) xs) ruled.alive.admins
       ∙ where-conns k.over (λ (a : Admin). a.conn) (by_event o e t).table.admins
-      ∙ ap (λ (b : Bool). if b then map (λ (a : Admin). a.conn) (by_event o e t).table.admins else []) (over-behind o es e c h k ruled is put)
+      ∙ ap (λ (b : Bool). if b then map (λ (a : Admin). a.conn) (by_event o e t).table.admins else [])
+      (over-behind o es e c h k ruled is put)

@@ -50,7 +50,8 @@ pub world-same : (o : Origin) (t u : Table) → SameClock t u → world_of o u �
 world-same o t u same = ap (λ (xs : List Entry). world_at o xs u.frame) same.journal ∙ ap (λ (f : ℕ). world_at o t.journal f) same.frame
 
 -- the greatest permitted frame
-pub top-ticked : (o : Origin) (t u : Table) → Ticked o t u → u.top ≡ cond (nat_lt t.top (t.frame + 1)) (t.frame + 1 + o.setup.frame_freq) t.top
+pub top-ticked : (o : Origin) (t u : Table) → Ticked o t u
+    → u.top ≡ cond (nat_lt t.top (t.frame + 1)) (t.frame + 1 + o.setup.frame_freq) t.top
 top-ticked o t u is = by is.top
   where
     by : ((t.top < t.frame + 1) × (u.top ≡ t.frame + 1 + o.setup.frame_freq)) ⊎ ((t.frame + 1 ≤ t.top) × (u.top ≡ t.top))

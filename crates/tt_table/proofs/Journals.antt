@@ -87,7 +87,8 @@ up_to-front o f es i d is le some low =
     subst (λ (k : ℕ). AreUpTo (game_of o) f (take k es)) next (up_to-take o 0 f es (i - 1) d is (omega (arith, le, some)) low)
 
 -- those in front of entries that are all above a frame have all of the frame
-pub at_front : (o : Origin) (f : ℕ) (es : List Entry) (i : ℕ) → AreAbove (game_of o) f (drop i es) → at_frame o f (take i es) ≡ at_frame o f es
+pub at_front : (o : Origin) (f : ℕ) (es : List Entry) (i : ℕ) → AreAbove (game_of o) f (drop i es)
+    → at_frame o f (take i es) ≡ at_frame o f es
 at_front o f es i high =
     let none : at_frame o f (drop i es) ≡ [] = none_of_frame (game_of o) f f (drop i es) high (omega arith) in
     sym (append-nil (at_frame o f (take i es))) ∙ ap (λ (xs : List Entry). at_frame o f (take i es) ++ xs) (sym none)

@@ -18,7 +18,8 @@ pub found-any : (c : ℕ) (ds : List (ℕ × List ℕ)) → is_some (find (is_of
 found-any c [] = refl
 found-any c (d ∷ ds) = by (is_of c d) (found-any c ds)
   where
-    by : (b : Bool) → is_some (find (is_of c) ds) ≡ list_any (is_of c) ds → is_some (cond b (Some d) (find (is_of c) ds)) ≡ (b || list_any (is_of c) ds)
+    by : (b : Bool) → is_some (find (is_of c) ds) ≡ list_any (is_of c) ds
+        → is_some (cond b (Some d) (find (is_of c) ds)) ≡ (b || list_any (is_of c) ds)
     by true rest = refl
     by false rest = rest
 
@@ -31,7 +32,8 @@ gone c (d ∷ ds) = by (is_of c d) refl (gone c ds)
     by true is rest = rest
     by false is rest = ap (λ (b : Bool). b || list_any (is_of c) (filter (λ d. not (is_of c d)) ds)) is ∙ rest
 
-others : (c n : ℕ) (ds : List (ℕ × List ℕ)) → (c == n) ≡ false → list_any (is_of n) (filter (λ d. not (is_of c d)) ds) ≡ list_any (is_of n) ds
+others : (c n : ℕ) (ds : List (ℕ × List ℕ)) → (c == n) ≡ false
+    → list_any (is_of n) (filter (λ d. not (is_of c d)) ds) ≡ list_any (is_of n) ds
 others c n [] apart = refl
 others c n (d ∷ ds) apart = by (is_of c d) refl (others c n ds apart)
   where

@@ -20,7 +20,8 @@ use Rattle.tt_log.specs.PacketRules.{moves}
 use Rattle.tt_log.specs.Polls.{admins_told}
 use Rattle.tt_log.specs.Queue.{begins, begins_for, begins_where, leaves_queue, left_place, moved_up, waits}
 use Rattle.tt_log.specs.Table.{Table, admin_of, downloader, member_of, member_with, with_member, world_of, without_member}
-use Rattle.tt_log.specs.Tick.{all_moved, each_limited, finishes_map, foundings, founders_moved, frame_follows, frame_runs, frame_runs_by, late, left_of, limited}
+use Rattle.tt_log.specs.Tick.{all_moved, each_limited, finishes_map, foundings, founders_moved, frame_follows, frame_runs}
+use Rattle.tt_log.specs.Tick.{frame_runs_by, late, left_of, limited}
 use Rattle.tt_log.specs.Tick.{mapped, next_pieces, pieces_of, stamped, stamps, synced, ticked, timed}
 use Rattle.tt_log.specs.Watching.{sees_frame}
 use Rattle.tt_log.specs.Origin.{at_frame}

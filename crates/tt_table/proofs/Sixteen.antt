@@ -11,7 +11,8 @@ use Rattle.tt_log.specs.Desk.{admin_arrives, counted_aside, most_admins}
 use Rattle.tt_log.specs.Events.{arrives, by_event, counted_in}
 use Rattle.tt_log.specs.Origin.{Origin}
 use Rattle.tt_log.specs.Table.{Table, is_admin_on}
-use Rattle.tt_log.proofs.Walk.{Base, Doors, Moves, Ticks, Turns, Walk, behind-of, ahead-of, of-asks, of-enters, of-leaves, of-still, of-ticked, running}
+use Rattle.tt_log.proofs.Walk.{Base, Doors, Moves, Ticks, Turns, Walk, behind-of, ahead-of, of-asks, of-enters, of-leaves, of-still}
+use Rattle.tt_log.proofs.Walk.{of-ticked, running}
 
 abbrev Few : Table → List Step → Table → Type 0
 Few t steps u = length t.admins ≤ 16 → length u.admins ≤ 16

@@ -35,7 +35,8 @@ frame-by : (b : Bool) (o : Origin) (t u : Table) → IsRunBy b o t u → one_mor
 frame-by true o t u runs = sym runs.frame
 frame-by false o t u runs = sym runs.frame
 
-world-by : (b : Bool) (o : Origin) (t u : Table) → IsRunBy b o t u → t.frame ≤ t.top → ran_where b o (world_of o t) (due_by b o u) ≡ world_of o u
+world-by : (b : Bool) (o : Origin) (t u : Table) → IsRunBy b o t u → t.frame ≤ t.top
+    → ran_where b o (world_of o t) (due_by b o u) ≡ world_of o u
 world-by true o t u runs near = sym (world-ticked o t u runs near)
 world-by false o t u runs near = sym (world-same o t u runs)
 

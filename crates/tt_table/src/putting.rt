@@ -1,5 +1,6 @@
 //! A change is put in force.
-ghost use Rattle.std.specs.Prelude.{◌≡◌, ◌≤◌, ◌<◌, ◌+◌, ◌-◌, ◌^◌, ◌++◌, ◌∷◌, ◌||◌, ◌==◌, [], drop, nat_le, true, OnOk, OnErr, length, map, vec_capacity, vec_len};
+ghost use Rattle.std.specs.Prelude.{◌≡◌, ◌≤◌, ◌<◌, ◌+◌, ◌-◌, ◌^◌, ◌++◌, ◌∷◌, ◌||◌, ◌==◌, [], drop, nat_le, true, OnOk, OnErr, length};
+ghost use Rattle.std.specs.Prelude.{map, vec_capacity, vec_len};
 ghost use Rattle.tt_edge.specs.Event.{event_cost, is_open};
 ghost use Rattle.tt_log.specs.Events.{last_frame, takes};
 ghost use Rattle.tt_log.specs.Origin.{Origin};
@@ -44,7 +45,11 @@ impl Model for Ends {
 
     ghost Value = { Ended };
 
-    ghost view = { λ e. record { members = e.members.items; admins = e.admins.items; room = min (vec_capacity e.members) (vec_capacity e.admins) } };
+    ghost view = { λ e. record {
+      members = e.members.items;
+      admins = e.admins.items;
+      room = min (vec_capacity e.members) (vec_capacity e.admins);
+    } };
 }
 
 impl Ends {

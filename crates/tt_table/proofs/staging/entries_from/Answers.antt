@@ -17,6 +17,7 @@ returns c =
                 at_last o c.args.frame j first w.index-journal-first.result is up c.loop-first.invariant.0 w.loop-first-test.true
                 w.if-journal-first.false
             | else-loop-first-test w ↦
-                let none : first ≡ 0 = omega (arith, w.loop-first-test.false) in ap (λ (i : ℕ). at_frame o c.args.frame (drop i j)) (sym none)
+                let none : first ≡ 0 = omega (arith, w.loop-first-test.false) in
+                ap (λ (i : ℕ). at_frame o c.args.frame (drop i j)) (sym none)
           ]);
     }

@@ -16,7 +16,8 @@ returns c =
     let two = c.stage_plan.new.staged in
     let new = c.stage_all-2.new.self in
     record {
-      told = on_ok c.stage_all-2.result (λ last o es e h taken game is are same. stage-told o es e change h s admins old new taken game is are same
+      told = on_ok c.stage_all-2.result (λ last o es e h taken game is are same.
+          stage-told o es e change h s admins old new taken game is are same
           (λ f. adds-both o f s admins change.first (steps_by change.plan ++ change.last) old one new
           (subst (λ (xs : List Step). Adds o f s admins xs old one) c.list.ensures.steps (c.in_ok-stage_all.ensures.staged o f))
           (adds-both o f s admins (steps_by change.plan) change.last one two new (c.in_ok-stage_plan.ensures.staged o f)

@@ -8,7 +8,8 @@ use Rattle.tt_table.proofs.game.Game.most_ends.Goals as goal
 pub returns-clause-members : goal.returns-clause-members
 returns-clause-members c =
     let most = (most-there _ _ _ c.self.invariant.0).0 in
-    let here : length c.all.result.now ≡ length c.self.inside.members.crew.members = ap (λ (xs : List Member). length xs) c.all.ensures.all in
+    let here : length c.all.result.now ≡ length c.self.inside.members.crew.members =
+    ap (λ (xs : List Member). length xs) c.all.ensures.all in
     let greatest = c.max.ensures in
     subst (λ (g : Played). length (table g).members + 1 ≤ c.max.result + 1) c.self.view_is (omega (arith, most, here, greatest))
 

@@ -97,7 +97,8 @@ after c = record {
 taken-in : (c : goal.Joined-change-2) → takes (table_of (origin-in c) c.self.inside.history.events) c.args.event ≡ true
 taken-in c = subst (λ (g : Played). takes (table g) c.args.event ≡ true) (sym c.self.view_is) c.requires.taken
 
-change-in : (c : goal.Joined-change-2) → IsChange (origin-in c) c.args.event (table_of (origin-in c) c.self.inside.history.events) c.args.change
+change-in : (c : goal.Joined-change-2)
+    → IsChange (origin-in c) c.args.event (table_of (origin-in c) c.self.inside.history.events) c.args.change
 change-in c = subst (λ (g : Played). IsChange g.origin c.args.event (table g) c.args.change) (sym c.self.view_is) c.requires.change
 
 few-in : (c : goal.Joined-change-2) → length c.self.inside.history.events + 1 < 2 ^ 63
@@ -116,7 +117,8 @@ put-in c = record {
       ap (λ (xs : List Entry). length xs) c.as_slice.ensures.value in
       let size = c.as_slice.ensures.len in let is = c.len.ensures in omega (arith, due, size, is));
   frame = c.frame_behind-self-inside.ensures.frame;
-  top = c.top_behind-self-inside.ensures.top ∙ ap (λ (n : ℕ). raised c.args.change.beats n c.self.inside.frame c.self.inside.top) c.from.ensures;
+  top = c.top_behind-self-inside.ensures.top
+      ∙ ap (λ (n : ℕ). raised c.args.change.beats n c.self.inside.frame c.self.inside.top) c.from.ensures;
   openings = ap (λ (n : ℕ). c.self.inside.openings + n) c.opened_by.ensures.opened;
   cost = ap (λ (n : ℕ). c.self.inside.cost + n) c.cost_of.ensures.cost;
   over = c.is_over-self-inside.ensures.over;
@@ -140,7 +142,8 @@ invariant_of-self-2 c =
     (few-in c) in
     let count = c.self.invariant.1 in
     let more = length-append events (c.args.event ∷ []) in
-    let now : length c.add.new.self.events ≡ length (events ++ c.args.event ∷ []) = ap (λ (xs : List Event). length xs) c.add.ensures.events in
+    let now : length c.add.new.self.events ≡ length (events ++ c.args.event ∷ []) =
+    ap (λ (xs : List Event). length xs) c.add.ensures.events in
     (subst (λ (xs : List Event). IsGame (origin-in c) xs (after c)) (sym c.add.ensures.events) game, omega (arith, count, more, now))
 
 pub returns-clause-members_told : goal.returns-clause-members_told

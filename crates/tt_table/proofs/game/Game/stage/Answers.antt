@@ -1,7 +1,7 @@
 use Rattle.std.proofs.Common.{◌≡◌, ◌∙◌, ap, sym, subst, ◌++◌, List, true, refl, OnOk}
 use Rattle.tt_world.specs.declared.command.Entry.{Entry}
 use Rattle.tt_log.specs.Events.{by_event, takes}
-use Rattle.tt_log.specs.Origin.{IsJournal}
+use Rattle.tt_log.specs.Origin.{IsJournal, Origin}
 use Rattle.tt_log.specs.Tellings.{tellings}
 use Rattle.tt_outgoing.specs.Staging.{packets_of}
 use Rattle.tt_outgoing.proofs.Packets.{on_ok}
@@ -15,12 +15,15 @@ use Rattle.tt_table.proofs.game.Game.stage.Goals as goal
 pub frame_behind-requires : goal.frame_behind-requires
 frame_behind-requires c = record { low = low-frame _ _ _ c.self.invariant.0 }
 
+-- what the game is made from
+abbrev origin-in : goal.After-stage_steps → Origin
+origin-in c = record { setup = c.self.inside.setup; start = c.self.inside.start }
+
 pub returns : goal.returns
 returns c = record {
   staged = subst (λ (g : Played). OnOk c.stage_steps.result (c.stage_steps.new.staged ≡ c.args.staged.now ++ packets_of (tellings g.origin
       (table g) (by_event g.origin c.args.event.now (table g))))) c.self.view_is
-      (on_ok c.stage_steps.result (λ told. told (record { setup = c.self.inside.setup; start = c.self.inside.start })
-      c.self.inside.history.events c.args.event.now (record {
+      (on_ok c.stage_steps.result (λ told. told (origin-in c) c.self.inside.history.events c.args.event.now (record {
         members = c.self.inside.members;
         admins = c.self.inside.desk;
         journal = c.self.inside.journal.items;
@@ -39,16 +42,18 @@ returns c = record {
       (record {
         setup = refl;
         frame = c.frame_behind.ensures.frame;
-        word = λ wants. c.in_ok-word.ensures.word (c.tells_word-wanted.ensures.tells ∙ wants) (record { setup = c.self.inside.setup; start = c.self.inside.start })
-            ∙ ap (λ (xs : List Entry). (ran_where c.args.change.now.beats (record { setup = c.self.inside.setup; start = c.self.inside.start }) c.self.inside.world xs).words.0)
+        word = λ wants. c.in_ok-word.ensures.word (c.tells_word-wanted.ensures.tells ∙ wants) (origin-in c)
+            ∙ ap (λ (xs : List Entry). (ran_where c.args.change.now.beats (origin-in c) c.self.inside.world xs).words.0)
             c.deref.ensures.value;
         world = c.world_behind.ensures.world;
         size = c.size_of.ensures.size;
         before = refl;
-        entries = λ rising. c.entries_told.ensures.entries (record { setup = c.self.inside.setup; start = c.self.inside.start })
-            (subst (λ (xs : List Entry). IsJournal (record { setup = c.self.inside.setup; start = c.self.inside.start }) xs) (sym c.deref-3.ensures.value) rising)
-            ∙ ap (λ (xs : List Entry). entries_by c.args.change.now.beats (record { setup = c.self.inside.setup; start = c.self.inside.start }) xs c.self.inside.frame c.deref-3.result.now) c.deref-2.ensures.value
-            ∙ ap (λ (xs : List Entry). entries_by c.args.change.now.beats (record { setup = c.self.inside.setup; start = c.self.inside.start }) c.args.change.now.due.items c.self.inside.frame xs)
+        entries = λ rising. c.entries_told.ensures.entries (origin-in c)
+            (subst (λ (xs : List Entry). IsJournal (origin-in c) xs) (sym c.deref-3.ensures.value) rising)
+            ∙ ap (λ (xs : List Entry). entries_by c.args.change.now.beats (origin-in c) xs c.self.inside.frame c.deref-3.result.now)
+            c.deref-2.ensures.value
+            ∙ ap (λ (xs : List Entry). entries_by c.args.change.now.beats (origin-in c) c.args.change.now.due.items c.self.inside.frame
+            xs)
             c.deref-3.ensures.value;
         journal = c.as_slice.ensures.value;
         locked = c.locks_behind-locked.ensures.locks;
