@@ -14,3 +14,15 @@ pub mod Limits
 pub mod Days
 pub mod Ticks
 pub mod Beaten
+pub mod Journals
+pub mod Sixteen
+pub mod Clocks
+pub mod Recalls
+pub mod Counts
+pub mod Passwords
+pub mod Behind
+pub mod AtHand
+pub mod Seats
+pub mod PutFacts
+pub mod Stagings
+pub mod StageFacts

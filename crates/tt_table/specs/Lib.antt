@@ -5,3 +5,5 @@ pub mod Ending
 pub mod Coming
 pub mod Frames
 pub mod Ticking
+pub mod Putting
+pub mod Telling
