@@ -1,7 +1,4 @@
-pub mod World
-pub mod Table
-pub mod Judged
-pub mod Stepped
 pub mod Hub
-pub mod Laws
 pub mod Running
+pub mod Laws
+pub mod Isolation

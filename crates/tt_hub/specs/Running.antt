@@ -1,23 +1,37 @@
--- The invariant of a hub: what it keeps beside its events is what they make of the game.
-use Rattle.std.specs.Prelude.{◌≡◌, ◌≢◌, ℕ, ◌+◌, ◌≤◌, List, [], if◌then◌else◌}
-use Rattle.tt_edge.specs.declared.event.Event.{Event}
-use Rattle.tt_edge.specs.Event.{ticks_in, opens}
-use Rattle.tt_world.specs.declared.setup.Setup.{Setup}
-use Rattle.tt_hub.specs.declared.table.Table.{Table}
-use Rattle.tt_world.specs.World.{WorldState}
-use Rattle.tt_hub.specs.World.{world_at}
-use Rattle.tt_hub.specs.Table.{last_frame, is_unopened}
-use Rattle.tt_hub.specs.Stepped.{table_of, sent_of}
+-- What a hub keeps beside its game: what waits for each connection is what it was told and has not taken.
+use Rattle.std.specs.Prelude.{◌≡◌, ℕ, ◌≤◌, ◌<◌, ◌^◌, List, [], ◌∷◌, ◌++◌, drop, length}
+use Rattle.tt_admin.specs.declared.message.AdminMsg.TheVariants as admins
+use Rattle.tt_game.specs.declared.message.GameMsg.TheVariants as games
+use Rattle.tt_log.specs.Deed.{game, admin}
+use Rattle.tt_log.specs.Told as book
+use Rattle.tt_outgoing.specs.Staging.{Packet, packet_to}
+use Rattle.tt_outgoing.specs.Waiting.{Waiting, list_of, opened}
+use Rattle.tt_table.specs.Ending.{Ended}
+use Rattle.tt_table.specs.Held.{Played, table}
+use Rattle.tt_hub.specs.Hub.{count_of}
 
-pub record IsRunning (start : WorldState) (setup : Setup) (events : List Event) (table : Table) (world : WorldState) (out : List ℕ) : Type
-    0 where
-  pub table_is : table ≡ table_of setup events
-  pub world_is : world ≡ world_at start table.frame
-  pub out_is : out ≡ sent_of setup events 1
-  pub others : (conn : ℕ) → conn ≢ 1 → sent_of setup events conn ≡ []
-  pub ticks : ticks_in events ≡ table.frame
-  pub openings : opens events ≡ table.openings
-  pub one : table.openings ≡ (if is_unopened table.standing then 0 else 1)
-  pub conn : table.conn ≡ table.openings
-  pub within : table.frame ≤ last_frame
-  pub near : table.top ≤ table.frame + setup.frame_freq
+-- one connection's waiting bytes
+pub record IsWaiting (told waits : List ℕ) (count most : ℕ) : Type 0 where
+  pub rest : waits ≡ drop count told
+  pub within : count ≤ length told
+  pub most_is : length told ≤ most
+
+-- seats are there for all connections that were opened, and maybe for more, of which nothing was told
+pub record IsRunning (g : Played) (w : Waiting) (counts : List ℕ) (most : ℕ) : Type 0 where
+  pub counts_are : length counts ≡ opened w
+  pub enough : (table g).openings ≤ opened w
+  pub fits : most < 2 ^ 64
+  pub each : (c : ℕ) → 1 ≤ c → c ≤ opened w
+      → IsWaiting (book.sent g.origin g.events c) (list_of w c) (count_of counts c) most
+
+-- seats are as before, and there may be one more, of which nothing was told and nothing taken
+pub record HasSeats (w v : Waiting) (counts more : List ℕ) : Type 0 where
+  pub counts_are : length more ≡ opened v
+  pub grows : opened w ≤ opened v
+  pub lists : (c : ℕ) → 1 ≤ c → c ≤ opened w → list_of v c ≡ list_of w c
+  pub taken : (c : ℕ) → 1 ≤ c → c ≤ opened w → count_of more c ≡ count_of counts c
+  pub fresh : (c : ℕ) → opened w < c → c ≤ opened v → (list_of v c ≡ []) × (count_of more c ≡ 0)
+
+-- that the game is over, as the packets of those that are told so
+abbrev pub farewells : Ended → List Packet
+farewells e = packet_to e.members (game games.ServerShutdown) ++ packet_to e.admins (admin admins.ServerShutdown)

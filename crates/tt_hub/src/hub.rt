@@ -1,25 +1,20 @@
-//! The server core: it takes events, and keeps the world that they make of the game's start.
-//!
-//! `Hub::new` makes a game that nothing has reached yet, and `Hub::from_world` one that starts from a saved world. `event` takes one event or refuses it and changes nothing;
-//! `take` hands out what a connection is told. All else tells how the game stands.
-ghost use Rattle.std.specs.Prelude.{◌≡◌, ◌≤◌, [], length, IfOk, IfErr};
+//! The core: a game, and the bytes that wait for its connections.
+ghost use Rattle.std.specs.Prelude.{◌≡◌, ◌≤◌, ◌↔◌, IsTrue, false, [], length, IfOk, IfErr};
 ghost use Rattle.tt_world.specs.Setup.{Fits};
 ghost use Rattle.tt_world.specs.World.{start};
 ghost use Rattle.tt_edge.specs.Event.{opens};
-ghost use Rattle.tt_hub.specs.World.{world_behind};
-ghost use Rattle.tt_hub.specs.Stepped.{table_of};
-ghost use Rattle.tt_hub.specs.Hub.{world_of, sent, is_live};
+ghost use Rattle.tt_log.specs.History.{table_of};
+ghost use Rattle.tt_log.specs.Table.{world_of};
+ghost use Rattle.tt_hub.specs.Hub.{is_live, made_of, origin, sent};
 
-use crate::plan::{conn, planned, tell};
-use crate::table::{FIRST, Table, is_live, is_over, is_taken, is_there};
+use crate::delivering::{deliver, make_room, planned};
 use std::alloc::Global;
 use std::marker::Model;
-use tt_edge::{Core, CoreErr, Event, Record, Took};
+use tt_edge::{Core, CoreErr, Event, Record, Servable, Took};
 use tt_frame::OutOfMemory;
-use tt_world::{Setup, World};
-
-/// How many events are taken at most, so that places in the list of events can be told in 63 bits.
-const MOST_EVENTS: u64 = (1 << 63) - 1;
+use tt_outgoing::{Outs, Staged};
+use tt_table::{Ends, Game};
+use tt_world::{Entry, Setup, World};
 
 /// Why no game was made from a world: memory ran out. The world is given back as it was.
 #[derive(Debug, Drop)]
@@ -28,41 +23,40 @@ pub struct FromErr {
     pub world: World,
 }
 
-/// A game. Contracts see the world that it started from, its setup, the list of the events that it has taken, and how many
-/// bytes of its one connection were taken; all else follows.
+/// A game with its connections. Contracts see what it was made from, the events that it has taken, and how many bytes of each
+/// connection were taken; all else follows.
 #[derive(Drop)]
 pub struct Hub {
-    alloc: Global,
-    setup: Setup,
-    start: World,
-    history: Record,
-    count: u64,
-    table: Table,
-    world: World,
-    /// All that the connection is told; the first `taken` bytes of it were taken.
-    out: Vec<u8>,
-    taken: usize,
+    game: Game,
+    outs: Outs,
+    /// How many bytes were taken of each connection. It has a seat, as `outs` has, for each connection that was opened, and maybe
+    /// for the next one.
+    counts: Vec<u64>,
+    /// No connection was told more bytes.
+    most: u64,
+    staged: Staged,
+    ends: Ends,
 }
 
 impl Model for Hub {
-    ghost use Rattle.std.specs.Prelude.{◌≡◌, ◌≤◌, length};
     ghost use Rattle.tt_hub.specs.Hub.{HubState};
     ghost use Rattle.tt_hub.specs.Running.{IsRunning};
 
     ghost Value = { HubState };
 
-    ghost view = { λ h. record { start = h.start; setup = h.setup; events = h.history.events; taken = h.taken } };
+    ghost view = { λ h. record { setup = h.game.origin.setup; start = h.game.origin.start; events = h.game.events; counts = h.counts.items } };
 
-    ghost invariant = { λ h. IsRunning h.start h.setup h.history.events h.table h.world h.out.items × (h.count ≡ length h.history.events) × (h.taken ≤ length h.out.items) };
+    ghost invariant = { λ h. IsRunning h.game h.outs h.counts.items h.most };
 }
 
 impl Hub {
     /// A game that nothing has reached yet, from the setup's own world.
     pub fn new(alloc: Global, setup: &Setup) -> Result<Hub, OutOfMemory>
-        ensures start { IfOk result (λ hub. hub.start ≡ start setup.now) }
+        requires setup { Fits setup.now }
         ensures setup { IfOk result (λ hub. hub.setup ≡ setup.now) }
+        ensures start { IfOk result (λ hub. hub.start ≡ start setup.now) }
         ensures events { IfOk result (λ hub. hub.events ≡ []) }
-        ensures taken { IfOk result (λ hub. hub.taken ≡ 0) }
+        ensures counts { IfOk result (λ hub. hub.counts ≡ []) }
     {
         let start = World::start(alloc, setup)?;
         let world = start.copy(alloc)?;
@@ -74,10 +68,10 @@ impl Hub {
     pub fn from_world(alloc: Global, setup: &Setup, world: World) -> Result<Hub, FromErr>
         requires setup { Fits setup.now }
         requires day { world.day ≤ 900000000 }
-        ensures start { IfOk result (λ hub. hub.start ≡ world) }
         ensures setup { IfOk result (λ hub. hub.setup ≡ setup.now) }
+        ensures start { IfOk result (λ hub. hub.start ≡ world) }
         ensures events { IfOk result (λ hub. hub.events ≡ []) }
-        ensures taken { IfOk result (λ hub. hub.taken ≡ 0) }
+        ensures counts { IfOk result (λ hub. hub.counts ≡ []) }
         ensures err { IfErr result (λ bad. bad.world ≡ world) }
     {
         match world.copy(alloc) {
@@ -88,155 +82,165 @@ impl Hub {
 
     /// A game that starts from a world, of which there are two copies: the start, and the world that runs on.
     fn begun(alloc: Global, setup: &Setup, start: World, world: World) -> Hub
-        requires { world ≡ start }
-        ensures start { result.start ≡ start }
+        requires setup { Fits setup.now }
+        requires world { world ≡ start }
         ensures setup { result.setup ≡ setup.now }
+        ensures start { result.start ≡ start }
         ensures events { result.events ≡ [] }
-        ensures taken { result.taken ≡ 0 }
+        ensures counts { result.counts ≡ [] }
     {
         Hub {
-            alloc,
-            setup: setup.copy(),
-            start,
-            history: Record::new(alloc),
-            count: 0,
-            table: FIRST,
-            world,
-            out: Vec::new(alloc),
-            taken: 0,
+            game: Game::new(alloc, setup, start, world),
+            outs: Outs::new(alloc),
+            counts: Vec::new(alloc),
+            most: 0,
+            staged: Staged::new(alloc),
+            ends: Ends::new(alloc),
         }
     }
 
     /// The frame: how many ticks were taken.
     pub fn frame(&self) -> u32
-        ensures frame { result ≡ (table_of self.now.setup self.now.events).frame }
+        ensures frame { result ≡ (table_of (origin self.now) self.now.events).frame }
     {
-        self.table.frame
+        self.game.frame()
     }
 
     /// The greatest permitted frame.
     pub fn top(&self) -> u32
-        ensures top { result ≡ (table_of self.now.setup self.now.events).top }
+        ensures top { result ≡ (table_of (origin self.now) self.now.events).top }
     {
-        self.table.top
+        self.game.top()
     }
 
     /// The world at the frame.
     pub fn world(&self) -> &World
-        ensures world { result.now ≡ world_of self.now.start self.now.setup self.now.events }
+        ensures world { result.now ≡ world_of (origin self.now) (table_of (origin self.now) self.now.events) }
     {
-        &self.world
+        self.game.world()
+    }
+
+    /// All commands that were stamped, in order.
+    pub fn journal(&self) -> &[Entry]
+        ensures journal { result.now ≡ (table_of (origin self.now) self.now.events).journal }
+    {
+        self.game.journal()
     }
 
     /// The events that it has taken, in order.
     pub fn events(&self) -> &Record
         ensures events { result.now.events ≡ self.now.events }
     {
-        &self.history
+        self.game.events()
     }
 
     /// How many connections were opened.
     pub fn connections(&self) -> u32
         ensures connections { result ≡ opens self.now.events }
     {
-        self.table.openings
+        self.game.openings()
     }
 
     /// Whether a connection was opened and has not ended.
     pub fn live(&self, conn: u32) -> bool
-        ensures live { result ≡ is_live self.now.setup self.now.events conn }
+        ensures live { result ≡ is_live (made_of self.now) self.now.events conn }
     {
-        is_live(self.table, conn)
+        self.game.live(conn)
     }
 
     /// How many bytes a connection was told.
     pub fn sent_len(&self, conn: u32) -> u64
-        ensures count { result ≡ length (sent self.now.setup self.now.events conn) }
+        ensures count { result ≡ length (sent (made_of self.now) self.now.events conn) }
     {
-        let told = self.out.len();
-        if conn == 1 { told as u64 } else { 0 }
+        if conn == 0 || conn as usize > self.counts.len() {
+            return 0;
+        }
+        self.counts[conn as usize - 1] + self.outs.left(conn)
     }
 }
 
 impl Core for Hub {
-    ghost use Rattle.tt_hub.specs.Hub.{taken, sent, is_live, is_over, takes};
-    ghost use Rattle.tt_hub.specs.Laws.{sent_grows, ended_stays, unopened, over_is_last};
+    ghost use Rattle.tt_hub.specs.Hub.{is_live, is_over, made_of, sent, taken, takes};
+    ghost use Rattle.tt_hub.specs.Laws.{ended_stays, over_is_last, sent_grows, unopened};
 
     type Made = (Setup, World);
 
-    ghost made = { λ h. (h.setup, h.start) };
+    ghost made = { made_of };
 
     ghost events = { λ h. h.events };
 
     ghost taken = { taken };
 
-    ghost sent = { λ made. sent made.0 };
+    ghost sent = { sent };
 
-    ghost is_live = { λ made. is_live made.0 };
+    ghost is_live = { is_live };
 
-    ghost is_over = { λ made. is_over made.0 };
+    ghost is_over = { is_over };
 
-    ghost takes = { λ made. takes made.0 };
+    ghost takes = { takes };
 
     fn event(&mut self, event: Event) -> Result<u32, CoreErr> {
-        if is_over(self.table) {
+        if self.game.over() {
             return Err(CoreErr::Over);
         }
-        if !is_taken(self.table, &event) {
+        if !self.game.takes(&event) {
             return Err(CoreErr::NoSuch);
         }
-        if self.count >= MOST_EVENTS || self.history.reserve().is_err() {
-            return Err(CoreErr::Memory);
-        }
-        let Ok(plan) = planned(self.alloc, &self.setup, self.table, &event) else {
-            return Err(CoreErr::Memory);
-        };
-        if tell(&mut self.out, &plan.told).is_err() {
-            return Err(CoreErr::Memory);
-        }
-        let about = conn(self.table.openings, &event);
-        run(&mut self.world, &event);
-        self.table = plan.table;
-        self.history.add(event);
-        self.count += 1;
+        let about = self.game.about(&event);
+        let change = planned(&mut self.game, &mut self.staged, &event)?;
+        let conns = self.game.most_ends();
+        let most = make_room(
+            &mut self.outs,
+            &mut self.counts,
+            &mut self.ends,
+            &self.staged,
+            about,
+            conns,
+            self.most,
+        )?;
+        self.game.put(event, change, &mut self.ends)?;
+        deliver(&mut self.outs, &self.staged, &self.ends);
+        self.most = most;
         Ok(about)
     }
 
     fn take(&mut self, conn: u32, out: &mut [u8]) -> Took {
-        let left = self.out.len() - self.taken;
-        if conn != 1 {
+        if conn == 0 || conn as usize > self.counts.len() {
             return Took {
                 count: 0,
                 done: true,
             };
         }
-        let count = out.len().min(left);
-        out[..count].copy_from_slice(&self.out[self.taken..self.taken + count]);
-        self.taken += count;
+        let count = self.outs.take(conn, out);
+        self.counts[conn as usize - 1] += count as u64;
         Took {
             count,
-            done: !is_there(self.table.standing) && self.taken == self.out.len(),
+            done: is_done(self.game.live(conn), self.outs.left(conn)),
         }
     }
 
     fn over(&self) -> bool {
-        is_over(self.table)
+        self.game.over()
     }
 
-    ghost sent_grows = { λ made. sent_grows made.0 };
+    ghost sent_grows = { sent_grows };
 
-    ghost ended_stays = { λ made. ended_stays made.0 };
+    ghost ended_stays = { ended_stays };
 
-    ghost unopened = { λ made. unopened made.0 };
+    ghost unopened = { unopened };
 
-    ghost over_is_last = { λ made. over_is_last made.0 };
+    ghost over_is_last = { over_is_last };
 }
 
-/// Runs a frame at a tick.
-fn run(world: &mut World, event: &Event)
-    ensures world { world.new ≡ world_behind world.old event.now }
+/// Nothing comes any more: the connection is not live, and nothing is left of what it was told.
+fn is_done(live: bool, left: u64) -> bool
+    ensures { IsTrue result ↔ ((live ≡ false) × (left ≡ 0)) }
 {
-    if let Event::Tick = event {
-        world.run_frame();
-    }
+    !live && left == 0
+}
+
+impl Servable for Hub {
+    ghost use Rattle.tt_hub.specs.Laws.{takes_live};
+
+    ghost takes_live = { takes_live };
 }

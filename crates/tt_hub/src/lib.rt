@@ -1,11 +1,17 @@
-//! Whatever events reach a hub, in whatever order, its world and the bytes that it tells are those that they make of the
-//! game's start.
+//! The server core: it takes events, keeps the game that they make, and tells each connection its bytes.
+//!
+//! `Hub::new` makes a game that nothing has reached yet, and `Hub::from_world` one that starts from a saved world. `event` takes
+//! one event or refuses it and changes nothing; `take` hands out what a connection is told. All else tells how the game stands.
+//!
+//! ```text
+//!   event -> Game::plan -> Game::stage -> room -> Game::put -> Outs   (all that may fail comes before `put`)
+//!   take  <---------------------------------------------------- Outs
+//! ```
 #![tactic(auto)]
 
+mod delivering;
 mod hub;
-mod plan;
-mod table;
-mod verdict;
+pub mod laws;
 
 pub use hub::{FromErr, Hub};
 pub use tt_outgoing::Outs;

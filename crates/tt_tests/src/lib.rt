@@ -1,11 +1,9 @@
 //! The tests of the libraries, over their public calls alone. A library with tests of its own is proved twice, so they stand
-//! here; those that cross crates stand here too. A room over a hub keeps every tick that two threads put into it.
+//! here; those that cross crates stand here too.
 #![tactic(auto)]
 
 #[cfg(test)]
 mod edge;
-#[cfg(test)]
-mod hub;
 #[cfg(test)]
 mod outside;
 #[cfg(test)]

@@ -1,4 +1,4 @@
-//! What the libraries of worlds, maps, rules, attempts, scripts, the admin desk and the hub answer to numbers and bytes from outside.
+//! What the libraries of worlds, maps, rules, attempts, scripts, the admin desk and outgoing bytes answer to numbers and bytes from outside.
 //!
 //! Only tests stand here, over public calls, so that a change of a library proves the library alone.
 #![tactic(auto)]
@@ -7,8 +7,6 @@
 mod attempts;
 #[cfg(test)]
 mod desk;
-#[cfg(test)]
-mod hub;
 #[cfg(test)]
 mod log;
 #[cfg(test)]

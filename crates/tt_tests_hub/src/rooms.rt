@@ -28,7 +28,11 @@ fn opening() -> Event
 fn room_for_two<R: Abort>(rt: &R, alloc: Global) -> (Room<Hub>, Pass<Hub>, Pass<Hub>)
     ensures { IsOf result.0 result.1 × IsOf result.0 result.2 }
 {
-    let Ok(hub) = Hub::new(alloc, &Setup::plain()) else {
+    let setup = Setup::plain();
+    if !setup.fits() {
+        panic!(rt; "the plain setup is out of range")
+    }
+    let Ok(hub) = Hub::new(alloc, &setup) else {
         panic!(rt; "memory ran out")
     };
     let Ok((room, mut passes)) = Room::new(alloc, hub, 2) else {

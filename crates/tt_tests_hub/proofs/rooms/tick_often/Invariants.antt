@@ -1,5 +1,5 @@
 use Rattle.tt_room.specs.Passes.{IsOf}
-use Rattle.tt_tests.proofs.hub.tick_often.Given as goal
+use Rattle.tt_tests_hub.proofs.rooms.tick_often.Given as goal
 
 abbrev pub invariant-loop-i : goal.invariant-loop-i
 invariant-loop-i g l = IsOf l.room l.pass

@@ -1,0 +1,7 @@
+use Rattle.std.proofs.Common.{ap, ◌∙◌}
+use Rattle.tt_log.specs.History.{table_of}
+use Rattle.tt_hub.specs.Hub.{HubState, origin}
+use Rattle.tt_hub.proofs.hub.Hub.frame.Goals as goal
+
+pub returns : goal.returns
+returns c = record { frame = c.frame.ensures.frame ∙ ap (λ (h : HubState). (table_of (origin h) h.events).frame) c.self.view_is }
