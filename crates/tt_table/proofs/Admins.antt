@@ -1,5 +1,6 @@
 -- What was heard of an admin, planned: its answers, and what becomes of it.
-use Rattle.std.proofs.Common.{◌≡◌, ℕ, ◌+◌, ◌<◌, ◌≤◌, arith, List, [], ◌∷◌, ◌++◌, Option, Some, true, false, Bool, refl, ap, ap₂, sym, subst, ◌∙◌, cond}
+use Rattle.std.proofs.Common.{◌≡◌, ℕ, ◌+◌, ◌<◌, ◌≤◌, arith, List, [], ◌∷◌, ◌++◌, Option, Some, true, false, Bool, refl}
+use Rattle.std.proofs.Common.{ap, ap₂, sym, subst, ◌∙◌, cond}
 use Rattle.std.specs.Prelude.{◌==◌, ◌||◌, ◌^◌, not, codes, filter, length, nat_le}
 use Rattle.std.specs.List.{list_any}
 use Rattle.std.proofs.lemmas.Bool.{eqb-true, eq-eqb, ne_eqb}
@@ -52,7 +53,8 @@ same_test true x y is = eq-eqb y x (sym (eqb-true x y is))
 same_test false x y is = ne_eqb y x (λ e. let so : (x == y) ≡ true = eq-eqb x y (sym e) in absurd cc)
 
 without_one : (conn : ℕ) (admins : List Admin)
-    → filter (λ (a : Admin). not (list_any (λ (c : ℕ). c == a.conn) (conn ∷ []))) admins ≡ filter (λ (a : Admin). not (is_admin_on conn a)) admins
+    → filter (λ (a : Admin). not (list_any (λ (c : ℕ). c == a.conn) (conn ∷ []))) admins
+    ≡ filter (λ (a : Admin). not (is_admin_on conn a)) admins
 without_one conn [] = refl
 without_one conn (a ∷ admins) =
     keeps (conn == a.conn) (a.conn == conn) a _ _ (same_test (a.conn == conn) a.conn conn refl) (without_one conn admins)
@@ -138,7 +140,8 @@ aside_room g steps seat opens c is spare few = record {
 
 -- ---- what comes to the members by an admin
 
-pub say_change : (o : Origin) (e : Event) (t : Table) (conn scope to : ℕ) (text : List ℕ) (c : Change) (a : Admin) → admin_of t conn ≡ Some a
+pub say_change : (o : Origin) (e : Event) (t : Table) (conn scope to : ℕ) (text : List ℕ) (c : Change) (a : Admin)
+    → admin_of t conn ≡ Some a
     → IsHeard o t e conn (Say scope to text) → IsPlanned o t (by_input (inputs.Say scope to text) o t) c → IsChange o e t c
 say_change o e t conn scope to text c a is heard plan =
     input_change o e t (inputs.Say scope to text) c
@@ -148,7 +151,8 @@ first_told : (conn : ℕ) (text : List ℕ) (command : ConsoleCommand) (t : Tabl
     → steps_in t.admins (console_steps conn text command t)
     ≡ (sees_console text t ▹ tells_admin conn (lines_of (meant command) t ++ Message (ServerRconEnd text) ∷ [])).told
 first_told conn text command t =
-    ap (λ (l : List book.Step). record { to = watching console_updates t; what = ToAdmin (Message (ServerConsole (codes "admin") text)) } ∷ l)
+    ap (λ (l : List book.Step).
+    record { to = watching console_updates t; what = ToAdmin (Message (ServerConsole (codes "admin") text)) } ∷ l)
     (answered_told conn t.admins (lines_of (meant command) t ++ Message (ServerRconEnd text) ∷ []))
 
 pub console_change : (o : Origin) (e : Event) (t : Table) (conn : ℕ) (text : List ℕ) (command : ConsoleCommand) (c : Change) (a : Admin)
@@ -174,7 +178,8 @@ pub refused_change : (o : Origin) (t : Table) (peer : Peer) (c : Change) → nat
 refused_change o t peer c full is =
     let rule : by_event o (Open Side peer) t ≡ admin_arrives true (counted_aside t) =
     ap (λ (b : Bool). admin_arrives b (counted_aside t)) full in
-    aside_change o (Open Side peer) t c (answered (t.openings + 1) (Message ServerFull ∷ []) ++ says (One (t.openings + 1)) End ∷ []) Stay true
+    aside_change o (Open Side peer) t c
+    (answered (t.openings + 1) (Message ServerFull ∷ []) ++ says (One (t.openings + 1)) End ∷ []) Stay true
     refl is refl (sym (ap (λ (d : Deed). d.told) rule)) (sym (ap (λ (d : Deed). d.table) rule)) refl
 
 pub arriving_change : (o : Origin) (t : Table) (peer : Peer) (c : Change) → nat_le most_admins (length t.admins) ≡ false

@@ -87,7 +87,8 @@ planned_change o e t d c first quits tick plan none told same quitting =
     (record {
       told = ap (steps_in t.admins) all ∙ told_steps t.admins first steps
           ∙ ap (λ (x : List book.Step). steps_in t.admins first ++ x) plan.told ∙ told;
-      table = ap₂ (λ (s : Seating) (b : Bool). record (done_by c.plan t) { admins = seated s t; openings = counted b (done_by c.plan t).openings })
+      table = ap₂ (λ (s : Seating) (b : Bool).
+          record (done_by c.plan t) { admins = seated s t; openings = counted b (done_by c.plan t).openings })
           plan.seating plan.aside ∙ stays_seated c.plan t ∙ plan.table ∙ same;
       crew = plan.crew ∙ ap (crew_of o) same;
     })
@@ -127,7 +128,8 @@ aside_change o e t c steps seating aside tick is none told same going =
     is_whole o e t c tick
     (record {
       told = ap (steps_in t.admins) all ∙ told;
-      table = ap (λ (p : Option Planned). record (done_by p t) { admins = seated c.seating t; openings = counted c.aside (done_by p t).openings })
+      table = ap (λ (p : Option Planned).
+          record (done_by p t) { admins = seated c.seating t; openings = counted c.aside (done_by p t).openings })
           is.plan
           ∙ ap₂ (λ (s : Seating) (b : Bool). record t { admins = seated s t; openings = counted b t.openings }) is.seating is.aside ∙ same;
       crew = ap (λ (p : Option Planned). committed_by p (crew_of o t)) is.plan ∙ ap (crew_of o) same;

@@ -71,7 +71,8 @@ shut_is o t conn there rule =
 
 -- ---- to admins
 
-to_admin : (x : Option Member) (y : Option Admin) (a : Admin) (of_member : Member → Table → Deed) (of_admin : Admin → Table → Deed) (t : Table)
+to_admin : (x : Option Member) (y : Option Admin) (a : Admin) (of_member : Member → Table → Deed) (of_admin : Admin → Table → Deed)
+    (t : Table)
     → x ≡ None → y ≡ Some a → to_named x y of_member of_admin t ≡ of_admin a t
 to_admin None (Some b) a of_member of_admin t none is = ap (λ (z : Admin). of_admin z t) (same b a is)
   where

@@ -102,7 +102,8 @@ impl Game {
         requires few { length self.old.events + 1 < 2 ^ 63 }
         ensures origin { self.new.origin ≡ self.old.origin }
         ensures events { self.new.events ≡ self.old.events }
-        ensures planned { IfOk result (λ c. IsPlanned self.old.origin (table self.old) (by_input input self.old.origin (table self.old)) c) }
+        ensures planned { IfOk result (λ c. IsPlanned self.old.origin (table self.old)
+            (by_input input self.old.origin (table self.old)) c) }
         ensures room { IfOk result (λ c. HasRoom self.new c) }
     {
         let plan = self.plan_members(input)?;
@@ -121,7 +122,8 @@ impl Game {
         requires few { length self.old.events + 1 < 2 ^ 63 }
         ensures origin { self.new.origin ≡ self.old.origin }
         ensures events { self.new.events ≡ self.old.events }
-        ensures planned { IfOk result (λ c. IsPlanned self.old.origin (table self.old) (by_order order self.old.origin (table self.old)) c) }
+        ensures planned { IfOk result (λ c. IsPlanned self.old.origin (table self.old)
+            (by_order order self.old.origin (table self.old)) c) }
         ensures room { IfOk result (λ c. HasRoom self.new c) }
     {
         match order {

@@ -17,5 +17,6 @@ long_text-requires c =
         c.new-text.ensures.items,
         c.bytes-bytes.ensures.same,
       )
-          (client_fits c.args.client c.args.company c.args.name.now (omega (arith, client)) (omega (arith, company)) c.bytes-bytes.ensures.test);
+          (client_fits c.args.client c.args.company c.args.name.now (omega (arith, client)) (omega (arith, company))
+          c.bytes-bytes.ensures.test);
     }
