@@ -1,13 +1,11 @@
 -- The connection that an event is about, and how many are opened behind it.
 use Rattle.std.proofs.Common.{◌≡◌, ◌⊎◌, inl, inr, ℕ, ◌+◌, ◌<◌, ◌≤◌, Bool, true, false, List, [], ◌∷◌, ◌++◌, refl, sym, ap, ap₂, ◌∙◌, arith}
-use Rattle.std.specs.Prelude.{◌&&◌, cond, length, not}
-use Rattle.std.specs.List.{AllByRecursion}
+use Rattle.std.specs.Prelude.{◌&&◌, cond, not}
 use Rattle.std.proofs.lemmas.List.Sums.{sum_by-append}
 use Rattle.tt_edge.specs.declared.event.Event.{Event}
 use Rattle.tt_edge.specs.declared.event.Event.TheVariants.{Open, Packet, Broken, Shut, Tick, Stop}
 use Rattle.tt_edge.specs.Event.{conn_of, is_open, opens}
-use Rattle.tt_log.specs.Deed.{where_}
-use Rattle.tt_log.specs.Events.{by_event, deed, names_live, takes, taken}
+use Rattle.tt_log.specs.Events.{by_event, deed, names_live, takes}
 use Rattle.tt_log.specs.History.{table_of}
 use Rattle.tt_log.specs.Origin.{Origin}
 use Rattle.tt_log.specs.Table.{Table, is_live}
@@ -15,7 +13,7 @@ use Rattle.tt_log.specs.Tellings.{tellings}
 use Rattle.tt_log.proofs.Counting.{one_if, taken-counts}
 use Rattle.tt_log.proofs.Ended.{unopened as unopened-is}
 use Rattle.tt_log.proofs.Refusing.{table-snoc}
-use Rattle.tt_outgoing.specs.Staging.{MayAllBeTold, MayBeTold, Packet as Parcel, packets_of}
+use Rattle.tt_outgoing.specs.Staging.{MayAllBeTold, Packet as Parcel, packets_of}
 use Rattle.tt_outgoing.proofs.Packets.{packets_for}
 use Rattle.tt_outgoing.proofs.Tellable.{may-all-be-told}
 use Rattle.tt_table.specs.Ending.{Ended, ended_admins, ended_members}
@@ -60,7 +58,8 @@ about-next o es Stop is = omega arith
 
 openings-behind : (o : Origin) (es : List Event) (e : Event) → takes (table_of o es) e ≡ true
     → (table_of o (es ++ e ∷ [])).openings ≡ (table_of o es).openings + one_if (is_open e)
-openings-behind o es e is = ap (λ (t : Table). t.openings) (table-snoc o es e) ∙ (taken-counts (takes (table_of o es) e) o e (table_of o es) is).0
+openings-behind o es e is =
+    ap (λ (t : Table). t.openings) (table-snoc o es e) ∙ (taken-counts (takes (table_of o es) e) o e (table_of o es) is).0
 
 pub enough-behind : (o : Origin) (es : List Event) (e : Event) (n : ℕ) → takes (table_of o es) e ≡ true → (table_of o es).openings ≤ n
     → conn_of es e ≤ n → (table_of o (es ++ e ∷ [])).openings ≤ n

@@ -1,6 +1,6 @@
 -- That the game is over is told to members and admins, behind what was staged.
-use Rattle.std.proofs.Common.{◌≡◌, ℕ, ◌+◌, ◌<◌, ◌≤◌, List, [], ◌∷◌, ◌++◌, refl, sym, ap, ◌∙◌, arith, length, append_assoc}
-use Rattle.std.specs.Prelude.{All, ◌==◌, flat_map}
+use Rattle.std.proofs.Common.{◌≡◌, ℕ, List, [], ◌∷◌, ◌++◌, refl, sym, ap, ◌∙◌, arith, append_assoc}
+use Rattle.std.specs.Prelude.{◌==◌}
 use Rattle.std.specs.List.{AllByRecursion, list_any}
 use Rattle.std.proofs.lemmas.Grind.{flat_map-append}
 use Rattle.std.proofs.lemmas.List.{append-nil}
@@ -8,7 +8,7 @@ use Rattle.tt_game.specs.declared.message.GameMsg.TheVariants as games
 use Rattle.tt_admin.specs.declared.message.AdminMsg.TheVariants as admins
 use Rattle.tt_log.specs.Deed.{Said, game, admin, spelled}
 use Rattle.tt_outgoing.specs.Staging.{AreDistinct, MayAllBeTold, MayBeTold, Packet, bytes_for, packet_to}
-use Rattle.tt_outgoing.specs.Waiting.{Waiting, bytes_if, list_of, opened, told}
+use Rattle.tt_outgoing.specs.Waiting.{bytes_if, told}
 use Rattle.tt_outgoing.proofs.Delivered.{told_once}
 use Rattle.tt_table.specs.Ending.{Ended}
 use Rattle.tt_hub.specs.Running.{farewells}
@@ -20,7 +20,10 @@ split P [] ys a = (tt, a)
 split P (x ∷ xs) ys a = let rest = split P xs ys a.1 in ((a.0, rest.0), rest.1)
 
 told-first : (most : ℕ) (to : List ℕ) (s : Said) → MayAllBeTold most (packet_to to s) → MayBeTold most to
-told-first most [] s may = record { opened = λ k d low. absurd (omega (arith, low)); distinct = λ i j before low. absurd (omega (arith, low)) }
+told-first most [] s may = record {
+  opened = λ k d low. absurd (omega (arith, low));
+  distinct = λ i j before low. absurd (omega (arith, low));
+}
 told-first most (c ∷ to) s may = may.0
 
 -- what was staged may be told, and members and admins may be told the end

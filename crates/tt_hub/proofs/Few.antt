@@ -1,5 +1,5 @@
 -- An event brings in at most one member and at most one admin.
-use Rattle.std.proofs.Common.{◌≡◌, ℕ, ◌+◌, ◌≤◌, ◌<◌, Bool, true, false, List, [], ◌∷◌, ◌++◌, arith, length, refl}
+use Rattle.std.proofs.Common.{◌≡◌, ℕ, ◌+◌, ◌≤◌, Bool, true, false, List, [], ◌∷◌, arith, length, refl}
 use Rattle.std.specs.Prelude.{cond, filter, map, nat_le, not, ◌==◌}
 use Rattle.std.proofs.lemmas.List.{length-append, length-map}
 use Rattle.tt_edge.specs.declared.event.Door.TheVariants.{Main, Side}

@@ -1,6 +1,6 @@
 -- What a hub keeps beside its game, behind each of its calls.
 use Rattle.std.proofs.Common.{◌≡◌, ◌⊎◌, inl, inr, ℕ, ◌+◌, ◌<◌, ◌≤◌, Bool, true, false, List, [], ◌∷◌, ◌++◌, refl, sym, ap, ap₂, subst, ◌∙◌}
-use Rattle.std.proofs.Common.{arith, length, drop, append_assoc, ◌≢◌, ◌-◌, ◌^◌}
+use Rattle.std.proofs.Common.{arith, length, drop, ◌≢◌, ◌-◌, ◌^◌}
 use Rattle.std.specs.Prelude.{flat_map, slice_set, ◌==◌}
 use Rattle.std.specs.List.{list_any}
 use Rattle.std.proofs.Math.ListN.{length-set}
@@ -122,8 +122,8 @@ few-bytes packets ends =
     omega (arith, all, both, l, k)
 
 -- a hub behind an event: there were seats, and all that it tells was delivered
-pub running-event : (g h : Played) (w v u : Waiting) (counts more : List ℕ) (most next : ℕ) (e : Event) (staged : List Packet) (ends : Ended)
-    → h.origin ≡ g.origin → h.events ≡ g.events ++ e ∷ [] → takes (table g) e ≡ true → IsRunning g w counts most
+pub running-event : (g h : Played) (w v u : Waiting) (counts more : List ℕ) (most next : ℕ) (e : Event) (staged : List Packet)
+    (ends : Ended) → h.origin ≡ g.origin → h.events ≡ g.events ++ e ∷ [] → takes (table g) e ≡ true → IsRunning g w counts most
     → HasSeats w v counts more → conn_of g.events e ≤ opened v
     → staged ≡ packets_of (tellings g.origin (table g) (by_event g.origin e (table g)))
     → ends.members ≡ ended_members g.origin e (table g) → ends.admins ≡ ended_admins g.origin e (table g)

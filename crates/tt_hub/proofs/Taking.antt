@@ -1,5 +1,5 @@
 -- What is taken of a connection: what waits for it, or nothing where it was never opened.
-use Rattle.std.proofs.Common.{◌≡◌, ◌⊎◌, inl, inr, ℕ, zero, suc, ◌+◌, ◌-◌, ◌<◌, ◌≤◌, Bool, true, false, List, [], ◌∷◌, ◌++◌, refl, sym, ap, ◌∙◌}
+use Rattle.std.proofs.Common.{◌≡◌, ◌⊎◌, inl, inr, ℕ, zero, suc, ◌+◌, ◌-◌, ◌<◌, ◌≤◌, Bool, true, false, List, [], ◌++◌, refl, ap, ◌∙◌}
 use Rattle.std.proofs.Common.{arith, length, take, drop, min}
 use Rattle.std.specs.Prelude.{flat_map, slice_index_or, ◌↔◌}
 use Rattle.std.specs.Bool.{IsTrue}
@@ -9,7 +9,7 @@ use Rattle.tt_log.specs.Deed.{Said, spelled}
 use Rattle.tt_log.specs.Table.{is_live}
 use Rattle.tt_log.specs.Told as book
 use Rattle.tt_log.proofs.Ended.{nought, unopened as unopened-is}
-use Rattle.tt_outgoing.specs.Waiting.{Waiting, opened}
+use Rattle.tt_outgoing.specs.Waiting.{Waiting}
 use Rattle.tt_table.specs.Held.{Played, table}
 use Rattle.tt_hub.specs.Hub.{count_of}
 use Rattle.tt_hub.specs.Running.{IsRunning, IsWaiting}

@@ -1,6 +1,6 @@
 -- What an event tells, as packets: those of its rule, and then, where the game is over by it, that it is over.
-use Rattle.std.proofs.Common.{◌≡◌, ℕ, ◌+◌, ◌<◌, ◌≤◌, Bool, true, false, List, [], ◌∷◌, ◌++◌, refl, sym, ap, ap₂, ◌∙◌, append_assoc}
-use Rattle.std.specs.Prelude.{◌||◌, ◌==◌, cond, flat_map, map, nat_le}
+use Rattle.std.proofs.Common.{◌≡◌, ℕ, Bool, true, false, List, [], ◌∷◌, ◌++◌, refl, sym, ap, ap₂, ◌∙◌}
+use Rattle.std.specs.Prelude.{cond, flat_map, map}
 use Rattle.std.proofs.lemmas.List.{append-nil}
 use Rattle.std.proofs.lemmas.Grind.{flat_map-append}
 use Rattle.tt_edge.specs.declared.event.Event.{Event}
@@ -8,7 +8,7 @@ use Rattle.tt_game.specs.declared.message.GameMsg.TheVariants as games
 use Rattle.tt_admin.specs.declared.message.AdminMsg.TheVariants as admins
 use Rattle.tt_log.specs.declared.deed.Step.{Step}
 use Rattle.tt_log.specs.Deed.{Deed, Said, game, admin, spelled, where_, ◌▹◌}
-use Rattle.tt_log.specs.Events.{by_event, charged, closed, deed, last_frame, shut_down, stops, taken, takes}
+use Rattle.tt_log.specs.Events.{by_event, charged, deed, shut_down, taken, takes}
 use Rattle.tt_log.specs.History.{table_of}
 use Rattle.tt_log.specs.Origin.{Origin}
 use Rattle.tt_log.specs.Table.{Table}
@@ -17,7 +17,7 @@ use Rattle.tt_log.specs.Told as book
 use Rattle.tt_log.proofs.Refusing.{heard-snoc}
 use Rattle.tt_outgoing.specs.Staging.{Packet, bytes_for, packet_to, packets_of}
 use Rattle.tt_outgoing.proofs.Packets.{packets_told}
-use Rattle.tt_table.specs.Ending.{Ended, ended_admins, ended_members, is_last, ruled}
+use Rattle.tt_table.specs.Ending.{Ended, ended_admins, ended_members, is_last}
 use Rattle.tt_hub.specs.Running.{farewells}
 
 -- what is filled in of steps behind others

@@ -1,5 +1,5 @@
 -- The laws that a core owes, for the game's book, over every list of events.
-use Rattle.std.proofs.Common.{◌≡◌, ◌⊎◌, inl, inr, ℕ, ◌+◌, ◌<◌, ◌≤◌, Bool, true, false, List, [], ◌∷◌, ◌++◌, refl, sym, ap, ◌∙◌, arith}
+use Rattle.std.proofs.Common.{◌≡◌, inl, inr, ℕ, ◌+◌, ◌≤◌, Bool, true, false, List, [], ◌∷◌, ◌++◌, refl, ap, ◌∙◌, arith}
 use Rattle.std.specs.Prelude.{◌&&◌, cond, flat_map, fold, not}
 use Rattle.std.proofs.lemmas.List.Sums.{sum_by-cons}
 use Rattle.tt_edge.specs.declared.event.Event.{Event}

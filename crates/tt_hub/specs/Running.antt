@@ -1,5 +1,5 @@
 -- What a hub keeps beside its game: what waits for each connection is what it was told and has not taken.
-use Rattle.std.specs.Prelude.{◌≡◌, ℕ, ◌≤◌, ◌<◌, ◌^◌, List, [], ◌∷◌, ◌++◌, drop, length}
+use Rattle.std.specs.Prelude.{◌≡◌, ℕ, ◌≤◌, ◌<◌, ◌^◌, List, [], ◌++◌, drop, length}
 use Rattle.tt_admin.specs.declared.message.AdminMsg.TheVariants as admins
 use Rattle.tt_game.specs.declared.message.GameMsg.TheVariants as games
 use Rattle.tt_log.specs.Deed.{game, admin}

@@ -44,7 +44,12 @@ impl Model for Hub {
 
     ghost Value = { HubState };
 
-    ghost view = { λ h. record { setup = h.game.origin.setup; start = h.game.origin.start; events = h.game.events; counts = h.counts.items } };
+    ghost view = { λ h. record {
+      setup = h.game.origin.setup;
+      start = h.game.origin.start;
+      events = h.game.events;
+      counts = h.counts.items;
+    } };
 
     ghost invariant = { λ h. IsRunning h.game h.outs h.counts.items h.most };
 }

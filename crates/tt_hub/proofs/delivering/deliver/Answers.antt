@@ -1,4 +1,4 @@
-use Rattle.std.proofs.Common.{◌≡◌, ◌+◌, ◌≤◌, ◌++◌, ℕ, List, length, refl, sym, ap, subst, arith, ◌∙◌}
+use Rattle.std.proofs.Common.{◌≤◌, ◌++◌, ℕ, List, sym, ap, subst, arith, ◌∙◌}
 use Rattle.tt_game.specs.declared.message.GameMsg.TheVariants as games
 use Rattle.tt_admin.specs.declared.message.AdminMsg.TheVariants as admins
 use Rattle.tt_log.specs.Deed.{game, admin, spelled}

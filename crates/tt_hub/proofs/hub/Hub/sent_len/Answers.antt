@@ -1,4 +1,4 @@
-use Rattle.std.proofs.Common.{◌≡◌, ◌≤◌, ℕ, length, refl, sym, ap, ap₂, ◌+◌, ◌∙◌, arith, inl, inr}
+use Rattle.std.proofs.Common.{◌≤◌, ℕ, length, sym, ap, ap₂, ◌+◌, ◌∙◌, arith, inl, inr}
 use Rattle.tt_log.specs.Told as book
 use Rattle.tt_hub.specs.Hub.{HubState, count_of, made_of, sent}
 use Rattle.tt_hub.proofs.Taking.{count-read, nothing-of, told-length}

@@ -1,4 +1,4 @@
-use Rattle.std.proofs.Common.{◌≡◌, ◌≤◌, ℕ, ◌+◌, Bool, true, false, List, [], ◌∷◌, ◌++◌, length, refl, sym, ap, ap₂, subst, ◌∙◌, arith}
+use Rattle.std.proofs.Common.{◌≡◌, ◌≤◌, Bool, true, false, List, [], ◌∷◌, ◌++◌, length, refl, sym, ap, ap₂, subst, ◌∙◌, arith}
 use Rattle.std.specs.Prelude.{Result, Ok, Err, IfErr}
 use Rattle.std.specs.Result.{IsErrAnd}
 use Rattle.tt_edge.specs.declared.machine.CoreErr.{CoreErr}
@@ -36,7 +36,8 @@ returns-then-not-takes-clause-err c = (
   refl,
   (
     ap (λ (h : HubState). is_over (made_of h) h.events) (sym c.self.view_is) ∙ sym c.over.ensures.over ∙ c.if-over.false,
-    ap (λ (h : HubState). words.takes (made_of h) h.events c.args.event) (sym c.self.view_is) ∙ sym c.takes.ensures.names ∙ c.if-not-takes.true,
+    ap (λ (h : HubState). words.takes (made_of h) h.events c.args.event) (sym c.self.view_is) ∙ sym c.takes.ensures.names
+        ∙ c.if-not-takes.true,
   ),
 )
 
@@ -59,8 +60,10 @@ invariant_of-self-in_err-most c =
     c.planned.ensures.origin c.planned.ensures.events c.self.invariant c.make_room.ensures.seats
 
 pub returns-in_err-most-clause-taken : goal.returns-in_err-most-clause-taken
-returns-in_err-most-clause-taken c = λ conn. taken-same c.self.inside.outs c.make_room.new.outs c.self.inside.counts.items c.make_room.new.counts.items
-    c.self.invariant.counts_are c.make_room.ensures.seats conn ∙ ap (λ (h : HubState). words.taken h conn) c.self.view_is
+returns-in_err-most-clause-taken c = λ conn.
+    let hub = c.self.inside in
+    taken-same hub.outs c.make_room.new.outs hub.counts.items c.make_room.new.counts.items c.self.invariant.counts_are
+    c.make_room.ensures.seats conn ∙ ap (λ (h : HubState). words.taken h conn) c.self.view_is
 
 pub returns-in_err-most-clause-err : goal.returns-in_err-most-clause-err
 returns-in_err-most-clause-err c =
@@ -78,8 +81,10 @@ invariant_of-self-in_err-put c =
     c.make_room.ensures.seats
 
 pub returns-in_err-put-clause-taken : goal.returns-in_err-put-clause-taken
-returns-in_err-put-clause-taken c = λ conn. taken-same c.self.inside.outs c.make_room.new.outs c.self.inside.counts.items c.make_room.new.counts.items
-    c.self.invariant.counts_are c.make_room.ensures.seats conn ∙ ap (λ (h : HubState). words.taken h conn) c.self.view_is
+returns-in_err-put-clause-taken c = λ conn.
+    let hub = c.self.inside in
+    taken-same hub.outs c.make_room.new.outs hub.counts.items c.make_room.new.counts.items c.self.invariant.counts_are
+    c.make_room.ensures.seats conn ∙ ap (λ (h : HubState). words.taken h conn) c.self.view_is
 
 pub deliver-requires-clause-each : goal.deliver-requires-clause-each
 deliver-requires-clause-each c =
@@ -138,8 +143,10 @@ invariant_of-self-2 c =
     c.in_ok-change.ensures.staged ms gs c.in_ok-most.ensures.most c.in_ok-most.ensures.fits c.deliver.ensures.opened c.deliver.ensures.told
 
 pub returns-clause-taken : goal.returns-clause-taken
-returns-clause-taken c = λ conn. taken-same c.self.inside.outs c.make_room.new.outs c.self.inside.counts.items c.make_room.new.counts.items
-    c.self.invariant.counts_are c.make_room.ensures.seats conn ∙ ap (λ (h : HubState). words.taken h conn) c.self.view_is
+returns-clause-taken c = λ conn.
+    let hub = c.self.inside in
+    taken-same hub.outs c.make_room.new.outs hub.counts.items c.make_room.new.counts.items c.self.invariant.counts_are
+    c.make_room.ensures.seats conn ∙ ap (λ (h : HubState). words.taken h conn) c.self.view_is
 
 pub returns-clause-fresh : goal.returns-clause-fresh
 returns-clause-fresh c = λ opens_one.

@@ -1,4 +1,4 @@
-use Rattle.std.proofs.Common.{◌≡◌, ◌≤◌, ℕ, ◌+◌, length, refl, sym, ap, subst, ◌∙◌, arith, inl, inr}
+use Rattle.std.proofs.Common.{◌≡◌, ◌≤◌, ℕ, ◌+◌, length, ap, subst, ◌∙◌, arith, inl, inr}
 use Rattle.std.proofs.Common.{Bool, true, false, ◌-◌}
 use Rattle.std.specs.Prelude.{slice_set, ◌↔◌}
 use Rattle.std.specs.Bool.{IsTrue}
@@ -47,8 +47,8 @@ invariant_of-self c =
     let high : conn ≤ length counts = let l = c.if-conn-len.false in let n = c.len.ensures in omega (arith, l, n) in
     let few : count ≤ length (list_of hub.outs conn) = let is = c.take-count.ensures.count in omega (arith, is) in
     let read = count-read counts conn c.index_mut.result.now low high c.index_mut.ensures.value in
-    running-taken hub.game hub.outs c.take-count.new.self counts (slice_set counts (conn - 1) (c.index_mut.result.now + count)) hub.most conn
-    count c.self.invariant low high few (ap (λ (n : ℕ). slice_set counts (conn - 1) (n + count)) read) c.take-count.ensures.opened
+    running-taken hub.game hub.outs c.take-count.new.self counts (slice_set counts (conn - 1) (c.index_mut.result.now + count)) hub.most
+    conn count c.self.invariant low high few (ap (λ (n : ℕ). slice_set counts (conn - 1) (n + count)) read) c.take-count.ensures.opened
     c.take-count.ensures.rest c.take-count.ensures.others
 
 pub returns-clause-bytes : goal.returns-clause-bytes
