@@ -259,8 +259,8 @@ at_piece o play next p conn place piece old new at is live number same now untak
     ∙ live in
     let there = live-opened o p.events conn live_then in
     let low : place < length cs = omega (arith, there.within, number, at.count) in
-    let kept : IsKept o p conn old = subst (λ (n : ℕ). IsKept o p n old) number (subst (λ (k : Connection). IsKept o p (place + 1) k) (sym read)
-    (at.each place old low)) in
+    let kept : IsKept o p conn old = subst (λ (n : ℕ). IsKept o p n old) number
+    (subst (λ (k : Connection). IsKept o p (place + 1) k) (sym read) (at.each place old low)) in
     let all = bytes_append (p.fed conn) piece kept.bytes is in
     let adds = added_is conn (p.fed conn) old.rest.items piece kept.bytes all (bytes_append old.rest.items piece kept.held is)
     (kept.rest live_then) in
