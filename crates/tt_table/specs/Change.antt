@@ -1,5 +1,5 @@
 -- What an event is to do, as plain data: to the members, to the admins, and what it tells.
-use Rattle.std.specs.Prelude.{ℕ, ◌+◌, Bool, true, false, not, ◌==◌, List, [], ◌∷◌, ◌++◌, filter, Option, Some, None}
+use Rattle.std.specs.Prelude.{◌+◌, not, ◌==◌, List, [], ◌∷◌, ◌++◌, filter, Option, Some, None}
 use Rattle.std.specs.List.{list_any}
 use Rattle.tt_log.specs.Admin.{Admin, new_admin}
 use Rattle.tt_log.specs.Table.{Table, admin_of}

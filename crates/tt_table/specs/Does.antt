@@ -1,5 +1,5 @@
 -- When a change is what an event does.
-use Rattle.std.specs.Prelude.{◌≡◌, ℕ, ◌+◌, ◌≤◌, ◌<◌, ◌^◌, Bool, true, false, List, [], Option, Some, None, length, is_some, cond, map, if◌then◌else◌}
+use Rattle.std.specs.Prelude.{◌≡◌, ℕ, ◌+◌, ◌≤◌, ◌<◌, ◌^◌, Bool, true, false, List, [], Option, Some, None, length, is_some}
 use Rattle.std.specs.List.{list_any}
 use Rattle.tt_edge.specs.declared.event.Event.{Event}
 use Rattle.tt_edge.specs.Event.{is_tick}
@@ -7,7 +7,7 @@ use Rattle.tt_map.specs.Layout.{map_of}
 use Rattle.tt_world.specs.declared.command.Entry.{Entry}
 use Rattle.tt_world.specs.World.{WorldState}
 use Rattle.tt_log.specs.declared.deed.What.{What}
-use Rattle.tt_log.specs.declared.deed.What.TheVariants.{Msg, ToAdmin, MapBegin, MapPieces, Sync, Entries, Stamp, End}
+use Rattle.tt_log.specs.declared.deed.What.TheVariants.{ToAdmin, MapBegin}
 use Rattle.tt_log.specs.declared.report.Report.{Report}
 use Rattle.tt_log.specs.declared.report.Report.TheVariants.{Message, CompanyNews}
 use Rattle.tt_log.specs.Events.{by_event, stops}

@@ -1,7 +1,6 @@
 -- What a game is seen as, and what it holds of the table of its events.
 use Rattle.std.specs.Prelude.{◌≡◌, ℕ, ◌≤◌, ◌<◌, ◌^◌, Bool, false, List, [], Option, Some, None, drop, length}
 use Rattle.tt_edge.specs.declared.event.Event.{Event}
-use Rattle.tt_world.specs.declared.setup.Setup.{Setup}
 use Rattle.tt_world.specs.declared.command.Entry.{Entry}
 use Rattle.tt_world.specs.Setup.{Fits}
 use Rattle.tt_world.specs.World.{WorldState}
