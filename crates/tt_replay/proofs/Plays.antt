@@ -1,12 +1,12 @@
 -- Lines, done one after another.
 use Rattle.std.proofs.Common.{◌≡◌, ◌≢◌, ℕ, zero, suc, ◌+◌, ◌≤◌, ◌<◌, Bool, true, false, not, cond, List, [], ◌∷◌, ◌++◌, length, drop}
-use Rattle.std.proofs.Common.{replicate, refl, sym, ap, ap₂, subst, ◌∙◌, append_assoc, arith, Some, Option}
+use Rattle.std.proofs.Common.{replicate, refl, sym, ap, ap₂, subst, ◌∙◌, arith, Some}
 use Rattle.std.specs.Prelude.{◌==◌, slice_index_or, slice_set, if◌then◌else◌}
 use Rattle.std.proofs.lemmas.List.{append-nil, drop-drop, length-drop, length-append, get_or-drop, get_or_append_left, get_or_push}
 use Rattle.std.proofs.lemmas.List.{get_or-set_same, get_or-set_other, length-set}
-use Rattle.std.proofs.lemmas.Bool.{true≢false, eqb-true, eq-eqb, ne_eqb}
+use Rattle.std.proofs.lemmas.Bool.{eqb-true, eq-eqb, ne_eqb}
 use Rattle.tt_frame.specs.Packet.{IsBytes}
-use Rattle.tt_frame.specs.Stream.{End, IsPartial, IsBadSize, rest_of}
+use Rattle.tt_frame.specs.Stream.{IsPartial, IsBadSize, rest_of}
 use Rattle.tt_frame.specs.StreamReading.{reading, reading_within}
 use Rattle.tt_frame.specs.Framing.{BeginsWith}
 use Rattle.tt_frame.proofs.PacketLaws.{drop-packet, size_within}
@@ -21,7 +21,7 @@ use Rattle.tt_log.specs.Origin.{Origin}
 use Rattle.tt_log.specs.declared.script.line.Line1.{Line1}
 use Rattle.tt_replay.specs.declared.play.Play.{Play}
 use Rattle.tt_replay.specs.declared.play.Connection.{Connection}
-use Rattle.tt_replay.specs.Played.{Played, reader_limit, is_live, is_over, is_refused, stream_events, added, as_long_as, until_ended}
+use Rattle.tt_replay.specs.Played.{Played, reader_limit, is_live, is_over, is_refused, stream_events, added, until_ended}
 use Rattle.tt_replay.specs.Played.{until_over, nobody, opened, one_refused, fed_more, with_event, with_piece, with_ticks, did, done}
 use Rattle.tt_replay.specs.Playing.{AreDoors, IsKept, IsAt}
 use Rattle.tt_replay.proofs.Events.{opens-push, goes-on, goes-no-further, in-front, live-before, live-opened, door-stays}
@@ -259,8 +259,8 @@ at_piece o play next p conn place piece old new at is live number same now untak
     ∙ live in
     let there = live-opened o p.events conn live_then in
     let low : place < length cs = omega (arith, there.within, number, at.count) in
-    let kept : IsKept o p conn old = subst (λ (n : ℕ). IsKept o p n old) number
-    (subst (λ (k : Connection). IsKept o p (place + 1) k) (sym read) (at.each place old low)) in
+    let found : IsKept o p (place + 1) old = subst (λ (k : Connection). IsKept o p (place + 1) k) (sym read) (at.each place old low) in
+    let kept : IsKept o p conn old = subst (λ (n : ℕ). IsKept o p n old) number found in
     let all = bytes_append (p.fed conn) piece kept.bytes is in
     let adds = added_is conn (p.fed conn) old.rest.items piece kept.bytes all (bytes_append old.rest.items piece kept.held is)
     (kept.rest live_then) in

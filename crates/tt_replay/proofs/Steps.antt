@@ -1,5 +1,5 @@
 -- Scripts that are played, step by step.
-use Rattle.std.proofs.Common.{◌≡◌, ℕ, ◌+◌, ◌-◌, ◌≤◌, List, [], ◌∷◌, ◌++◌, length, take, drop, map, true, refl, sym, ap, ap₂, subst, ◌∙◌}
+use Rattle.std.proofs.Common.{◌≡◌, ℕ, ◌+◌, ◌-◌, ◌≤◌, List, [], ◌∷◌, ◌++◌, length, take, drop, map, refl, sym, ap, ap₂, subst, ◌∙◌}
 use Rattle.std.proofs.Common.{arith, ◌<◌, ◌↔◌, inl, inr, Result, Ok, Err}
 use Rattle.std.specs.Prelude.{false, fold}
 use Rattle.std.proofs.lemmas.List.{take-append-drop, take-map, length-map, length-append, append-nil}
@@ -27,7 +27,7 @@ use Rattle.tt_map.proofs.MapLaws.{map_is_read}
 use Rattle.tt_log.specs.Saved.{IsSaved}
 use Rattle.tt_log.specs.Printing.{IsScript}
 use Rattle.tt_log.proofs.PrintLaws.{told_fits, spelled_script}
-use Rattle.tt_replay.specs.Begun.{world_or, world_from, origin_from, origin_in, MayStart}
+use Rattle.tt_replay.specs.Begun.{world_or, world_from, origin_from, MayStart}
 use Rattle.tt_replay.specs.declared.play.Play.{Play}
 use Rattle.tt_replay.specs.Script.{needs_client, IsBuilt, IsPlayed, IsPlayedWith}
 use Rattle.tt_replay.specs.Played.{nothing, done, played}

@@ -1,4 +1,4 @@
-use Rattle.std.proofs.Common.{◌≡◌, arith}
+use Rattle.std.proofs.Common.{arith}
 use Rattle.tt_hub.specs.Hub.{origin}
 use Rattle.tt_replay.proofs.Events.{live-opened}
 use Rattle.tt_replay.proofs.play.place_of.Goals as goal

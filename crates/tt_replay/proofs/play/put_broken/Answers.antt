@@ -1,4 +1,4 @@
-use Rattle.std.proofs.Common.{◌≡◌, ◌∙◌, ap, refl, List}
+use Rattle.std.proofs.Common.{◌∙◌, ap, refl, List}
 use Rattle.tt_edge.specs.declared.event.Event.{Event}
 use Rattle.tt_edge.specs.declared.event.Event.TheVariants.{Broken}
 use Rattle.tt_hub.specs.Hub.{origin}

@@ -1,4 +1,4 @@
-use Rattle.std.proofs.Common.{◌∙◌, sym, arith}
+use Rattle.std.proofs.Common.{◌∙◌, arith}
 use Rattle.tt_hub.specs.Hub.{origin}
 use Rattle.tt_replay.proofs.Reports.{next_line}
 use Rattle.tt_replay.proofs.report.put_connections.Goals as goal
