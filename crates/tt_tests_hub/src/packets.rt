@@ -9,24 +9,54 @@ use tt_hub::Hub;
 /// A digest.
 const DIGEST: &[u8] = b"0123456789abcdef0123456789abcdef\0";
 
-/// A body of each message that a client may say, by the message's number.
-const SPELLED: [(u8, &[u8]); 15] = [
-    (2, b"13.4\0\x0d\0\0\0Ann\0\xff"),
-    (4, b""),
-    (7, b""),
-    (9, DIGEST),
-    (11, DIGEST),
-    (13, b""),
-    (19, b""),
-    (23, b"\x05\0\0\0\x07"),
-    (24, b"\0\0\0\x10\x27\0\0\0\0"),
-    (26, b"\0\0\0\0\0Hi\0"),
-    (28, b"Ann\0"),
-    (30, DIGEST),
-    (31, b"\0\0"),
-    (33, b"\x04"),
-    (35, b""),
+/// A body of each message of a game, in the order of the messages' numbers from 0 on.
+const BODIES: [&[u8]; 39] = [
+    b"",
+    b"",
+    b"13.4\0\x0d\0\0\0Ann\0\xff",
+    b"\x14",
+    b"",
+    b"Game\0\x09\0\0\0\x02\x01\x0f\x01",
+    b"\x02\x07\0\0\00123456789abcdef\x08\0\0\0ghijklmnopqrstuv",
+    b"",
+    b"\x01\0\0\0tt\0",
+    DIGEST,
+    b"\x02\0\0\0tt\0",
+    DIGEST,
+    b"\x02\0\0\0\x01\0\0\0tt\0",
+    b"",
+    b"\x07",
+    b"\x01\x02\x03\x04",
+    b"A\0\0\0",
+    b"OTTN",
+    b"",
+    b"",
+    b"\x03\0\0\0",
+    b"\x05\0\0\0\x06\0\0\0\x07",
+    b"\x05\0\0\0\xadh$\xfe",
+    b"J\0\0\0\xff",
+    b"\0\x05\0\x0a\0\0\0\x02Hello\0",
+    b"\0\x05\0\x0a\0\0\0\x02Hello\0\x08\0\0\0\x02\0\0\0",
+    b"\x02\x03\0\0\0Hi\0",
+    b"\x03\0\0\0\x01Hi\0",
+    b"Bob\0",
+    b"\x03\0\0\0\xffBob\0",
+    DIGEST,
+    b"\x03\0",
+    b"\x03\0\0\0\x0e",
+    b"\x01",
+    b"\x03\0\0\0\x0c",
+    b"",
+    b"\x03\0\0\0",
+    b"",
+    b"",
 ];
+
+/// The body of the join packet of a client named Ann.
+const JOIN: &[u8] = b"13.4\0\x0d\0\0\0Ann\0\xff";
+
+/// The number of the message that has any bytes as its body: a piece of a map.
+const MAP_DATA: u8 = 17;
 
 /// ERROR with the code of an illegal packet.
 const ILLEGAL: &[u8] = &[4, 0, 3, 4];
@@ -36,8 +66,7 @@ fn two(alloc: Global) -> Result<Hub, Fail> {
     let mut hub = plain_hub(alloc)?;
     let _ = hub.event(opening(Door::Main));
     let _ = hub.event(opening(Door::Main));
-    let (number, join) = SPELLED[0];
-    let _ = hub.event(packet(alloc, 2, number, join)?);
+    let _ = hub.event(packet(alloc, 2, 2, JOIN)?);
     Ok(hub)
 }
 
@@ -74,22 +103,25 @@ fn is_heard<R: Abort>(rt: &R, alloc: Global, number: u8, body: &[u8]) -> Result<
     Ok(())
 }
 
-/// A row: as it is spelled, with a byte less, with one more, and with the number of no message.
+/// A row: as it is spelled, with the number of no message, and, but for a piece of a map, with a byte less and with one more.
 fn row<R: Abort>(rt: &R, alloc: Global, number: u8, body: &[u8]) -> Result<(), Fail> {
     is_heard(rt, alloc, number, body)?;
+    is_illegal(rt, alloc, 200, body)?;
+    if number == MAP_DATA {
+        return Ok(());
+    }
     if !body.is_empty() {
         is_illegal(rt, alloc, number, &body[..body.len() - 1])?;
     }
     let mut longer = body.to_vec(alloc)?;
     longer.push(0)?;
-    is_illegal(rt, alloc, number, longer.as_slice())?;
-    is_illegal(rt, alloc, 200, body)
+    is_illegal(rt, alloc, number, longer.as_slice())
 }
 
 #[test]
 fn what_spells_nothing_ends_its_own_connection(rt: HostRuntime) -> Result<(), Fail> {
-    for (number, body) in SPELLED {
-        row(&rt, rt.alloc(), number, body)?;
+    for number in 0..BODIES.len() {
+        row(&rt, rt.alloc(), number as u8, BODIES[number])?;
     }
     Ok(())
 }
