@@ -27,6 +27,22 @@ const DIRECT: &[u8] =
 /// The packet that asks a peer to show itself to the desk.
 const REQUEST: &[u8] = b"\x0d\x00\x0cYPXYD99R1\x00";
 
+/// The packet that tells both peers the TURN server, with the attempt's token as their ticket.
+const TURN: &[u8] = b"\x1d\x00\x10YPXYD99R1\x00\x03YPXYD99R1\x00turn\x00";
+
+/// The packet that tells the client that no way is left.
+const FAILED: &[u8] = b"\x0d\x00\x09YPXYD99R1\x00";
+
+/// The body by which the client says that it is connected.
+const CONNECTED: &[u8] = b"\x01YPXYD99R1\x00";
+
+/// The body by which a server tells of its game, of revision 13.4.
+const UPDATE: &[u8] = b"\x01Game\x0013.4\x00\x02\x0f\x01\x01\x03\x00\x00\x00";
+
+/// What is told to one who asks for the servers of that revision: that server, and the end.
+const LISTING: &[u8] =
+    b"\x1f\x00\x05\x01\x00+9ZDDVF\x00Game\x0013.4\x00\x02\x0f\x01\x01\x03\x00\x00\x00\x05\x00\x05\x00\x00";
+
 /// A coordinator with the random words 0 and 0, and with all ways.
 fn made<R: Abort>(rt: &R, alloc: Global) -> Coordinator {
     let Some(turn_host) = Line::new(b"turn") else {
@@ -217,4 +233,43 @@ fn the_clients_of_a_server_that_ends_are_told_so(rt: HostRuntime) {
     stands(&rt, &gc, 3, true, 59);
     say(&rt, alloc, &mut gc, 3, 4, b"\x0113.4\x00");
     stands(&rt, &gc, 3, true, 64);
+}
+
+#[test]
+fn where_the_last_way_fails_the_client_is_told_so(rt: HostRuntime) {
+    let alloc = rt.alloc();
+    let mut gc = past_direct(&rt, alloc);
+    say(&rt, alloc, &mut gc, 1, 13, b"\x01YPXYD99R1\x00\x00\x00");
+    told(&rt, alloc, &mut gc, 1, TURN);
+    told(&rt, alloc, &mut gc, 2, TURN);
+    say(&rt, alloc, &mut gc, 2, 8, b"\x01YPXYD99R1\x00\x02");
+    told(&rt, alloc, &mut gc, 2, b"");
+    say(&rt, alloc, &mut gc, 2, 8, b"\x01YPXYD99R1\x00\x03");
+    told(&rt, alloc, &mut gc, 1, b"");
+    told(&rt, alloc, &mut gc, 2, FAILED);
+}
+
+#[test]
+fn a_client_that_is_connected_has_no_attempt_left(rt: HostRuntime) {
+    let alloc = rt.alloc();
+    let mut gc = asked(&rt, alloc);
+    say(&rt, alloc, &mut gc, 2, 10, CONNECTED);
+    say(&rt, alloc, &mut gc, 2, 8, b"\x01YPXYD99R1\x00\x01");
+    put(&rt, &mut gc, Event::Shut { conn: 1 }, Ok(1));
+    told(&rt, alloc, &mut gc, 1, b"");
+    told(&rt, alloc, &mut gc, 2, b"");
+    stands(&rt, &gc, 2, true, 46);
+}
+
+#[test]
+fn a_server_is_listed_once_it_has_told_of_its_game(rt: HostRuntime) {
+    let alloc = rt.alloc();
+    let mut gc = asked(&rt, alloc);
+    say(&rt, alloc, &mut gc, 2, 4, b"\x0113.4\x00");
+    told(&rt, alloc, &mut gc, 2, b"\x05\x00\x05\x00\x00");
+    say(&rt, alloc, &mut gc, 1, 3, UPDATE);
+    say(&rt, alloc, &mut gc, 2, 4, b"\x0113.4\x00");
+    told(&rt, alloc, &mut gc, 2, LISTING);
+    say(&rt, alloc, &mut gc, 2, 4, b"\x0113.5\x00");
+    told(&rt, alloc, &mut gc, 2, b"\x05\x00\x05\x00\x00");
 }
