@@ -1,10 +1,8 @@
 //! A packet that spells nothing ends its own connection, and nobody else learns of it.
-use crate::games::{opening, packet, plain_hub, put, told};
+use crate::games::{opening, packet, plain_hub, put, taken, told};
 use std::alloc::Global;
 use std::process::Abort;
-use std::test::*;
-use tt_edge::{Core, Door, drain};
-use tt_hub::Hub;
+use tt_edge::Door;
 
 /// A digest.
 const DIGEST: &[u8] = b"0123456789abcdef0123456789abcdef\0";
@@ -61,67 +59,67 @@ const MAP_DATA: u8 = 17;
 /// ERROR with the code of an illegal packet.
 const ILLEGAL: &[u8] = &[4, 0, 3, 4];
 
-/// Two connections, of which the second one has joined.
-fn two(alloc: Global) -> Result<Hub, Fail> {
-    let mut hub = plain_hub(alloc)?;
-    let _ = hub.event(opening(Door::Main));
-    let _ = hub.event(opening(Door::Main));
-    let _ = hub.event(packet(alloc, 2, 2, JOIN)?);
-    Ok(hub)
-}
-
-/// What the first connection is told of a packet, and whether the second one is told what it was told before alone.
-fn answer<R: Abort>(rt: &R, alloc: Global, number: u8, body: &[u8]) -> Result<Vec<u8>, Fail> {
-    let mut hub = two(alloc)?;
-    put(rt, &mut hub, packet(alloc, 1, number, body)?, Ok(1));
+/// What the first connection is told of a packet, where a second one has joined, which is told its welcome alone.
+fn answer<R: Abort>(rt: &R, alloc: Global, number: u8, body: &[u8]) -> Vec<u8> {
+    let mut hub = plain_hub(rt, alloc);
+    put(rt, &mut hub, opening(Door::Main), Ok(1));
+    put(rt, &mut hub, opening(Door::Main), Ok(2));
+    put(rt, &mut hub, packet(rt, alloc, 2, 2, JOIN), Ok(2));
+    put(rt, &mut hub, packet(rt, alloc, 1, number, body), Ok(1));
     told(
         rt,
         alloc,
         &mut hub,
         2,
         &[14, 0, 12, 3, 0, 0, 0, 0, 0, 0, 0, b't', b't', 0],
-    )?;
-    Ok(drain(alloc, &mut hub, 1)?)
+    );
+    taken(rt, alloc, &mut hub, 1)
 }
 
 /// A packet that spells nothing ends its connection with its code.
-fn is_illegal<R: Abort>(rt: &R, alloc: Global, number: u8, body: &[u8]) -> Result<(), Fail> {
-    let told = answer(rt, alloc, number, body)?;
+fn is_illegal<R: Abort>(rt: &R, alloc: Global, number: u8, body: &[u8]) {
+    let told = answer(rt, alloc, number, body);
     assert_eq!(rt;
         told.as_slice(),
         ILLEGAL,
         "packet {number} with {} bytes",
         body.len()
     );
-    Ok(())
 }
 
 /// A packet that spells a message is answered by what the message asks for, or refused for another reason.
-fn is_heard<R: Abort>(rt: &R, alloc: Global, number: u8, body: &[u8]) -> Result<(), Fail> {
-    let told = answer(rt, alloc, number, body)?;
+fn is_heard<R: Abort>(rt: &R, alloc: Global, number: u8, body: &[u8]) {
+    let told = answer(rt, alloc, number, body);
     assert_ne!(rt; told.as_slice(), ILLEGAL, "packet {number}");
-    Ok(())
+}
+
+/// The bytes with one more behind them.
+fn longer<R: Abort>(rt: &R, alloc: Global, body: &[u8]) -> Vec<u8> {
+    let Ok(mut bytes) = body.to_vec(alloc) else {
+        panic!(rt; "memory ran out")
+    };
+    if bytes.push(0).is_err() {
+        panic!(rt; "memory ran out")
+    }
+    bytes
 }
 
 /// A row: as it is spelled, with the number of no message, and, but for a piece of a map, with a byte less and with one more.
-fn row<R: Abort>(rt: &R, alloc: Global, number: u8, body: &[u8]) -> Result<(), Fail> {
-    is_heard(rt, alloc, number, body)?;
-    is_illegal(rt, alloc, 200, body)?;
+fn row<R: Abort>(rt: &R, alloc: Global, number: u8, body: &[u8]) {
+    is_heard(rt, alloc, number, body);
+    is_illegal(rt, alloc, 200, body);
     if number == MAP_DATA {
-        return Ok(());
+        return;
     }
     if !body.is_empty() {
-        is_illegal(rt, alloc, number, &body[..body.len() - 1])?;
+        is_illegal(rt, alloc, number, &body[..body.len() - 1]);
     }
-    let mut longer = body.to_vec(alloc)?;
-    longer.push(0)?;
-    is_illegal(rt, alloc, number, longer.as_slice())
+    is_illegal(rt, alloc, number, longer(rt, alloc, body).as_slice());
 }
 
 #[test]
-fn what_spells_nothing_ends_its_own_connection(rt: HostRuntime) -> Result<(), Fail> {
+fn what_spells_nothing_ends_its_own_connection(rt: HostRuntime) {
     for number in 0..BODIES.len() {
-        row(&rt, rt.alloc(), number as u8, BODIES[number])?;
+        row(&rt, rt.alloc(), number as u8, BODIES[number]);
     }
-    Ok(())
 }
