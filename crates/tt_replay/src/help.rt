@@ -10,11 +10,11 @@ Use: tt_replay run < SCRIPT     writes the report of the script's game
 It reads from standard input and writes to standard output. A script's lines
 `= LINE` are what it expects of its report. A list has lines `game HEX`, `admin HEX`,
 `coord HEX`, `stun HEX` or `turn HEX`, each with some bytes of a stream of that family
-in hexadecimal digits. The exit status is 0 when all was done, 1 for a report that is not as expected (the first place is written), 2 for unknown
-words, 3 for an input that is no script or no list, or a script with a line of an
-attached client (its first bad line is written), 4 and 5 when reading or writing
-failed, 6 when memory ran out, and 7 for an input of more than 64 MiB. Nothing is
-written to standard error.
+in hexadecimal digits. The exit status is 0 when all was done, 1 for a report that is
+not as expected (the first place is written), 2 for unknown words, 3 for an input that
+is no script or no list, or a script with a line of an attached client (its first bad
+line is written), 4 and 5 when reading or writing failed, 6 when memory ran out, and 7
+for an input of more than 64 MiB. Nothing is written to standard error.
 ";
 
 /// Which version it is.

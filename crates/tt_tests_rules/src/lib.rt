@@ -1,4 +1,5 @@
-//! What the libraries of worlds, maps, rules, attempts, scripts, the admin desk and outgoing bytes answer to numbers and bytes from outside.
+//! What the libraries of worlds, maps, rules, attempts, scripts, the admin desk and outgoing bytes answer to numbers and bytes from
+//! outside.
 //!
 //! Only tests stand here, over public calls, so that a change of a library proves the library alone.
 #![tactic(auto)]
