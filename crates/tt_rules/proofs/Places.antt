@@ -1,5 +1,6 @@
 -- Truths that are told of places, one after the other.
-use Rattle.std.proofs.Common.{◌≡◌, ◌⊎◌, inl, inr, ℕ, ◌+◌, ◌<◌, ◌≤◌, Bool, false, List, [], ◌∷◌, length, zero, suc, refl, sym, ap, ◌∙◌, arith, Bor}
+use Rattle.std.proofs.Common.{◌≡◌, ◌⊎◌, inl, inr, ℕ, ◌+◌, ◌<◌, ◌≤◌, Bool, false, List, [], ◌∷◌}
+use Rattle.std.proofs.Common.{length, zero, suc, refl, sym, ap, ◌∙◌, arith, Bor}
 use Rattle.std.specs.Prelude.{is_some, map, slice_index_or, slice_set, Option, Some, None}
 use Rattle.std.specs.Option.{option_copied}
 use Rattle.std.proofs.Math.Nat.{eq-or-lt_of_le}
