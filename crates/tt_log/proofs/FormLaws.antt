@@ -27,7 +27,7 @@ IsLeft (b ∷ left) = b ≡ 32
 
 -- ---- words
 
-front_of : (w left : List ℕ) → HasNo 32 w → IsLeft left → (front_word (w ++ left) ≡ w) × (behind_word (w ++ left) ≡ left)
+pub front_of : (w left : List ℕ) → HasNo 32 w → IsLeft left → (front_word (w ++ left) ≡ w) × (behind_word (w ++ left) ≡ left)
 front_of [] [] one is = (refl, refl)
 front_of [] (b ∷ left) one is = let e : (b == 32) ≡ true = eq-eqb b 32 is in rw e (refl, refl)
 front_of (a ∷ w) left one is =
@@ -47,11 +47,11 @@ front_by b bytes true e rec = ((λ i lt. absurd (omega (arith, lt))), eqb-true b
 front_by b bytes false e rec =
     (has_no-cons 32 b (front_word bytes) (λ is. let yes = eq-eqb b 32 is in absurd cc) rec.0, rec.1, ap (λ (t : List ℕ). b ∷ t) rec.2)
 
-front_facts : (bytes : List ℕ) → HasNo 32 (front_word bytes) × IsLeft (behind_word bytes) × (bytes ≡ front_word bytes ++ behind_word bytes)
+pub front_facts : (bytes : List ℕ) → HasNo 32 (front_word bytes) × IsLeft (behind_word bytes) × (bytes ≡ front_word bytes ++ behind_word bytes)
 front_facts [] = ((λ i lt. absurd (omega (arith, lt))), tt, refl)
 front_facts (b ∷ bytes) = front_by b bytes (b == 32) refl (front_facts bytes)
 
-word_parts : (left w after : List ℕ) → word_at left ≡ Some (w, after) → HasNo 32 w × IsLeft after × (left ≡ 32 ∷ w ++ after)
+pub word_parts : (left w after : List ℕ) → word_at left ≡ Some (w, after) → HasNo 32 w × IsLeft after × (left ≡ 32 ∷ w ++ after)
 unfolding word_at
 word_parts [] w after e = absurd cc
 word_parts (b ∷ bytes) w after e =
@@ -78,14 +78,14 @@ text_one byte (b ∷ content) least most low fits = lower_one byte (b ∷ conten
 pub number_one : (byte least most n : ℕ) → byte < 45 → Fits (number least most) n → HasNo byte (decimal n)
 number_one byte least most n low fits = decimal_one byte n (omega (arith, low)) (omega (arith, fits.2))
 
-blank_one : (f : Form) (x : Value f) → Fits f x → HasNo 32 (spelled f x)
+pub blank_one : (f : Form) (x : Value f) → Fits f x → HasNo 32 (spelled f x)
 blank_one (number least most) n fits = number_one 32 least most n (omega arith) fits
 blank_one (text least most) content fits = text_one 32 content least most (omega arith) fits
 blank_one hex piece fits = lower_one 32 piece (omega arith) fits.bytes
 blank_one saved map fits = lower_one 32 map (omega arith) fits.0.bytes
 blank_one key w fits = fits
 
-hex_at_found : (piece left : List ℕ) → IsPiece piece → IsLeft left → hex_at (32 ∷ encode_lower piece ++ left) ≡ Some (piece, left)
+pub hex_at_found : (piece left : List ℕ) → IsPiece piece → IsLeft left → hex_at (32 ∷ encode_lower piece ++ left) ≡ Some (piece, left)
 unfolding hex_at
 hex_at_found piece left fits is =
     rw (word_found (encode_lower piece) left (blank_one hex piece fits) is, hex_found (encode_lower piece) piece fits refl) refl
@@ -115,7 +115,7 @@ pairs : {A : Type 0} (x y : A) (left after : List ℕ) → ◌≡◌ {A = Option
 pairs {A} x y left after e = let both : (x, left) ≡ (y, after) =
     cc in (ap (λ (p : A × List ℕ). p.0) both, ap (λ (p : A × List ℕ). p.1) both)
 
-hex_at_back : (left piece after : List ℕ) → hex_at left ≡ Some (piece, after) → IsPiece piece × IsLeft after
+pub hex_at_back : (left piece after : List ℕ) → hex_at left ≡ Some (piece, after) → IsPiece piece × IsLeft after
     × (left ≡ 32 ∷ encode_lower piece ++ after)
 unfolding hex_at
 hex_at_back left piece after e =
@@ -186,11 +186,11 @@ Sound (end m) P = P m []
 Sound (all make) P = (bytes : List ℕ) → HasNo 10 bytes → P (make bytes) (32 ∷ bytes)
 Sound (f ▸ more) P = (x : Value f) → Fits f x → Sound (more x) (λ m after. P m (32 ∷ spelled f x ++ after))
 
-has_no-behind : (byte : ℕ) (a b : List ℕ) → HasNo byte (a ++ b) → HasNo byte b
+pub has_no-behind : (byte : ℕ) (a b : List ℕ) → HasNo byte (a ++ b) → HasNo byte b
 has_no-behind byte [] b one = one
 has_no-behind byte (x ∷ a) b one = has_no-behind byte a b (has_no-rest byte x (a ++ b) one)
 
-rest_back : (left bytes : List ℕ) → rest_at left ≡ Some bytes → left ≡ 32 ∷ bytes
+pub rest_back : (left bytes : List ℕ) → rest_at left ≡ Some bytes → left ≡ 32 ∷ bytes
 unfolding rest_at
 rest_back [] bytes e = absurd cc
 rest_back (b ∷ left) bytes e =
@@ -203,7 +203,7 @@ pub rest_found : (bytes : List ℕ) → rest_at (32 ∷ bytes) ≡ Some bytes
 unfolding rest_at
 rest_found bytes = refl
 
-ended_back : {M : Type 0} (m n : M) (left : List ℕ) → ended_at m left ≡ Some n → (m ≡ n) × (left ≡ [])
+pub ended_back : {M : Type 0} (m n : M) (left : List ℕ) → ended_at m left ≡ Some n → (m ≡ n) × (left ≡ [])
 ended_back m n [] e = (cc, refl)
 ended_back m n (b ∷ left) e = absurd cc
 
@@ -228,7 +228,7 @@ abbrev pub Each : {M : Type 0} → List (Branch M) → (M → List ℕ → Type 
 Each [] P = Unit {0}
 Each (b ∷ bs) P = Sound b.row (λ m after. P m (32 ∷ b.word ++ after)) × Each bs P
 
-picked : {M : Type 0} (P : M → List ℕ → Type 0) (r s : Row M) (v w : List ℕ) (t : Bool) → bytes_eq w v ≡ t
+pub picked : {M : Type 0} (P : M → List ℕ → Type 0) (r s : Row M) (v w : List ℕ) (t : Bool) → bytes_eq w v ≡ t
     → Sound r (λ m after. P m (32 ∷ v ++ after)) → Sound s (λ m after. P m (32 ∷ w ++ after))
     → Sound (cond t r s) (λ m after. P m (32 ∷ w ++ after))
 picked P r s v w true e hit miss = let is : w ≡ v =

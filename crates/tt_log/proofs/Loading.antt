@@ -272,7 +272,7 @@ synced-early o left t h = by (t.frame % o.setup.sync_freq == 0)
 
 -- ---- the frame
 
-here-found : (k : ℕ) (m : Member) (ms : List Member) → AreRising k (conns ms) → Among m ms → find (is_on m.conn) ms ≡ Some m
+pub here-found : (k : ℕ) (m : Member) (ms : List Member) → AreRising k (conns ms) → Among m ms → find (is_on m.conn) ms ≡ Some m
 here-found k m [] r there = absurd there
 here-found k m (x ∷ xs) r (inl here) = rw (eq-eqb x.conn m.conn (ap (λ (y : Member). y.conn) here)) (ap (λ (y : Member). Some y) here)
 here-found k m (x ∷ xs) r (inr later) =
@@ -391,7 +391,7 @@ mapped-loads o left t h = by (downloader t) refl
 
 -- ---- a tick
 
-entries-same : (es : List Entry) (t : Table) → (tells_entries es t).table ≡ t
+pub entries-same : (es : List Entry) (t : Table) → (tells_entries es t).table ≡ t
 entries-same [] t = refl
 entries-same (e ∷ es) t = entries-same es t
 

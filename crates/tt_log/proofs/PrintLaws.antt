@@ -73,7 +73,7 @@ text_is s m lines =
 -- ---- no line feed within a line
 
 -- what is left to say of a word besides its value
-abbrev IsOne : Word → Type 0
+abbrev pub IsOne : Word → Type 0
 IsOne (named w) = list_all (λ b. not (b == 10)) w ≡ true
 IsOne (word (number least most) n) = Unit {0}
 IsOne (word (text least most) content) = Unit {0}
@@ -82,7 +82,7 @@ IsOne (word saved map) = Unit {0}
 IsOne (word key w) = HasNo 10 w
 IsOne (rest content) = Unit {0}
 
-word_one : (w : Word) → WordFits w → IsOne w → HasNo 10 (word_text w)
+pub word_one : (w : Word) → WordFits w → IsOne w → HasNo 10 (word_text w)
 word_one (named w) fits one = has_no-test 10 w one
 word_one (word (number least most) n) fits one = number_one 10 least most n (omega arith) fits
 word_one (word (text least most) content) fits one = text_one 10 content least most (omega arith) fits
@@ -91,13 +91,13 @@ word_one (word saved map) fits one = lower_one 10 map (omega arith) fits.0.bytes
 word_one (word key w) fits one = one
 word_one (rest content) fits one = fits
 
-behind_one : (ws : List Word) → AllByRecursion WordFits ws → AllByRecursion IsOne ws → HasNo 10 (behind_blanks ws)
+pub behind_one : (ws : List Word) → AllByRecursion WordFits ws → AllByRecursion IsOne ws → HasNo 10 (behind_blanks ws)
 behind_one [] fits one = λ i lt. absurd (omega (arith, lt))
 behind_one (w ∷ ws) fits one =
     has_no-cons 10 32 (word_text w ++ behind_blanks ws) (λ is. omega (arith, is))
     (has_no-append 10 (word_text w) (behind_blanks ws) (word_one w fits.0 one.0) (behind_one ws fits.1 one.1))
 
-parted_one : (ws : List Word) → AllByRecursion WordFits ws → AllByRecursion IsOne ws → HasNo 10 (parted ws)
+pub parted_one : (ws : List Word) → AllByRecursion WordFits ws → AllByRecursion IsOne ws → HasNo 10 (parted ws)
 parted_one [] fits one = λ i lt. absurd (omega (arith, lt))
 parted_one (w ∷ ws) fits one = has_no-append 10 (word_text w) (behind_blanks ws) (word_one w fits.0 one.0) (behind_one ws fits.1 one.1)
 
@@ -115,7 +115,7 @@ setting_one (Cost x) = (refl, (tt, tt))
 setting_one (Pw x) = (refl, (tt, tt))
 setting_one (Admin x) = (refl, (tt, tt))
 
-order_one : (code : Code) (n to : ℕ) (content : List ℕ) → AllByRecursion IsOne (words_by code n to content)
+pub order_one : (code : Code) (n to : ℕ) (content : List ℕ) → AllByRecursion IsOne (words_by code n to content)
 order_one IncreaseLoan n to content = (refl, (tt, tt))
 order_one DecreaseLoan n to content = (refl, (tt, tt))
 order_one Give n to content = (refl, (tt, (tt, tt)))
@@ -126,7 +126,7 @@ order_one RenamePresident n to content = (refl, (tt, tt))
 order_one Pause n to content = tt
 order_one NewCompany n to content = tt
 
-line_one : (line : Line1) → AllByRecursion IsOne (line_words line)
+pub line_one : (line : Line1) → AllByRecursion IsOne (line_words line)
 line_one Open = (refl, tt)
 line_one Side = (refl, tt)
 line_one (Bytes conn piece) = (refl, (tt, (tt, tt)))
@@ -142,12 +142,12 @@ line_one (Do conn command) = (refl, (tt, order_one command.code command.number c
 line_one (Forge conn piece) = (refl, (tt, (tt, tt)))
 line_one (Expect content) = (refl, (tt, tt))
 
-step_one : (step : Step) → IsStep step → HasNo 10 (step_text step)
+pub step_one : (step : Step) → IsStep step → HasNo 10 (step_text step)
 step_one (Set setting) fits = parted_one (step_words (Set setting)) (tt, fits) (refl, setting_one setting)
 step_one (Saved map) fits = parted_one (step_words (Saved map)) fits (refl, (refl, (tt, tt)))
 step_one (Line line) fits = parted_one (line_words line) fits.0 (line_one line)
 
-lines_written : (steps : List Step) → AllByRecursion IsStep steps → lines_of (flat_map step_line steps) ≡ map step_text steps
+pub lines_written : (steps : List Step) → AllByRecursion IsStep steps → lines_of (flat_map step_line steps) ≡ map step_text steps
 lines_written [] each = refl
 lines_written (step ∷ steps) each =
     ap lines_of (append_assoc (step_text step) (10 ∷ []) (flat_map step_line steps))

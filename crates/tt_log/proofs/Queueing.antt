@@ -67,7 +67,7 @@ record Queued (t : Table) : Type 0 where
   shape : Shape t.members t.queue
   once : Once t.queue
 
-other-way : (c d : ℕ) → (d == c) ≡ false → (c == d) ≡ false
+pub other-way : (c d : ℕ) → (d == c) ≡ false → (c == d) ≡ false
 other-way c d is = ne_eqb c d (λ same. let e : (d == c) ≡ true = eq-eqb d c (sym same) in absurd cc)
 
 same-way : (c d : ℕ) → (c == d) ≡ true → (d == c) ≡ true

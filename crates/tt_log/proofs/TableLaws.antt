@@ -30,10 +30,10 @@ use Rattle.tt_world.specs.declared.command.Code.TheVariants.{RenamePresident, Pa
 -- ---- what is read is a line, and its text was read
 
 -- a line, and its words behind a blank
-abbrev IsRead : Step → List ℕ → Type 0
+abbrev pub IsRead : Step → List ℕ → Type 0
 IsRead step left = IsStep step × (left ≡ 32 ∷ step_text step)
 
-settings_read : Each settings (λ step after. IsRead step (32 ∷ codes "set" ++ after))
+pub settings_read : Each settings (λ step after. IsRead step (32 ∷ codes "set" ++ after))
 settings_read = (
   (λ x fits. ((tt, (fits, tt)), refl)),
   (
@@ -72,7 +72,7 @@ settings_read = (
   ),
 )
 
-orders_read : (conn : ℕ) → Fits any conn → Each (orders conn) (λ step after. IsRead step (32 ∷ codes "do" ++ (32 ∷ decimal conn ++ after)))
+pub orders_read : (conn : ℕ) → Fits any conn → Each (orders conn) (λ step after. IsRead step (32 ∷ codes "do" ++ (32 ∷ decimal conn ++ after)))
 orders_read conn is = (
   (λ x0 f0. (((tt, (is, (tt, (f0, tt)))), (refl, refl)), refl)),
   (
@@ -93,7 +93,7 @@ orders_read conn is = (
   ),
 )
 
-lines_read : Each lines IsRead
+pub lines_read : Each lines IsRead
 lines_read = (
   (λ w fits. pick_sound settings (λ step after. IsRead step (32 ∷ codes "set" ++ after)) settings_read w),
   (
@@ -153,11 +153,11 @@ read_back line step one e =
 -- ---- a line is read from its text
 
 -- the word that a line is known by
-known : (w left : List ℕ) → list_all (λ b. not (b == 32)) w ≡ true → IsLeft left → row_at (key ▸ λ v. pick lines v) (32 ∷ w
+pub known : (w left : List ℕ) → list_all (λ b. not (b == 32)) w ≡ true → IsLeft left → row_at (key ▸ λ v. pick lines v) (32 ∷ w
     ++ left) ≡ row_at (pick lines w) left
 known w left one is = go key (λ v. pick lines v) w left (has_no-test 32 w one) is
 
-set_found : (w left : List ℕ) → list_all (λ b. not (b == 32)) w ≡ true → IsLeft left
+pub set_found : (w left : List ℕ) → list_all (λ b. not (b == 32)) w ≡ true → IsLeft left
     → row_at sets (32 ∷ w ++ left) ≡ row_at (pick settings w) left
 set_found w left one is = go key (λ v. pick settings v) w left (has_no-test 32 w one) is
 
@@ -213,11 +213,11 @@ map_found map fits =
     ++ []) refl refl
     ∙ go saved (λ map. end (Saved map)) map [] fits.1.1.0 tt
 
-order_found : (w left : List ℕ) (conn : ℕ) → list_all (λ b. not (b == 32)) w ≡ true → IsLeft left
+pub order_found : (w left : List ℕ) (conn : ℕ) → list_all (λ b. not (b == 32)) w ≡ true → IsLeft left
     → row_at (key ▸ λ v. pick (orders conn) v) (32 ∷ w ++ left) ≡ row_at (pick (orders conn) w) left
 order_found w left conn one is = go key (λ v. pick (orders conn) v) w left (has_no-test 32 w one) is
 
-act_found : (conn : ℕ) (w left : List ℕ) → Fits any conn → list_all (λ b. not (b == 32)) w ≡ true → IsLeft left
+pub act_found : (conn : ℕ) (w left : List ℕ) → Fits any conn → list_all (λ b. not (b == 32)) w ≡ true → IsLeft left
     → row_at (key ▸ λ v. pick lines v) (32 ∷ codes "do" ++ (32 ∷ decimal conn ++ (32 ∷ w ++ left))) ≡ row_at (pick (orders conn) w) left
 act_found conn w left fits one is =
     known (codes "do") (32 ∷ decimal conn ++ (32 ∷ w ++ left)) refl refl
@@ -225,10 +225,10 @@ act_found conn w left fits one is =
     ∙ order_found w left conn one is
 
 -- a command with what it doesn't use told apart
-abbrev told : ℕ → Code → ℕ → ℕ → List ℕ → Step
+abbrev pub told : ℕ → Code → ℕ → ℕ → List ℕ → Step
 told conn code n to content = Line (Do conn (record { code = code; number = n; to = to; text = content }))
 
-command_found : (conn : ℕ) (code : Code) (n to : ℕ) (content : List ℕ) → Fits any conn
+pub command_found : (conn : ℕ) (code : Code) (n to : ℕ) (content : List ℕ) → Fits any conn
     → AllByRecursion WordFits (words_by code n to content) → UsesAll code n to content
     → step_at (step_text (told conn code n to content)) ≡ Some (told conn code n to content)
 command_found conn IncreaseLoan n to content is fits uses =
@@ -265,7 +265,7 @@ command_found conn RenamePresident n to content is fits uses =
 command_found conn Pause n to content is fits uses = absurd uses
 command_found conn NewCompany n to content is fits uses = absurd uses
 
-line_found : (line : Line1) → IsLine line → step_at (step_text (Line line)) ≡ Some (Line line)
+pub line_found : (line : Line1) → IsLine line → step_at (step_text (Line line)) ≡ Some (Line line)
 line_found Open fits = known (codes "open") [] refl tt
 line_found Side fits = known (codes "side") [] refl tt
 line_found (Bytes conn piece) fits =

@@ -36,4 +36,5 @@ pub use laws::{
 };
 pub use script::{
     Bytes, Line1, Script, ScriptBad, ScriptReader, Setting, Step, parse_script, print_script,
+    put_script_line, put_set_line,
 };

@@ -2,7 +2,10 @@
 //!
 //! `parse_script` gives the script that the bytes spell, or the first line that is no script line in its place, and
 //! `print_script` the text of a script. A line has one spelling, so a script means one thing. Where a script is long,
-//! `ScriptReader` gives its lines one after the other and keeps none.
+//! `ScriptReader` gives its lines one after the other and keeps none, and `put_script_line` and `put_set_line` write one.
+//!
+//! Other files of lines are read with the same parts: `words` cuts a line, `values` reads numbers and texts, and
+//! `order_reading` what a client is told to do.
 ghost use Rattle.std.specs.Prelude.{◌≡◌, ◌++◌, ◌⊎◌, ℕ, Ok, Err, IfOk, OnOk};
 ghost use Rattle.tt_lines.specs.Lines.{lines_of, IsFirstBad};
 ghost use Rattle.tt_log.specs.Contents.{Contents};
@@ -10,21 +13,21 @@ ghost use Rattle.tt_log.specs.Printing.{IsScript};
 ghost use Rattle.tt_log.specs.Script.{Spells, IsScriptText, setup_with, map_in_step, line_in};
 ghost use Rattle.tt_log.specs.declared.script.bad.ScriptBad.TheVariants as bad;
 
-mod bad;
+pub mod bad;
 mod bytes;
 mod digits;
 mod laws;
 mod line;
 mod line_reading;
 mod numbers;
-mod order_reading;
+pub mod order_reading;
 mod printing;
 mod reader;
 mod setting;
 mod setting_reading;
 mod step;
-mod values;
-mod words;
+pub mod values;
+pub mod words;
 mod writing;
 
 pub use bad::ScriptBad;
@@ -34,7 +37,7 @@ pub use laws::{
     reader_reads_all,
 };
 pub use line::Line1;
-pub use printing::print_script;
+pub use printing::{print_script, put_script_line, put_set_line};
 pub use reader::ScriptReader;
 pub use setting::Setting;
 use std::alloc::Global;

@@ -102,7 +102,7 @@ fn put_setting(alloc: Global, out: &mut Vec<u8>, setting: &Setting) -> Result<()
 }
 
 /// Appends the line of a setting.
-fn put_set_line(alloc: Global, out: &mut Vec<u8>, setting: &Setting) -> Result<(), OutOfMemory>
+pub fn put_set_line(alloc: Global, out: &mut Vec<u8>, setting: &Setting) -> Result<(), OutOfMemory>
     ensures ok { OnOk result (out.new.items ≡ out.old.items ++ step_line (Step.Set setting.now)) }
 {
     match setting {
@@ -127,7 +127,7 @@ fn put_set_line(alloc: Global, out: &mut Vec<u8>, setting: &Setting) -> Result<(
 }
 
 /// Appends a line behind the settings.
-fn put_script_line(alloc: Global, out: &mut Vec<u8>, line: &Line1) -> Result<(), OutOfMemory>
+pub fn put_script_line(alloc: Global, out: &mut Vec<u8>, line: &Line1) -> Result<(), OutOfMemory>
     requires { Holds line.now }
     ensures ok { OnOk result (out.new.items ≡ out.old.items ++ line_text line.now) }
 {
