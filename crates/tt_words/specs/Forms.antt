@@ -1,7 +1,7 @@
 -- The forms of the words of four programs, and the values that they give.
-use Rattle.std.specs.Prelude.{◌≡◌, ℕ, List, [], codes, Option}
+use Rattle.std.specs.Prelude.{◌≡◌, ◌≤◌, ℕ, List, [], codes, length, IfSome}
 use Rattle.clap.specs.Words.{App, Row, Text, first_of, matches_of}
-use Rattle.tt_world.specs.Setup.{plain}
+use Rattle.tt_world.specs.Setup.{IsFrom, plain}
 use Rattle.tt_world.specs.declared.setup.Setup.{Setup}
 use Rattle.tt_words.specs.Options.{AreTaken, server_command, play_command, admin_command, coordinator_command}
 use Rattle.tt_words.specs.Values.{IsNumber, IsWords, GivenOr, Given, GivenAny}
@@ -57,6 +57,21 @@ pub record CoordinatorMeans (rows : List Row) (v : CoordinatorWords) : Type 0 wh
   pub first : GivenOr (IsNumber 0 4294967295) 0 (first_of (codes "first") rows) v.first
   pub second : GivenOr (IsNumber 0 4294967295) 0 (first_of (codes "second") rows) v.second
   pub turn : GivenAny (IsWords 1 31) (first_of (codes "turn") rows) v.turn
+
+-- what the values of the player are within
+pub record PlayFits (v : PlayWords) : Type 0 where
+  pub name : IsFrom 1 24 (length v.name)
+  pub password : length v.password ≤ 32
+  pub company_password : length v.company_password ≤ 32
+
+-- what the values of the admin's client are within
+pub record AdminFits (v : AdminWords) : Type 0 where
+  pub password : length v.password ≤ 32
+  pub name : IsFrom 1 31 (length v.name)
+
+-- what the values of the coordinator are within
+pub record CoordinatorFits (v : CoordinatorWords) : Type 0 where
+  pub turn : IfSome v.turn (λ host. IsFrom 1 31 (length host))
 
 -- the words are in the form of a program and give the value
 abbrev pub IsServerForm : List Text → ServerWords → Type 0

@@ -2,7 +2,7 @@
 ghost use Rattle.std.specs.Prelude.{◌≡◌, ℕ, List, IfOk, Err};
 ghost use Rattle.clap.specs.Words.{found_of, rows_of};
 ghost use Rattle.tt_words.specs.Values.{Finds};
-ghost use Rattle.tt_words.specs.Forms.{AdminMeans, IsAdminForm};
+ghost use Rattle.tt_words.specs.Forms.{AdminMeans, IsAdminForm, AdminFits};
 
 use crate::command::{WordsError, parsed};
 use crate::options::{given, texts_of};
@@ -29,6 +29,7 @@ static OPTIONS: [&str; 1] = ["name"];
 /// What the words behind the admin's address and command file say.
 pub fn admin_words(alloc: Global, args: &[Line]) -> Result<AdminWords, WordsError>
     ensures ok { IfOk result (λ words. IsAdminForm args.now words) }
+    ensures fits { IfOk result (λ words. AdminFits words) }
     ensures bad { result ≡ Err WordsError.Bad → (words : AdminWords) → IsAdminForm args.now words → ⊥ }
 {
     let Ok(texts) = texts_of(alloc, args) else {

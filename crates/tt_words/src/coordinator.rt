@@ -2,7 +2,7 @@
 ghost use Rattle.std.specs.Prelude.{◌≡◌, ℕ, List, IfOk, Err};
 ghost use Rattle.clap.specs.Words.{found_of, rows_of};
 ghost use Rattle.tt_words.specs.Values.{Finds};
-ghost use Rattle.tt_words.specs.Forms.{CoordinatorMeans, IsCoordinatorForm};
+ghost use Rattle.tt_words.specs.Forms.{CoordinatorMeans, IsCoordinatorForm, CoordinatorFits};
 
 use crate::command::{WordsError, parsed};
 use crate::options::{given, texts_of};
@@ -28,6 +28,7 @@ static OPTIONS: [&str; 3] = ["first", "second", "turn"];
 /// What the words behind the coordinator's addresses say.
 pub fn coordinator_words(alloc: Global, args: &[Line]) -> Result<CoordinatorWords, WordsError>
     ensures ok { IfOk result (λ words. IsCoordinatorForm args.now words) }
+    ensures fits { IfOk result (λ words. CoordinatorFits words) }
     ensures bad { result ≡ Err WordsError.Bad → (words : CoordinatorWords) → IsCoordinatorForm args.now words → ⊥ }
 {
     let Ok(texts) = texts_of(alloc, args) else {

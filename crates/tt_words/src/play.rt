@@ -2,7 +2,7 @@
 ghost use Rattle.std.specs.Prelude.{◌≡◌, ℕ, List, IfOk, Err};
 ghost use Rattle.clap.specs.Words.{found_of, rows_of};
 ghost use Rattle.tt_words.specs.Values.{Finds};
-ghost use Rattle.tt_words.specs.Forms.{IsPlayForm, PlayMeans};
+ghost use Rattle.tt_words.specs.Forms.{IsPlayForm, PlayFits, PlayMeans};
 
 use crate::command::{WordsError, parsed};
 use crate::options::{given, texts_of};
@@ -33,6 +33,7 @@ static OPTIONS: [&str; 3] = ["company", "password", "company-password"];
 /// What the words behind the player's address and command file say.
 pub fn play_words(alloc: Global, args: &[Line]) -> Result<PlayWords, WordsError>
     ensures ok { IfOk result (λ words. IsPlayForm args.now words) }
+    ensures fits { IfOk result (λ words. PlayFits words) }
     ensures bad { result ≡ Err WordsError.Bad → (words : PlayWords) → IsPlayForm args.now words → ⊥ }
 {
     let Ok(texts) = texts_of(alloc, args) else {
