@@ -21,7 +21,7 @@ pub record IsPeer (peer : Peer) : Type 0 where
 
 -- the word spells the address of a peer
 pub record IsAddress (word : List ℕ) (peer : Peer) : Type 0 where
-  pub peer : IsPeer peer
+  pub fits : IsPeer peer
   pub text : word ≡ address_text peer
 
 -- the byte is no decimal digit

@@ -2,3 +2,4 @@ pub mod Options
 pub mod Values
 pub mod Forms
 pub mod Addresses
+pub mod Found

@@ -1,7 +1,9 @@
 -- The options of each program, as a command of `clap`.
-use Rattle.std.specs.Prelude.{◌≡◌, ◌<◌, ◌++◌, ℕ, Bool, true, false, List, [], ◌∷◌, Some, map, length, codes, All}
-use Rattle.clap.specs.Words.{App, Rule, Shape, Text, fault_of, new_app, new_rule}
+use Rattle.std.specs.Prelude.{◌≡◌, ◌<◌, ◌++◌, ℕ, Bool, true, false, List, [], ◌∷◌, Option, Some, map, length, codes, All}
+use Rattle.clap.specs.Words.{App, Row, Rule, Text, fault_of, first_of, is_simple_and_free, matches_of, new_app, new_rule}
 use Rattle.clap.specs.declared.builder.action.ArgAction.TheVariants.{Set}
+use Rattle.tt_words.specs.declared.program.Program.{Program}
+use Rattle.tt_words.specs.declared.program.Program.TheVariants.{Server, Play, Admin, Coordinator}
 
 -- an option `--name VALUE` or `--name=VALUE`, given at most once; it may be needed
 abbrev pub option_named : Bool → Text → Rule
@@ -22,40 +24,46 @@ no_options = record (new_app (codes "words")) {
 unfoldable pub command_of : List Text → List Text → App
 command_of needed others = with_options false others (with_options true needed no_options)
 
--- The words are of the command's form: `clap` finds no fault, and no word is empty.
-pub record AreTaken (command : App) (words : List Text) : Type 0 where
-  pub taken : fault_of command words ≡ []
-  pub whole : All (λ word. 0 < length word) words
-
 -- ---- the tables
 
-unfoldable pub server_options : List Text
-server_options = codes "seed" ∷ codes "frame-freq" ∷ codes "sync-freq" ∷ codes "clients" ∷ codes "password" ∷ codes "admin-password"
-    ∷ codes "cost" ∷ codes "map" ∷ []
+-- the options that have to be given
+unfoldable pub needs_of : Program → List Text
+needs_of Server = []
+needs_of Play = codes "name" ∷ []
+needs_of Admin = codes "password" ∷ []
+needs_of Coordinator = []
 
-unfoldable pub play_needs : List Text
-play_needs = codes "name" ∷ []
+-- the options that may be given
+unfoldable pub others_of : Program → List Text
+others_of Server = codes "seed" ∷ codes "frame-freq" ∷ codes "sync-freq" ∷ codes "clients" ∷ codes "password"
+    ∷ codes "admin-password" ∷ codes "cost" ∷ codes "map" ∷ []
+others_of Play = codes "company" ∷ codes "password" ∷ codes "company-password" ∷ []
+others_of Admin = codes "name" ∷ []
+others_of Coordinator = codes "first" ∷ codes "second" ∷ codes "turn" ∷ []
 
-unfoldable pub play_options : List Text
-play_options = codes "company" ∷ codes "password" ∷ codes "company-password" ∷ []
+-- a program's command
+abbrev pub command_for : Program → App
+command_for program = command_of (needs_of program) (others_of program)
 
-unfoldable pub admin_needs : List Text
-admin_needs = codes "password" ∷ []
+-- ---- what `clap` makes of words
 
-unfoldable pub admin_options : List Text
-admin_options = codes "name" ∷ []
+-- it is a command of which `clap` says exactly what it takes
+unfoldable pub is_read : App → Bool
+is_read command = is_simple_and_free command
 
-unfoldable pub coordinator_options : List Text
-coordinator_options = codes "first" ∷ codes "second" ∷ codes "turn" ∷ []
+-- `clap` finds no fault in the words
+unfoldable pub IsFaultless : App → List Text → Type 0
+IsFaultless command words = fault_of command words ≡ []
 
-abbrev pub server_command : App
-server_command = command_of [] server_options
+-- what `clap` finds in the words: a row for each option that is given
+unfoldable pub rows_given : App → List Text → List Row
+rows_given command words = matches_of command words
 
-abbrev pub play_command : App
-play_command = command_of play_needs play_options
+-- the value that an option is given
+unfoldable pub given_for : Text → List Row → Option Text
+given_for name rows = first_of name rows
 
-abbrev pub admin_command : App
-admin_command = command_of admin_needs admin_options
-
-abbrev pub coordinator_command : App
-coordinator_command = command_of [] coordinator_options
+-- The words are of the program's form: its command takes them, and no word is empty.
+pub record AreTaken (program : Program) (words : List Text) : Type 0 where
+  pub faultless : IsFaultless (command_for program) words
+  pub whole : All (λ word. 0 < length word) words

@@ -11,10 +11,10 @@ pub record IsNumber (least most : ℕ) (text : Text) (n : ℕ) : Type 0 where
   pub range : IsFrom least most n
 
 -- a text whose length is from the least to the most
-pub record IsWords (least most : ℕ) (text : Text) (words : List ℕ) : Type 0 where
-  pub same : words ≡ text
-  pub text : IsText text
-  pub range : IsFrom least most (length text)
+pub record IsWords (least most : ℕ) (given : Text) (words : List ℕ) : Type 0 where
+  pub same : words ≡ given
+  pub text : IsText given
+  pub range : IsFrom least most (length given)
 
 -- the value that the option's text means, or the default where the option wasn't given
 abbrev pub GivenOr : {V : Type 0} → (Text → V → Type 0) → V → Option Text → V → Type 0

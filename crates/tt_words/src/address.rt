@@ -54,7 +54,11 @@ fn byte_of(digits: &[u8]) -> Option<u8>
     ensures found { IfSome result (λ n. digits.now ≡ decimal n) }
     ensures none { IfNone result ((n : ℕ) → n < 2 ^ 8 → digits.now ≢ decimal n) }
 {
-    u8::try_from(number_of(digits)?).ok()
+    let number = number_of(digits)?;
+    if number > 255 {
+        return None;
+    }
+    Some(number as u8)
 }
 
 /// The port that the digits spell.
@@ -62,5 +66,9 @@ fn port_of(digits: &[u8]) -> Option<u16>
     ensures found { IfSome result (λ n. digits.now ≡ decimal n) }
     ensures none { IfNone result ((n : ℕ) → n < 2 ^ 16 → digits.now ≢ decimal n) }
 {
-    u16::try_from(number_of(digits)?).ok()
+    let number = number_of(digits)?;
+    if number > 65_535 {
+        return None;
+    }
+    Some(number as u16)
 }

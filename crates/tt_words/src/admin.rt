@@ -5,8 +5,9 @@ ghost use Rattle.tt_words.specs.Values.{Finds};
 ghost use Rattle.tt_words.specs.Forms.{AdminMeans, IsAdminForm, AdminFits};
 
 use crate::command::{WordsError, parsed};
-use crate::options::{given, texts_of};
-use crate::values::{usual_name, words_needed, words_or};
+use crate::options::{needed_text, text, texts_of};
+use crate::program::Program;
+use crate::values::{found, usual_name};
 use clap::ArgMatches;
 use std::alloc::Global;
 use tt_frame::{Line, Short, Text};
@@ -20,12 +21,6 @@ pub struct AdminWords {
     pub name: Short,
 }
 
-/// The option that is needed.
-static NEEDS: [&str; 1] = ["password"];
-
-/// The other one.
-static OPTIONS: [&str; 1] = ["name"];
-
 /// What the words behind the admin's address and command file say.
 pub fn admin_words(alloc: Global, args: &[Line]) -> Result<AdminWords, WordsError>
     ensures ok { IfOk result (λ words. IsAdminForm args.now words) }
@@ -35,15 +30,9 @@ pub fn admin_words(alloc: Global, args: &[Line]) -> Result<AdminWords, WordsErro
     let Ok(texts) = texts_of(alloc, args) else {
         return Err(WordsError::Memory);
     };
-    let matches = parsed(
-        alloc,
-        NEEDS.as_slice(),
-        OPTIONS.as_slice(),
-        texts.as_slice(),
-    )?;
-    match admin_of(&matches) {
-        Some(words) => Ok(words),
-        None => Err(WordsError::Bad),
+    match parsed(alloc, Program::Admin, texts.as_slice()) {
+        Err(error) => Err(error),
+        Ok(matches) => found(admin_of(&matches)),
     }
 }
 
@@ -51,7 +40,7 @@ pub fn admin_words(alloc: Global, args: &[Line]) -> Result<AdminWords, WordsErro
 fn admin_of(matches: &ArgMatches<'_>) -> Option<AdminWords>
     ensures { Finds (AdminMeans (rows_of (found_of matches.now))) result }
 {
-    let password = words_needed(given(matches, "password"), 0, 32)?;
-    let name = words_or(given(matches, "name"), 1, 31, usual_name())?;
+    let password = needed_text(matches, "password", 0, 32)?;
+    let name = text(matches, "name", 1, 31, usual_name())?;
     Some(AdminWords { password, name })
 }

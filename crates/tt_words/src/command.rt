@@ -1,8 +1,9 @@
 //! Words read by `clap`, as a table of options says.
-ghost use Rattle.std.specs.Prelude.{◌≡◌, ℕ, Bool, List, IfOk, IfErr, map, true, Err, length, All, ◌<◌, ◌↔◌, IsTrue, ◌∷◌, ◌++◌};
-ghost use Rattle.clap.specs.Words.{app_of, fault_of, found_of, is_simple_and_free, kind_of, matches_of, rows_of, rule_of};
-ghost use Rattle.tt_words.specs.Options.{AreTaken, command_of, option_named, with_options};
+ghost use Rattle.std.specs.Prelude.{◌≡◌, ◌<◌, ◌↔◌, ℕ, List, All, Err, IfOk, IsTrue, false, length, map, true};
+ghost use Rattle.clap.specs.Words.{app_of, found_of, kind_of, rows_of, rule_of};
+ghost use Rattle.tt_words.specs.Options.{AreTaken, IsFaultless, command_for, command_of, is_read, option_named, rows_given, with_options};
 
+use crate::program::{Program, needs_of, others_of};
 use clap::error::ErrorKind;
 use clap::{Arg, ArgAction, ArgMatches, Command, Error};
 use std::alloc::{AllocError, Global};
@@ -57,22 +58,41 @@ fn command_with<'a>(
     with_names(alloc, first, false, others)
 }
 
-/// What was given for the options of a command.
+/// The command of a program.
+fn command_for<'a>(alloc: Global, program: Program) -> Result<Command<'a>, AllocError>
+    ensures { IfOk result (λ made. app_of made ≡ command_for program) }
+{
+    command_with(alloc, needs_of(program), others_of(program))
+}
+
+/// What was given for the options of a program.
 pub(crate) fn parsed<'a>(
     alloc: Global,
-    needed: &[&'a str],
-    others: &[&'a str],
+    program: Program,
     words: &'a [&'a str],
 ) -> Result<ArgMatches<'a>, WordsError>
-    requires simple { is_simple_and_free (command_of (map (λ name. name.now) needed.now) (map (λ name. name.now) others.now)) ≡ true }
-    ensures taken { IfOk result (λ _. AreTaken (command_of (map (λ name. name.now) needed.now) (map (λ name. name.now) others.now)) (map (λ word. word.now) words.entry.now)) }
-    ensures rows { IfOk result (λ matches. rows_of (found_of matches) ≡ matches_of (command_of (map (λ name. name.now) needed.now) (map (λ name. name.now) others.now)) (map (λ word. word.now) words.entry.now)) }
-    ensures bad { result ≡ Err WordsError.Bad → AreTaken (command_of (map (λ name. name.now) needed.now) (map (λ name. name.now) others.now)) (map (λ word. word.now) words.entry.now) → ⊥ }
+    ensures taken { IfOk result (λ _. AreTaken program (map (λ word. word.now) words.entry.now)) }
+    ensures rows { IfOk result (λ matches. rows_of (found_of matches) ≡ rows_given (command_for program) (map (λ word. word.now) words.entry.now)) }
+    ensures bad { result ≡ Err WordsError.Bad → AreTaken program (map (λ word. word.now) words.entry.now) → ⊥ }
 {
-    if !are_whole(words) {
-        return Err(WordsError::Bad);
+    if are_whole(words) {
+        matched(alloc, program, words)
+    } else {
+        Err(WordsError::Bad)
     }
-    let Ok(command) = command_with(alloc, needed, others) else {
+}
+
+/// What `clap` finds in the words.
+fn matched<'a>(
+    alloc: Global,
+    program: Program,
+    words: &'a [&'a str],
+) -> Result<ArgMatches<'a>, WordsError>
+    ensures taken { IfOk result (λ _. IsFaultless (command_for program) (map (λ word. word.now) words.entry.now)) }
+    ensures rows { IfOk result (λ matches. rows_of (found_of matches) ≡ rows_given (command_for program) (map (λ word. word.now) words.entry.now)) }
+    ensures bad { result ≡ Err WordsError.Bad → IsFaultless (command_for program) (map (λ word. word.now) words.entry.now) → ⊥ }
+{
+    let Ok(command) = command_for(alloc, program) else {
         return Err(WordsError::Memory);
     };
     match command.try_get_matches_from(words) {
@@ -83,7 +103,7 @@ pub(crate) fn parsed<'a>(
 
 /// Whether no word is empty.
 fn are_whole(words: &[&str]) -> bool
-    ensures { IsTrue result ↔ All (λ word. 0 < length word) (map (λ word. word.now) words.now) }
+    ensures { IsTrue result ↔ All (λ word. 0 < length word.now) words.now }
 {
     words.iter().all(|word| !word.is_empty())
 }

@@ -5,8 +5,9 @@ ghost use Rattle.tt_words.specs.Values.{Finds};
 ghost use Rattle.tt_words.specs.Forms.{CoordinatorMeans, IsCoordinatorForm, CoordinatorFits};
 
 use crate::command::{WordsError, parsed};
-use crate::options::{given, texts_of};
-use crate::values::{number_or, words_any};
+use crate::options::{any_text, number, texts_of};
+use crate::program::Program;
+use crate::values::found;
 use clap::ArgMatches;
 use std::alloc::Global;
 use tt_frame::Line;
@@ -22,9 +23,6 @@ pub struct CoordinatorWords {
     pub turn: Option<Line>,
 }
 
-/// Its options, none of which is needed.
-static OPTIONS: [&str; 3] = ["first", "second", "turn"];
-
 /// What the words behind the coordinator's addresses say.
 pub fn coordinator_words(alloc: Global, args: &[Line]) -> Result<CoordinatorWords, WordsError>
     ensures ok { IfOk result (λ words. IsCoordinatorForm args.now words) }
@@ -34,10 +32,9 @@ pub fn coordinator_words(alloc: Global, args: &[Line]) -> Result<CoordinatorWord
     let Ok(texts) = texts_of(alloc, args) else {
         return Err(WordsError::Memory);
     };
-    let matches = parsed(alloc, &[], OPTIONS.as_slice(), texts.as_slice())?;
-    match coordinator_of(&matches) {
-        Some(words) => Ok(words),
-        None => Err(WordsError::Bad),
+    match parsed(alloc, Program::Coordinator, texts.as_slice()) {
+        Err(error) => Err(error),
+        Ok(matches) => found(coordinator_of(&matches)),
     }
 }
 
@@ -45,9 +42,9 @@ pub fn coordinator_words(alloc: Global, args: &[Line]) -> Result<CoordinatorWord
 fn coordinator_of(matches: &ArgMatches<'_>) -> Option<CoordinatorWords>
     ensures { Finds (CoordinatorMeans (rows_of (found_of matches.now))) result }
 {
-    let first = number_or(given(matches, "first"), 0, u32::MAX, 0)?;
-    let second = number_or(given(matches, "second"), 0, u32::MAX, 0)?;
-    let turn = words_any(given(matches, "turn"), 1, 31)?;
+    let first = number(matches, "first", 0, u32::MAX, 0)?;
+    let second = number(matches, "second", 0, u32::MAX, 0)?;
+    let turn = any_text(matches, "turn", 1, 31)?;
     Some(CoordinatorWords {
         first,
         second,

@@ -1,13 +1,6 @@
 //! What each program says of itself, asked by its first word.
 
-/// A program.
-#[derive(Clone, Copy, Debug, PartialEq, Eq)]
-pub enum Program {
-    Server,
-    Play,
-    Admin,
-    Coordinator,
-}
+use crate::program::Program;
 
 /// How the server is used.
 const SERVER: &[u8] = b"Serves a game, until it is over.

@@ -5,8 +5,9 @@ ghost use Rattle.tt_words.specs.Values.{Finds};
 ghost use Rattle.tt_words.specs.Forms.{IsPlayForm, PlayFits, PlayMeans};
 
 use crate::command::{WordsError, parsed};
-use crate::options::{given, texts_of};
-use crate::values::{name_needed, no_text, number_or, words_or};
+use crate::options::{needed_name, number, text, texts_of};
+use crate::program::Program;
+use crate::values::{found, no_text};
 use clap::ArgMatches;
 use std::alloc::Global;
 use tt_frame::{Line, Name};
@@ -24,12 +25,6 @@ pub struct PlayWords {
     pub company_password: Line,
 }
 
-/// The option that is needed.
-static NEEDS: [&str; 1] = ["name"];
-
-/// The others.
-static OPTIONS: [&str; 3] = ["company", "password", "company-password"];
-
 /// What the words behind the player's address and command file say.
 pub fn play_words(alloc: Global, args: &[Line]) -> Result<PlayWords, WordsError>
     ensures ok { IfOk result (λ words. IsPlayForm args.now words) }
@@ -39,15 +34,9 @@ pub fn play_words(alloc: Global, args: &[Line]) -> Result<PlayWords, WordsError>
     let Ok(texts) = texts_of(alloc, args) else {
         return Err(WordsError::Memory);
     };
-    let matches = parsed(
-        alloc,
-        NEEDS.as_slice(),
-        OPTIONS.as_slice(),
-        texts.as_slice(),
-    )?;
-    match play_of(&matches) {
-        Some(words) => Ok(words),
-        None => Err(WordsError::Bad),
+    match parsed(alloc, Program::Play, texts.as_slice()) {
+        Err(error) => Err(error),
+        Ok(matches) => found(play_of(&matches)),
     }
 }
 
@@ -55,10 +44,10 @@ pub fn play_words(alloc: Global, args: &[Line]) -> Result<PlayWords, WordsError>
 fn play_of(matches: &ArgMatches<'_>) -> Option<PlayWords>
     ensures { Finds (PlayMeans (rows_of (found_of matches.now))) result }
 {
-    let name = name_needed(given(matches, "name"))?;
-    let company = number_or(given(matches, "company"), 0, 255, 255)?;
-    let password = words_or(given(matches, "password"), 0, 32, no_text())?;
-    let company_password = words_or(given(matches, "company-password"), 0, 32, no_text())?;
+    let name = needed_name(matches, "name")?;
+    let company = number(matches, "company", 0, 255, 255)?;
+    let password = text(matches, "password", 0, 32, no_text())?;
+    let company_password = text(matches, "company-password", 0, 32, no_text())?;
     Some(PlayWords {
         name,
         company: company as u8,

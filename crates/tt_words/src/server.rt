@@ -6,8 +6,9 @@ ghost use Rattle.tt_words.specs.Values.{Finds};
 ghost use Rattle.tt_words.specs.Forms.{IsServerForm, ServerMeans};
 
 use crate::command::{WordsError, parsed};
-use crate::options::{given, texts_of};
-use crate::values::{no_text, number_or, words_any, words_or};
+use crate::options::{any_text, number, text, texts_of};
+use crate::program::Program;
+use crate::values::{found, no_text};
 use clap::ArgMatches;
 use std::alloc::Global;
 use tt_frame::Line;
@@ -22,18 +23,6 @@ pub struct ServerWords {
     pub map: Option<Line>,
 }
 
-/// Its options, none of which is needed.
-static OPTIONS: [&str; 8] = [
-    "seed",
-    "frame-freq",
-    "sync-freq",
-    "clients",
-    "password",
-    "admin-password",
-    "cost",
-    "map",
-];
-
 /// What the words behind the server's addresses say.
 pub fn server_words(alloc: Global, args: &[Line]) -> Result<ServerWords, WordsError>
     ensures ok { IfOk result (λ words. IsServerForm args.now words) }
@@ -43,10 +32,9 @@ pub fn server_words(alloc: Global, args: &[Line]) -> Result<ServerWords, WordsEr
     let Ok(texts) = texts_of(alloc, args) else {
         return Err(WordsError::Memory);
     };
-    let matches = parsed(alloc, &[], OPTIONS.as_slice(), texts.as_slice())?;
-    match server_of(&matches) {
-        Some(words) => Ok(words),
-        None => Err(WordsError::Bad),
+    match parsed(alloc, Program::Server, texts.as_slice()) {
+        Err(error) => Err(error),
+        Ok(matches) => found(server_of(&matches)),
     }
 }
 
@@ -54,14 +42,14 @@ pub fn server_words(alloc: Global, args: &[Line]) -> Result<ServerWords, WordsEr
 fn server_of(matches: &ArgMatches<'_>) -> Option<ServerWords>
     ensures { Finds (ServerMeans (rows_of (found_of matches.now))) result }
 {
-    let seed = number_or(given(matches, "seed"), 0, u32::MAX, 0)?;
-    let frame_freq = number_or(given(matches, "frame-freq"), 0, 64, 0)?;
-    let sync_freq = number_or(given(matches, "sync-freq"), 1, 1_000, 100)?;
-    let clients = number_or(given(matches, "clients"), 1, 255, 25)?;
-    let password = words_or(given(matches, "password"), 0, 32, no_text())?;
-    let admin_password = words_or(given(matches, "admin-password"), 0, 32, no_text())?;
-    let cost = number_or(given(matches, "cost"), 64, 1 << 30, 1 << 30)?;
-    let map = words_any(given(matches, "map"), 0, 899)?;
+    let seed = number(matches, "seed", 0, u32::MAX, 0)?;
+    let frame_freq = number(matches, "frame-freq", 0, 64, 0)?;
+    let sync_freq = number(matches, "sync-freq", 1, 1_000, 100)?;
+    let clients = number(matches, "clients", 1, 255, 25)?;
+    let password = text(matches, "password", 0, 32, no_text())?;
+    let admin_password = text(matches, "admin-password", 0, 32, no_text())?;
+    let cost = number(matches, "cost", 64, 1 << 30, 1 << 30)?;
+    let map = any_text(matches, "map", 0, 899)?;
     let setup = Setup {
         seed,
         frame_freq: frame_freq as u8,

@@ -1,7 +1,9 @@
 //! What the text of an option means.
 ghost use Rattle.std.specs.Prelude.{◌≡◌, ◌≤◌, ℕ, List, [], Some, IfSome, option_map, length, codes};
+ghost use Rattle.tt_words.specs.Found.{result_of};
 ghost use Rattle.tt_words.specs.Values.{Finds, Given, GivenAny, GivenOr, IsNumber, IsWords};
 
+use crate::command::WordsError;
 use tt_frame::{Name, Short, Text};
 use tt_lines::number_of;
 
@@ -20,7 +22,7 @@ fn number_in(text: &str, least: u32, most: u32) -> Option<u32>
 /// The number that was given, or the default.
 pub(crate) fn number_or(given: Option<&str>, least: u32, most: u32, default: u32) -> Option<u32>
     requires within { default ≤ most }
-    ensures found { Finds (GivenOr (IsNumber least most) default (option_map (λ text. text.now) given)) result }
+    ensures found { Finds (GivenOr (IsNumber least most) default (option_map (λ text. text.now) given.entry)) result }
     ensures most { IfSome result (λ number. number ≤ most) }
 {
     match given {
@@ -48,7 +50,7 @@ pub(crate) fn words_or<const N: usize>(
     default: Text<N>,
 ) -> Option<Text<N>>
     requires fits { most ≤ N }
-    ensures { Finds (GivenOr (IsWords least most) default (option_map (λ text. text.now) given)) result }
+    ensures { Finds (GivenOr (IsWords least most) default.entry (option_map (λ text. text.now) given.entry)) result }
 {
     match given {
         None => Some(default),
@@ -63,7 +65,7 @@ pub(crate) fn words_needed<const N: usize>(
     most: usize,
 ) -> Option<Text<N>>
     requires fits { most ≤ N }
-    ensures { Finds (Given (IsWords least most) (option_map (λ text. text.now) given)) result }
+    ensures { Finds (Given (IsWords least most) (option_map (λ text. text.now) given.entry)) result }
 {
     match given {
         None => None,
@@ -78,7 +80,7 @@ pub(crate) fn words_any<const N: usize>(
     most: usize,
 ) -> Option<Option<Text<N>>>
     requires fits { most ≤ N }
-    ensures { Finds (GivenAny (IsWords least most) (option_map (λ text. text.now) given)) result }
+    ensures { Finds (GivenAny (IsWords least most) (option_map (λ text. text.now) given.entry)) result }
 {
     match given {
         None => Some(None),
@@ -99,7 +101,7 @@ fn some_words<const N: usize>(text: &str, least: usize, most: usize) -> Option<O
 
 /// The name of a player that has to be given.
 pub(crate) fn name_needed(given: Option<&str>) -> Option<Name>
-    ensures { Finds (Given (IsWords 1 24) (option_map (λ text. text.now) given)) result }
+    ensures { Finds (Given (IsWords 1 24) (option_map (λ text. text.now) given.entry)) result }
 {
     match given {
         None => None,
@@ -134,5 +136,15 @@ pub(crate) fn usual_name() -> Short
     match Text::new(b"tt") {
         Some(name) => name,
         None => unreachable!(),
+    }
+}
+
+/// What was found, or else that the words are bad.
+pub(crate) fn found<T: Drop>(value: Option<T>) -> Result<T, WordsError>
+    ensures { result ≡ result_of value }
+{
+    match value {
+        Some(value) => Ok(value),
+        None => Err(WordsError::Bad),
     }
 }
