@@ -3,3 +3,4 @@ pub mod FormLaws
 pub mod AddressLaws
 pub mod ClapLaws
 pub mod FoundLaws
+pub mod OneForm

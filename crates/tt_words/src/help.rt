@@ -24,7 +24,7 @@ Example: tt_server 127.0.0.1:3979 127.0.0.1:3977 --admin-password secret
 It writes a summary once the game is over. The exit status is 0 then, 2 for unknown words,
 3 and 7 for a file that holds no map or more than 65536 bytes, 4 where it can't be read,
 5 where writing failed, 6 when memory ran out, 8 where listening failed and 9 where the
-clock did. Nothing is written to standard error.
+clock did.
 ";
 
 /// How the player is used.
@@ -48,7 +48,7 @@ It writes what each `print` asks for. The exit status is 0 when it quit or was s
 written), 4 and 5 when reading or writing failed, 6 when memory ran out, 7 for a file of
 more than 1 MiB, 9 where the clock failed, 10 where its world differs from the server's,
 11 where the server said what it may not, 12 where the server ended it, 13 where the
-connection ended and 14 where it failed. Nothing is written to standard error.
+connection ended and 14 where it failed.
 ";
 
 /// How the admin's client is used.
@@ -69,7 +69,7 @@ It writes each packet that comes in words. The exit status is 0 when it quit or 
 stopped, 2 for unknown words, 3 for a file that is none of commands (its first bad line is
 written), 4 and 5 when reading or writing failed, 6 when memory ran out, 7 for a file of
 more than 1 MiB, 9 where the clock failed, 12 where the server refused it, 13 where the
-connection ended and 14 where it failed. Nothing is written to standard error.
+connection ended and 14 where it failed.
 ";
 
 /// How the coordinator is used.
@@ -87,7 +87,7 @@ Example: tt_coordinator 127.0.0.1:3976 127.0.0.1:3975 --first 7
 
 It writes a summary once all is over. The exit status is 0 then, 2 for unknown words,
 5 where writing failed, 6 when memory ran out, 8 where listening failed and 9 where the
-clock did. Nothing is written to standard error.
+clock did.
 ";
 
 /// The text that a program's first word asks for, if it asks for one.

@@ -1,4 +1,4 @@
-use Rattle.std.proofs.Common.{List, [], codes}
+use Rattle.std.proofs.Common.{ℕ, List, [], codes, subst}
 use Rattle.clap.specs.Words.{Row, found_of, rows_of}
 use Rattle.tt_words.specs.Options.{given_for}
 use Rattle.tt_words.specs.Values.{Given, GivenAny, GivenOr, IsNumber, IsWords}
@@ -23,10 +23,14 @@ pub returns-in_err-password : goal.returns-in_err-password
 returns-in_err-password c =
     let rows = rows_of (found_of c.args.matches.now) in
     refused (PlayMeans rows) (GivenOr (IsWords 0 32) [] (given_for (codes "password") rows)) (λ (v : PlayWords). v.password) c.from_residual-in_err-password.result
-    c.from_residual-in_err-password.ensures c.in_err-password.ensures (λ v means. means.password)
+    c.from_residual-in_err-password.ensures
+    (subst (λ (d : List ℕ). (w : List ℕ) → GivenOr (IsWords 0 32) d (given_for (codes "password") rows) w → ⊥) c.no_text.ensures
+    c.in_err-password.ensures) (λ v means. means.password)
 
 pub returns-in_err-company_password : goal.returns-in_err-company_password
 returns-in_err-company_password c =
     let rows = rows_of (found_of c.args.matches.now) in
     refused (PlayMeans rows) (GivenOr (IsWords 0 32) [] (given_for (codes "company-password") rows)) (λ (v : PlayWords). v.company_password) c.from_residual-in_err-company_password.result
-    c.from_residual-in_err-company_password.ensures c.in_err-company_password.ensures (λ v means. means.company_password)
+    c.from_residual-in_err-company_password.ensures
+    (subst (λ (d : List ℕ). (w : List ℕ) → GivenOr (IsWords 0 32) d (given_for (codes "company-password") rows) w → ⊥) c.no_text-2.ensures
+    c.in_err-company_password.ensures) (λ v means. means.company_password)
