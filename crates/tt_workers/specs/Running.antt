@@ -1,18 +1,17 @@
 -- What a server's run comes to: which part of the history each worker has, what each link was written, and how the workers ended.
-use Rattle.std.specs.Prelude.{◌≡◌, ℕ, ◌⊎◌, Bool, true, false, IfSome, Some, None, List, [], ◌∷◌, ◌++◌, length, map, Option, slice_get}
+use Rattle.std.specs.Prelude.{◌≡◌, ℕ, ◌⊎◌, Bool, true, false, Some, None, List, [], ◌∷◌, ◌++◌, length, map, Option, slice_get}
+use Rattle.std.specs.Io.KnownBytes.{Appends}
 use Rattle.std.specs.List.{AllZip, AllByRecursion, list_any}
 use mathlib.Core.List.{IsPrefix}
 use Rattle.tt_edge.specs.declared.event.Event.{Event}
 use Rattle.tt_edge.specs.declared.event.Event.TheVariants as event
-use Rattle.tt_edge.specs.declared.event.Door.{Door}
 use Rattle.tt_edge.specs.declared.event.Door.TheVariants.{Main, Side}
-use Rattle.tt_edge.specs.declared.event.Peer.{Peer}
-use Rattle.tt_edge.specs.declared.listener.Served.{Served}
-use Rattle.tt_edge.specs.declared.listener.LinkEnd.TheVariants as end
+use Rattle.tt_edge.specs.declared.listener.LinkEnd.TheVariants as link
 use Rattle.tt_edge.specs.Told.{Adds}
 use Rattle.tt_edge.specs.Link.{Rises}
 use Rattle.tt_room.specs.History.{Stands, below, times, total}
 use Rattle.tt_workers.specs.Telling.{LinkNow}
+use Rattle.tt_workers.specs.Attending.{Row, IsFreshLink}
 use Rattle.tt_workers.specs.Gathering.{GathersLinks, GathersTicks}
 use Rattle.tt_workers.specs.Working.{CoreView, DoorView, TickView, tick_end}
 use Rattle.tt_workers.specs.declared.ticks.TickEnd.{TickEnd}
@@ -92,26 +91,25 @@ pub record IsShared {L K A B T : Type 0} (k : CoreView) (game : DoorView L K) (a
   pub by_ticker : (r : TickEnd) × GathersTicks (k.over history) (ticker.counts clock.came) (ticker.counts clock.back)
       (ticker.beats clock.came) (ticker.beats clock.back) clock.part r × (clock.end ≡ tick_end r)
 
--- What a link that came back was written, where it tells it: the first bytes of what its connection is told over the history, and
--- all of them where its end is Done.
-pub record IsDelivered {K : Type 0} (now : K → LinkNow) (told : List Event → ℕ → List ℕ) (history : List Event)
-    (back : Served × K) : Type 0 where
-  pub first : IfSome (now back.1).held (λ out. IsPrefix out (told history back.0.conn))
-  pub whole : back.0.end ≡ end.Done → IfSome (now back.1).held (λ out. out ≡ told history back.0.conn)
+-- What a link was written that came back: the first bytes of what its connection is told over the history, and all of them where
+-- its end is Done. (What each other end says of them stands in Gathering.EndsIn.)
+pub record IsDelivered {K : Type 0} (now : K → LinkNow) (told : List Event → ℕ → List ℕ) (history : List Event) (row : Row K) : Type
+    0 where
+  pub out : List ℕ
+  pub written : Appends (now row.came).held (now row.gone).held out
+  pub first : IsPrefix out (told history row.served.conn)
+  pub whole : row.served.end ≡ link.Done → out ≡ told history row.served.conn
 
--- What became of the links of one handle, where its listener tells it: `peers` are those of the links that it gave, and `links`
--- those that came back to it, each with its end.
+-- What became of the links of one handle: each that its listener gave was served, and came back to it with its end.
 pub record AreServed {D K : Type 0} (d : DoorView D K) (told : List Event → ℕ → List ℕ) (history : List Event) (short : Bool)
     (before after : D) : Type 0 where
-  pub peers : List Peer
-  pub links : List (Served × K)
-  pub given : Adds (d.peers before) (d.peers after) peers
-  pub given_back : Adds (d.served before) (d.served after) links
-  -- as many came back as it gave
-  pub returned : length links ≡ length peers
-  pub delivered : AllByRecursion (IsDelivered d.now told history) links
-  -- unless the run was short of memory, no link's end is Memory
-  pub no_memory : short ≡ false → AllByRecursion (λ (x : Served × K). x.0.end ≡ end.Memory → ⊥) links
+  pub rows : List (Row K)
+  pub given : Adds (d.peers before) (d.peers after) (map (λ (row : Row K). row.peer) rows)
+  pub given_back : Adds (d.served before) (d.served after) (map (λ (row : Row K). (row.served, row.gone)) rows)
+  pub fresh : AllByRecursion (λ (row : Row K). IsFreshLink (d.now row.came)) rows
+  pub delivered : AllByRecursion (IsDelivered d.now told history) rows
+  -- no link's end is Memory, unless the run was short of memory
+  pub no_memory : short ≡ false → AllByRecursion (λ (row : Row K). row.served.end ≡ link.Memory → ⊥) rows
 
 -- one of a door's handles failed: its count of faults rose
 abbrev pub OneFailed : {D K : Type 0} → DoorView D K → List D → List D → Type 0
@@ -127,10 +125,10 @@ NoneFailed d before after = AllZip (λ x y. (d.counts y).faults ≡ (d.counts x)
 pub record HaveCauses {L K A B T : Type 0} (k : CoreView) (game : DoorView L K) (admin : DoorView A B) (ticker : TickView T)
     (history : List Event) (before after : Doors L A T) (ends : Ends) : Type 0 where
   -- a worker's listener failed: the count of a listener rose
-  pub listener : ends.listen_fault ≡ true
+  pub listen_fault : ends.listen_fault ≡ true
       → OneFailed game before.game.items after.game.items ⊎ OneFailed admin before.admin.items after.admin.items
   -- the ticker failed: its count rose
-  pub ticker : ends.tick_fault ≡ true
+  pub tick_fault : ends.tick_fault ≡ true
       → OfBoth before.ticker after.ticker (λ t t'. Rises (ticker.counts t).faults (ticker.counts t').faults)
   -- nothing failed, and memory did not run out: all is over, and no count of faults rose
   pub over : ends ≡ all_well → k.over history ≡ true
