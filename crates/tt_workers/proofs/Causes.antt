@@ -1,11 +1,10 @@
 -- What the links of a handle came to, and the causes of what a server answers.
-use Rattle.std.proofs.Common.{◌≡◌, ◌≢◌, ℕ, zero, suc, ◌+◌, ◌≤◌, ◌<◌, ◌⊎◌, inl, inr, List, [], ◌∷◌, ◌++◌, length}
+use Rattle.std.proofs.Common.{◌≡◌, ◌≢◌, ℕ, zero, suc, ◌≤◌, ◌<◌, ◌⊎◌, inl, inr, List, [], ◌∷◌, ◌++◌, length}
 use Rattle.std.proofs.Common.{refl, sym, ap, ◌∙◌, subst, arith, eq-eqb, ne_eqb}
 use Rattle.std.specs.Prelude.{Bool, true, false, ◌||◌, cond, map, replicate, Option, Some, None, slice_get}
 use Rattle.std.specs.Io.KnownBytes.{Appends}
 use Rattle.std.specs.List.{AllZip, AllByRecursion, list_any}
 use Rattle.std.proofs.lemmas.List.{append-nil}
-use mathlib.Core.List.{IsPrefix}
 use mathlib.Core.Logic.{dite}
 use native.Mathlib.Decide.{ℕ_discrete}
 use Rattle.tt_frame.proofs.TestLaws.{or_either}
@@ -13,22 +12,20 @@ use Rattle.tt_edge.specs.declared.event.Event.{Event}
 use Rattle.tt_edge.specs.declared.event.Event.TheVariants as event
 use Rattle.tt_edge.specs.declared.event.Door.{Door}
 use Rattle.tt_edge.specs.declared.event.Door.TheVariants.{Main, Side}
-use Rattle.tt_edge.specs.declared.event.Peer.{Peer}
-use Rattle.tt_edge.specs.declared.listener.Served.{Served}
 use Rattle.tt_edge.specs.declared.listener.LinkEnd.{LinkEnd}
 use Rattle.tt_edge.specs.declared.listener.LinkEnd.TheVariants as link
 use Rattle.tt_edge.specs.declared.ticker.Beat.{Beat}
-use Rattle.tt_edge.specs.Link.{LinkCounts, Rises, no_counts}
+use Rattle.tt_edge.specs.Link.{LinkCounts, Rises}
 use Rattle.tt_edge.specs.Listener.{DoorCounts, TickCounts}
 use Rattle.tt_room.specs.History.{Stands, below, same, times, total}
 use Rattle.tt_workers.specs.Telling.{LinkNow}
-use Rattle.tt_workers.specs.Hearing.{ComesOn, AreOn, events_of}
+use Rattle.tt_workers.specs.Hearing.{ComesOn, AreOn}
 use Rattle.tt_workers.specs.Ticking.{TicksEndSo}
 use Rattle.tt_workers.specs.Attending.{Row, IsFreshLink, AttendsEndSo, is_memory, short_of}
 use Rattle.tt_workers.specs.Gathering.{EndsIn, IsOpened, IsRefused, AreLinks, GathersLinks, GathersTicks}
 use Rattle.tt_workers.specs.Working.{CoreView, DoorView, TickView, tick_end}
-use Rattle.tt_workers.specs.Running.{Task, AreBack, parts_of, ends_of, OfBoth, is_short, is_deaf, is_untimed, summed, all_well, IsShared,
-    IsDelivered, AreServed, OneFailed, NoneFailed, HaveCauses, Runs}
+use Rattle.tt_workers.specs.Running.{Task, AreBack, parts_of, ends_of, OfBoth, is_short, is_deaf, is_untimed, all_well}
+use Rattle.tt_workers.specs.Running.{IsShared, IsDelivered, AreServed, OneFailed, NoneFailed, HaveCauses, Runs}
 use Rattle.tt_workers.specs.declared.ticks.TickEnd.{TickEnd}
 use Rattle.tt_workers.specs.declared.ticks.TickEnd.TheVariants as tick
 use Rattle.tt_workers.specs.declared.attending.WorkerEnd.{WorkerEnd}
@@ -66,8 +63,8 @@ none_short (row ∷ rows) is =
     let both = or_none (is_memory row.served.end) (short_of rows) is in
     (λ memory. apart (sym (ap is_memory memory) ∙ both.0), none_short rows both.1)
 
-not_short : {K : Type 0} (rows : List (Row K)) (b : Bool) (c c' : DoorCounts) (e : WorkerEnd) → AttendsEndSo rows b c c' e → is_short e ≡ false
-    → short_of rows ≡ false
+not_short : {K : Type 0} (rows : List (Row K)) (b : Bool) (c c' : DoorCounts) (e : WorkerEnd) → AttendsEndSo rows b c c' e
+    → is_short e ≡ false → short_of rows ≡ false
 not_short rows b c c' worker.Fresh ended is = absurd ended
 not_short rows b c c' worker.Over ended is = ended.0
 not_short rows b c c' worker.ListenFault ended is = ended.0
@@ -349,9 +346,9 @@ module _ (p : WorkerEnd → Bool) (xs ys : List WorkerEnd) (z : WorkerEnd) where
     ])
   ]
 
-each_first : {X : Type 0} (P : X → Type 0) (xs ys : List X) → AllByRecursion P (xs ++ ys) → AllByRecursion P ys
-each_first P [] ys all = all
-each_first P (x ∷ xs) ys all = each_first P xs ys all.1
+each_behind : {X : Type 0} (P : X → Type 0) (xs ys : List X) → AllByRecursion P (xs ++ ys) → AllByRecursion P ys
+each_behind P [] ys all = all
+each_behind P (x ∷ xs) ys all = each_behind P xs ys all.1
 
 of_both : {T : Type 0} (P : T → T → Type 0) (o o' : Option T) (x y : T) → o ≡ Some x → o' ≡ Some y → P x y → OfBoth o o' P
 of_both {T} P o o' x y is is' holds = subst (λ (a : Option T). OfBoth a o' P) (sym is) (subst (λ (b : Option T). OfBoth (Some x) b P)
@@ -459,7 +456,7 @@ module _ {L K A B T : Type 0} (k : CoreView) (game : DoorView L K) (admin : Door
             × (r ≡ tick.Memory → ⊥)) old.ticker new.ticker s.clock.came s.clock.back s.ticker_back.0 s.ticker_back.1 (
               s.clock.part,
               r,
-              (each_first (Stands history) (parts_of s.sides) (s.clock.part ∷ []) (each_first (Stands history) (parts_of s.mains)
+              (each_behind (Stands history) (parts_of s.sides) (s.clock.part ∷ []) (each_behind (Stands history) (parts_of s.mains)
                   (parts_of s.sides ++ s.clock.part ∷ []) s.there)).0,
               g,
               λ memory. apart (sym (ap (λ (e : TickEnd). is_short (tick_end e)) memory) ∙ clock_short is),

@@ -1,5 +1,5 @@
 -- A history that is shared among the workers of a server's handles.
-use Rattle.std.proofs.Common.{◌≡◌, ℕ, suc, ◌+◌, ◌≤◌, ◌<◌, List, [], ◌∷◌, ◌++◌, length, refl, sym, ap, ◌∙◌, subst, append_assoc, length-append, arith}
+use Rattle.std.proofs.Common.{◌≡◌, ℕ, suc, ◌<◌, List, [], ◌∷◌, ◌++◌, length, refl, sym, ap, ◌∙◌, subst, append_assoc, length-append, arith}
 use Rattle.std.specs.Prelude.{Bool, true, false, ◌||◌, map, All, Option, Some, None, IsSome, filter_map, option_to_list, slice_index_or}
 use Rattle.std.specs.List.{AllZip, AllByRecursion, cons_option, list_any}
 use Rattle.std.proofs.lemmas.List.{append-nil}

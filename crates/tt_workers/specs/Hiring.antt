@@ -1,5 +1,5 @@
 -- How workers are hired for the handles of a server's doors, and how the handles are given back.
-use Rattle.std.specs.Prelude.{◌≡◌, ℕ, ◌+◌, ◌≤◌, Option, Some, None, List, [], ◌∷◌, ◌++◌, map, All, filter_map, vec_len, vec_capacity}
+use Rattle.std.specs.Prelude.{◌≡◌, ◌+◌, ◌≤◌, Option, Some, None, List, [], ◌∷◌, ◌++◌, map, All, vec_len, vec_capacity}
 use Rattle.tt_frame.specs.Holding.{Holding}
 use Rattle.tt_frame.specs.Runs.{empty_of}
 use Rattle.tt_room.specs.declared.pass.Room.{Room}

@@ -1,5 +1,6 @@
 //! Workers for all handles of a server's doors, and the handles given back.
-ghost use Rattle.std.specs.Prelude.{◌≡◌, ◌+◌, ◌<◌, ◌≤◌, ◌||◌, [], ◌∷◌, ◌++◌, None, All, IfOk, IsSome, length, map, filter_map, option_to_list, vec_len, vec_capacity};
+ghost use Rattle.std.specs.Prelude.{◌≡◌, ◌+◌, ◌<◌, ◌≤◌, ◌||◌, [], ◌∷◌, ◌++◌, None, All, IfOk, IsSome, length, map};
+ghost use Rattle.std.specs.Prelude.{filter_map, option_to_list, vec_len, vec_capacity};
 ghost use Rattle.tt_frame.specs.Runs.{empty_of};
 ghost use Rattle.tt_room.specs.Passes.{seats_of};
 ghost use Rattle.tt_workers.specs.Running.{summed, is_short, is_deaf, is_untimed};

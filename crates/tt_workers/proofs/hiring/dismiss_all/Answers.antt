@@ -1,10 +1,9 @@
-use Rattle.std.proofs.Common.{◌≡◌, List, [], ◌∷◌, ◌++◌, Option, ap, sym, ◌∙◌, length, arith, map, vec_capacity}
+use Rattle.std.proofs.Common.{◌≡◌, [], ◌∷◌, ◌++◌, Option, ap, sym, ◌∙◌, length, arith, map, vec_capacity}
 use Rattle.std.specs.Prelude.{filter_map, option_to_list}
 use Rattle.std.specs.List.{list_any}
 use Rattle.tt_workers.specs.Running.{is_short, is_deaf, is_untimed}
 use Rattle.tt_workers.specs.Hiring.{backwards, roles_back, game_of, admin_of, ticker_of}
 use Rattle.tt_workers.specs.declared.working.Doors.{Doors}
-use Rattle.tt_workers.specs.declared.working.Role.{Role}
 use Rattle.tt_workers.specs.declared.working.Worker.{Worker}
 use Rattle.tt_workers.proofs.Runs.{roles_push, room_for, one_more, none_more, any_more, passes_more}
 use Rattle.tt_workers.proofs.hiring.dismiss_all.Goals as goal

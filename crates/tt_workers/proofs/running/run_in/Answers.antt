@@ -103,7 +103,8 @@ close-closed-requires g c =
     )) in
     let are : c.dismiss_all-ends.new.crew.passes.items ≡ map (λ (w : W). w.pass) (backwards after) = c.dismiss_all-ends.ensures.passes
     ∙ ap (λ (ps : List P). ps ++ map (λ (w : W). w.pass) (backwards after)) none in
-    subst (λ (ps : List P). All (IsOf c.args.room) ps) (sym are) (passes_of c.args.room k game admin ticker c.args.doors.now before after same
+    subst (λ (ps : List P). All (IsOf c.args.room) ps) (sym are) (passes_of c.args.room k game admin ticker c.args.doors.now before
+    after same
     (λ i d less.
     c.run_workers.ensures.parts i d (omega (arith, less, c.hire_all.new.crew.workers.ok.0))) c.hire_all.ensures.roles c.requires.ticker)
 
@@ -163,7 +164,8 @@ returns-clause-runs g c =
     let out = c.dismiss_all-ends in
     let one = shared c.args.room k game admin ticker c.args.doors.now before after same
     (λ i d less.
-    c.run_workers.ensures.parts i d (omega (arith, less, c.hire_all.new.crew.workers.ok.0))) c.hire_all.ensures.roles c.requires.ticker g.C.Core.made g.C.Core.events g.C.Core.taken
+    c.run_workers.ensures.parts i d (omega (arith, less, c.hire_all.new.crew.workers.ok.0))) c.hire_all.ensures.roles c.requires.ticker
+    g.C.Core.made g.C.Core.events g.C.Core.taken
     c.in-Ok.core out.new.crew.passes.items out.new.doors out.result c.hire_all.ensures.staffed.fresh are c.in-Ok.ensures.ok
     out.ensures.game out.ensures.admin out.ensures.ticker out.ensures.ends in
     runs k game admin ticker (g.C.Core.events c.in-Ok.core) c.args.doors.now out.new.doors out.result
