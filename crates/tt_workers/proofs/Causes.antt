@@ -27,8 +27,25 @@ use Rattle.tt_workers.specs.Ticking.{TicksEndSo}
 use Rattle.tt_workers.specs.Attending.{Row, IsFreshLink, AttendsEndSo, is_memory, short_of}
 use Rattle.tt_workers.specs.Gathering.{EndsIn, IsOpened, IsRefused, AreLinks, GathersLinks, GathersTicks}
 use Rattle.tt_workers.specs.Working.{CoreView, DoorView, TickView, tick_end}
-use Rattle.tt_workers.specs.Running.{Task, AreBack, parts_of, ends_of, OfBoth, is_short, is_deaf, is_untimed, summed, all_well, IsShared,
-    IsDelivered, AreServed, OneFailed, NoneFailed, HaveCauses, Runs}
+use Rattle.tt_workers.specs.Running.{
+  Task,
+  AreBack,
+  parts_of,
+  ends_of,
+  OfBoth,
+  is_short,
+  is_deaf,
+  is_untimed,
+  summed,
+  all_well,
+  IsShared,
+  IsDelivered,
+  AreServed,
+  OneFailed,
+  NoneFailed,
+  HaveCauses,
+  Runs,
+}
 use Rattle.tt_workers.specs.declared.ticks.TickEnd.{TickEnd}
 use Rattle.tt_workers.specs.declared.ticks.TickEnd.TheVariants as tick
 use Rattle.tt_workers.specs.declared.attending.WorkerEnd.{WorkerEnd}
