@@ -3,8 +3,10 @@ use std::alloc::Global;
 use std::process::Abort;
 use std::test::*;
 use tt_frame::Line;
-use tt_words::{AdminWords, CoordinatorWords, PlayWords, ServerWords, WordsError};
-use tt_words::{admin_words, coordinator_words, play_words, server_words};
+use tt_words::{
+    AdminWords, CoordinatorWords, PlayWords, ServerWords, WordsError, admin_words,
+    coordinator_words, play_words, server_words,
+};
 
 /// Words that the server does not take.
 const BAD_FOR_THE_SERVER: [&[u8]; 17] = [
@@ -117,14 +119,27 @@ fn the_server_is_told(rt: HostRuntime) {
     let alloc = rt.alloc();
     let plain = served(&rt, alloc, b"");
     assert!(rt; plain.setup == tt_world::Setup::plain() && plain.map.is_none());
-    let all = served(&rt, alloc, b"--seed 7 --frame-freq=64 --sync-freq 1 --clients 255 --password=a --admin-password b --cost 64 --map m.ottn");
+    let all = served(
+        &rt,
+        alloc,
+        b"--seed 7 --frame-freq=64 --sync-freq 1 --clients 255 --password=a --admin-password b --cost 64 --map m.ottn",
+    );
     assert!(rt; all.setup.seed == 7 && all.setup.frame_freq == 64 && all.setup.sync_freq == 1);
     assert!(rt; all.setup.max_clients == 255 && all.setup.cost == 64);
     assert!(rt; all.setup.password.bytes() == b"a" && all.setup.admin_password.bytes() == b"b");
     assert!(rt; all.map.is_some_and(|map| map.bytes() == b"m.ottn"));
-    assert!(rt; served(&rt, alloc, b"--password=").setup.password.bytes().is_empty());
+    assert!(rt;
+        served(&rt, alloc, b"--password=")
+            .setup
+            .password
+            .bytes()
+            .is_empty()
+    );
     for text in &BAD_FOR_THE_SERVER {
-        assert!(rt; server_words(alloc, lines_of(&rt, alloc, text).as_slice()).is_err_and(|error| error == WordsError::Bad));
+        assert!(rt;
+            server_words(alloc, lines_of(&rt, alloc, text).as_slice()).is_err_and(|error| error
+                == WordsError::Bad)
+        );
     }
 }
 
@@ -134,11 +149,18 @@ fn the_player_is_told(rt: HostRuntime) {
     let plain = played(&rt, alloc, b"--name Ann");
     assert!(rt; plain.name.bytes() == b"Ann" && plain.company == 255);
     assert!(rt; plain.password.bytes().is_empty() && plain.company_password.bytes().is_empty());
-    let all = played(&rt, alloc, b"--company 0 --name=-x --password p --company-password q");
+    let all = played(
+        &rt,
+        alloc,
+        b"--company 0 --name=-x --password p --company-password q",
+    );
     assert!(rt; all.name.bytes() == b"-x" && all.company == 0);
     assert!(rt; all.password.bytes() == b"p" && all.company_password.bytes() == b"q");
     for text in &BAD_FOR_THE_PLAYER {
-        assert!(rt; play_words(alloc, lines_of(&rt, alloc, text).as_slice()).is_err_and(|error| error == WordsError::Bad));
+        assert!(rt;
+            play_words(alloc, lines_of(&rt, alloc, text).as_slice()).is_err_and(|error| error
+                == WordsError::Bad)
+        );
     }
 }
 
@@ -147,9 +169,17 @@ fn the_admin_is_told(rt: HostRuntime) {
     let alloc = rt.alloc();
     let plain = administered(&rt, alloc, b"--password pw");
     assert!(rt; plain.password.bytes() == b"pw" && plain.name.bytes() == b"tt");
-    assert!(rt; administered(&rt, alloc, b"--name cli --password=").name.bytes() == b"cli");
+    assert!(rt;
+        administered(&rt, alloc, b"--name cli --password=")
+            .name
+            .bytes()
+            == b"cli"
+    );
     for text in &BAD_FOR_THE_ADMIN {
-        assert!(rt; admin_words(alloc, lines_of(&rt, alloc, text).as_slice()).is_err_and(|error| error == WordsError::Bad));
+        assert!(rt;
+            admin_words(alloc, lines_of(&rt, alloc, text).as_slice()).is_err_and(|error| error
+                == WordsError::Bad)
+        );
     }
 }
 
@@ -162,7 +192,10 @@ fn the_coordinator_is_told(rt: HostRuntime) {
     assert!(rt; all.first == u32::MAX && all.second == 7);
     assert!(rt; all.turn.is_some_and(|host| host.bytes() == b"10.0.0.3"));
     for text in &BAD_FOR_THE_COORDINATOR {
-        assert!(rt; coordinator_words(alloc, lines_of(&rt, alloc, text).as_slice()).is_err_and(|error| error == WordsError::Bad));
+        assert!(rt;
+            coordinator_words(alloc, lines_of(&rt, alloc, text).as_slice()).is_err_and(|error| error
+                == WordsError::Bad)
+        );
     }
 }
 
