@@ -1,5 +1,5 @@
 -- Which ranges the values of a form are within.
-use Rattle.std.proofs.Common.{◌≡◌, ◌≤◌, ℕ, List, [], length, Option, Some, None, refl, ap, sym, subst, arith}
+use Rattle.std.proofs.Common.{ℕ, List, [], length, Option, Some, None, ap, sym, subst, arith}
 use Rattle.std.specs.Prelude.{IfSome, codes}
 use Rattle.clap.specs.Words.{Text}
 use Rattle.tt_world.specs.Setup.{IsFrom, Fits}

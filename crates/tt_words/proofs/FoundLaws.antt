@@ -1,5 +1,5 @@
 -- A value that is found, and the form of the words.
-use Rattle.std.proofs.Common.{◌≡◌, List, [], Option, Some, None, Result, Ok, Err, sym, subst}
+use Rattle.std.proofs.Common.{◌≡◌, List, Option, Some, None, Result, Err, sym, subst}
 use Rattle.std.specs.Prelude.{IfOk}
 use Rattle.clap.specs.Words.{Row, Text}
 use Rattle.tt_words.specs.declared.command.WordsError.{WordsError}

@@ -1,15 +1,11 @@
 -- Words that are in form give one value.
 use Rattle.std.proofs.Common.{◌≡◌, ◌∙◌, ◌<◌, ◌^◌, ℕ, List, [], Option, Some, None, refl, ap, ap₂, sym, arith}
-use Rattle.std.specs.Prelude.{codes}
 use Rattle.std.proofs.lemmas.Fmt.{decimal_injective}
 use Rattle.clap.specs.Words.{Text}
 use Rattle.tt_world.specs.declared.setup.Setup.{Setup}
 use Rattle.tt_words.specs.Values.{IsNumber, IsWords, GivenOr, Given, GivenAny}
-use Rattle.tt_words.specs.Forms.{IsServerForm, IsPlayForm, IsAdminForm, IsCoordinatorForm, plain_but}
+use Rattle.tt_words.specs.Forms.{IsServerForm, plain_but}
 use Rattle.tt_words.specs.declared.server.ServerWords.{ServerWords}
-use Rattle.tt_words.specs.declared.play.PlayWords.{PlayWords}
-use Rattle.tt_words.specs.declared.admin.AdminWords.{AdminWords}
-use Rattle.tt_words.specs.declared.coordinator.CoordinatorWords.{CoordinatorWords}
 
 pub one_number_given : (least most default : ℕ) (given : Option Text) (m n : ℕ) → most < 2 ^ 64
     → GivenOr (IsNumber least most) default given m → GivenOr (IsNumber least most) default given n → m ≡ n

@@ -1,5 +1,5 @@
 -- The forms of the words of four programs, and the values that they give.
-use Rattle.std.specs.Prelude.{◌≡◌, ◌≤◌, ℕ, List, [], codes, length, IfSome}
+use Rattle.std.specs.Prelude.{◌≡◌, ◌≤◌, List, [], codes, length, IfSome}
 use Rattle.clap.specs.Words.{Row, Text}
 use Rattle.tt_world.specs.Setup.{IsFrom, plain}
 use Rattle.tt_world.specs.declared.setup.Setup.{Setup}

@@ -1,5 +1,5 @@
 -- The options of each program, as a command of `clap`.
-use Rattle.std.specs.Prelude.{◌≡◌, ◌<◌, ◌++◌, ℕ, Bool, true, false, List, [], ◌∷◌, Option, Some, map, length, codes, All}
+use Rattle.std.specs.Prelude.{◌≡◌, ◌<◌, ◌++◌, Bool, true, false, List, [], ◌∷◌, Option, Some, map, length, codes, All}
 use Rattle.clap.specs.Words.{App, Row, Rule, Text, fault_of, first_of, is_simple_and_free, matches_of, new_app, new_rule}
 use Rattle.clap.specs.declared.builder.action.ArgAction.TheVariants.{Set}
 use Rattle.tt_words.specs.declared.program.Program.{Program}

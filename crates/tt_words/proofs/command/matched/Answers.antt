@@ -1,4 +1,4 @@
-use Rattle.std.proofs.Common.{◌≡◌, map}
+use Rattle.std.proofs.Common.{◌≡◌}
 use Rattle.tt_words.specs.declared.command.WordsError.TheVariants.{Bad, Memory}
 use Rattle.tt_words.proofs.ClapLaws.{has_fault, no_fault, program_is_read, rows_found}
 use Rattle.tt_words.proofs.command.matched.Goals as goal

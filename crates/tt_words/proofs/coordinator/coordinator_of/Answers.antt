@@ -1,7 +1,7 @@
-use Rattle.std.proofs.Common.{List, [], codes}
-use Rattle.clap.specs.Words.{Row, found_of, rows_of}
+use Rattle.std.proofs.Common.{codes}
+use Rattle.clap.specs.Words.{found_of, rows_of}
 use Rattle.tt_words.specs.Options.{given_for}
-use Rattle.tt_words.specs.Values.{Given, GivenAny, GivenOr, IsNumber, IsWords}
+use Rattle.tt_words.specs.Values.{GivenAny, GivenOr, IsNumber, IsWords}
 use Rattle.tt_words.specs.Forms.{CoordinatorMeans}
 use Rattle.tt_words.specs.declared.coordinator.CoordinatorWords.{CoordinatorWords}
 use Rattle.tt_words.proofs.FoundLaws.{refused}

@@ -1,7 +1,7 @@
 use Rattle.std.proofs.Common.{ℕ, List, [], codes, subst}
-use Rattle.clap.specs.Words.{Row, found_of, rows_of}
+use Rattle.clap.specs.Words.{found_of, rows_of}
 use Rattle.tt_words.specs.Options.{given_for}
-use Rattle.tt_words.specs.Values.{Given, GivenAny, GivenOr, IsNumber, IsWords}
+use Rattle.tt_words.specs.Values.{GivenAny, GivenOr, IsNumber, IsWords}
 use Rattle.tt_words.specs.Forms.{ServerMeans}
 use Rattle.tt_words.specs.declared.server.ServerWords.{ServerWords}
 use Rattle.tt_words.proofs.FoundLaws.{refused}
