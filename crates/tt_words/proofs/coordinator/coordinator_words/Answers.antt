@@ -22,7 +22,8 @@ returns-clause-ok c =
 pub returns-clause-fits : goal.returns-clause-fits
 returns-clause-fits c =
     let same : map (λ word. word.now) c.as_slice.result.now ≡ c.args.args.now = search rules in
-    IfOk-weaker c.found.result _ _ (coordinator_fits c.args.args.now) (found_form Coordinator CoordinatorMeans c.args.args.now _ _ c.coordinator_of.result
+    IfOk-weaker c.found.result _ _ (coordinator_fits c.args.args.now)
+    (found_form Coordinator CoordinatorMeans c.args.args.now _ _ c.coordinator_of.result
     c.found.result same c.in-Ok-parsed.ensures.taken c.in-Ok-parsed.ensures.rows c.coordinator_of.ensures c.found.ensures)
 
 pub returns-clause-bad : goal.returns-clause-bad
