@@ -1,39 +1,24 @@
 -- A live code belongs to one server, as long as no code was drawn twice.
 use Rattle.std.proofs.Common.{◌≡◌, ℕ, ◌+◌, ◌≤◌, Bool, true, false, not, ◌&&◌, ◌||◌, cond, length, List, [], ◌∷◌, ◌++◌, Option, Some, None}
 use Rattle.std.proofs.Common.{refl, sym, ap, subst, ◌∙◌, arith, inl, inr}
-use Rattle.std.specs.Prelude.{◌⊎◌, count_by, eqb, find, fold, is_some, nat_le}
+use Rattle.std.specs.Prelude.{◌⊎◌, count_by, find, is_some, nat_le}
 use Rattle.std.specs.Str.{bytes_eq}
 use Rattle.std.proofs.lemmas.Bool.{true≢false, false≢true}
 use Rattle.std.proofs.lemmas.List.Sums.{sum_by-append}
 use Rattle.std.proofs.lemmas.Slice.Eq.{bytes_eq-Decides}
-use Rattle.tt_edge.specs.declared.event.Peer.{Peer}
-use Rattle.tt_edge.specs.declared.event.Door.{Door}
-use Rattle.tt_edge.specs.declared.event.Door.TheVariants.{Main, Side}
 use Rattle.tt_edge.specs.declared.event.Event.{Event}
-use Rattle.tt_edge.specs.declared.event.Event.TheVariants.{Open, Packet, Broken, Shut, Tick, Stop}
-use Rattle.tt_attempts.specs.Attempts.{from_direct}
 use Rattle.tt_gc_table.specs.declared.setup.GcSetup.{GcSetup}
-use Rattle.tt_gc_table.specs.Table.{Table, Connection, Server, Drawn, Meeting, first, connection_of, live_sides, meeting_of, server_on}
+use Rattle.tt_gc_table.specs.Table.{Table, Server, Drawn, server_on}
 use Rattle.tt_gc_table.specs.Table.{server_by}
 use Rattle.tt_gc_table.specs.Table.{drawn_by, holders, NoneTwice}
-use Rattle.tt_gc_table.specs.Deed.{Deed, ◌▹◌, either, given, becomes}
-use Rattle.tt_gc_table.specs.Codes.{new_token, behind_token, IsOwners}
-use Rattle.tt_gc_table.specs.Meetings.{is_over, hears_it, new_meeting, stands, begins_it}
-use Rattle.tt_gc_table.specs.Ending.{goes, leaves, ends}
+use Rattle.tt_gc_table.specs.Deed.{Deed, either}
+use Rattle.tt_gc_table.specs.Codes.{IsOwners}
+use Rattle.tt_gc_table.specs.Ending.{ends}
 use Rattle.tt_gc_table.specs.PacketRules.{most_servers, registers, registers_new, is_known, is_empty, may_return, may_register, on_register}
-use Rattle.tt_gc_table.specs.PacketRules.{read_msg, heard}
-use Rattle.tt_gc_table.specs.Desk.{most_sides, shows, read_stun, at_desk}
-use Rattle.tt_gc_table.specs.Events.{arrives, opened, on_packet, on_broken, on_shut, by_event, charged, is_stop, last_tick, shut_down}
-use Rattle.tt_gc_table.specs.Events.{closed}
-use Rattle.tt_gc_table.specs.Events.{counted, deed, stepped, table_of}
-use Rattle.tt_gc_table.specs.Events as events
-use Rattle.tt_gc_table.specs.Walk.{IsKept, Registers, Returns, Draws, kept_given, kept_where, kept_either, kept_leaves, kept_ends}
-use Rattle.tt_gc_table.specs.Walk.{kept_heard}
-use Rattle.tt_gc_table.specs.Walk.{kept_desk}
+use Rattle.tt_gc_table.specs.Events.{table_of}
+use Rattle.tt_gc_table.specs.Walk.{Registers, Returns, Draws}
 use Rattle.tt_gc_table.proofs.Finding.{find_behind}
 use Rattle.tt_gc_table.proofs.Carried.{carried_to}
-use Rattle.tt_gc_table.proofs.OneConnection.{IsStill, still_heard, still_shows}
-use Rattle.tt_gc_table.proofs.WaysLaws.{word_table}
 
 -- ---- counting
 
