@@ -38,7 +38,8 @@ Keeps I t d = I t → I d.table
 carried_still : (I : Table → Type 0) (k : IsCarried I) (t u : Table) → IsStill t u → I t → I u
 carried_still I k t u is own = k.same t u is.servers is.drawn own
 
-carried_begins : (s : GcSetup) (I : Table → Type 0) (k : IsCarried I) (t : Table) (code : List ℕ) (m : Meeting) → I t → I (begins_it s code m t).table
+carried_begins : (s : GcSetup) (I : Table → Type 0) (k : IsCarried I) (t : Table) (code : List ℕ) (m : Meeting) → I t → I
+    (begins_it s code m t).table
 carried_begins s I k t code m own =
     let u : Table = (stands m.state.stage m (behind_token t)).table in
     let is : (begins_it s code m t).table ≡ u = word_table s (from_direct s.ways).told m u in
@@ -53,21 +54,25 @@ carried s I k = record {
   plain = λ t u like own. k.registers t u like.5 own;
   tells = λ t to m none own. own;
   goes = λ t conn own. k.same t (goes conn t).table refl refl own;
-  hears = λ t h token own. carried_still I k t (given (meeting_of t token) (hears_it s h) t).table (still_heard s h t (meeting_of t token)) own;
-  shows = λ t peer token side own. carried_still I k t (shows peer token side t).table (still_shows t peer token side (meeting_of t token)) own;
+  hears = λ t h token own. carried_still I k t (given (meeting_of t token) (hears_it s h) t).table (still_heard s h t
+      (meeting_of t token)) own;
+  shows = λ t peer token side own. carried_still I k t (shows peer token side t).table (still_shows t peer token side
+      (meeting_of t token)) own;
   joins = λ t d rule one two own. two (one own);
 }
 
 carried_arrives : (I : Table → Type 0) (k : IsCarried I) (side : Bool) (peer : Peer) (t : Table) → Keeps I t (arrives side peer t)
 carried_arrives I k side peer t own = k.same t (arrives side peer t).table refl refl own
 
-carried_opened : (s : GcSetup) (I : Table → Type 0) (k : IsCarried I) (door : Door) (peer : Peer) (t : Table) → Keeps I t (opened door peer t)
+carried_opened : (s : GcSetup) (I : Table → Type 0) (k : IsCarried I) (door : Door) (peer : Peer) (t : Table) → Keeps I t
+    (opened door peer t)
 carried_opened s I k Main peer t = carried_arrives I k false peer t
 carried_opened s I k Side peer t =
     kept_either (Keeps I) t (nat_le most_sides (live_sides t)) (goes t.openings) (arrives true peer) ((carried s I k).goes t t.openings)
     (carried_arrives I k true peer t)
 
-carried_packet : (s : GcSetup) (I : Table → Type 0) (k : IsCarried I) (kind : ℕ) (body : List ℕ) (x : Connection) (t : Table) → Keeps I t (on_packet s kind body x t)
+carried_packet : (s : GcSetup) (I : Table → Type 0) (k : IsCarried I) (kind : ℕ) (body : List ℕ) (x : Connection)
+    (t : Table) → Keeps I t (on_packet s kind body x t)
 carried_packet s I k kind body x t =
     kept_either (Keeps I) t x.side (at_desk x (read_stun kind body)) (heard s x (read_msg kind body))
     (kept_desk s (Keeps I) (carried s I k) t x (read_stun kind body))
@@ -87,7 +92,8 @@ carried_rule s I k (Shut conn) t = kept_given s (Keeps I) (carried s I k) t (con
 carried_rule s I k Tick t = λ own. k.same t (record t { ticks = t.ticks + 1 }) refl refl own
 carried_rule s I k Stop t = λ own. own
 
-carried_taken : (s : GcSetup) (I : Table → Type 0) (k : IsCarried I) (e : Event) (t : Table) → Keeps I t (by_event s e t ▹ charged e ▹ closed s e)
+carried_taken : (s : GcSetup) (I : Table → Type 0) (k : IsCarried I) (e : Event) (t : Table) → Keeps I t
+    (by_event s e t ▹ charged e ▹ closed s e)
 carried_taken s I k e t own =
     let d1 : Deed = by_event s e t in
     let d2 : Deed = d1 ▹ charged e in

@@ -177,7 +177,8 @@ by_code_length : (drawn : List Drawn) → length (by_code drawn) ≡ length draw
 by_code_length [] = refl
 by_code_length (d ∷ ds) = ap suc (by_code_length ds)
 
-by_code_finds : (code : List ℕ) (drawn : List Drawn) → lookup (bytes_eq code) (by_code drawn) ≡ find (λ (d : Drawn). bytes_eq code d.code) drawn
+by_code_finds : (code : List ℕ) (drawn : List Drawn) → lookup (bytes_eq code) (by_code drawn) ≡ find
+    (λ (d : Drawn). bytes_eq code d.code) drawn
 by_code_finds code [] = refl
 by_code_finds code (d ∷ ds) = ap (λ (o : Option Drawn). cond (bytes_eq code d.code) (Some d) o) (by_code_finds code ds)
 
