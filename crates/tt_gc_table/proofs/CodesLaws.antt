@@ -1,48 +1,34 @@
 -- A live code belongs to one server, as long as no code was drawn twice.
 use Rattle.std.proofs.Common.{◌≡◌, ℕ, ◌+◌, ◌≤◌, Bool, true, false, not, ◌&&◌, ◌||◌, cond, length, List, [], ◌∷◌, ◌++◌, Option, Some, None}
 use Rattle.std.proofs.Common.{refl, sym, ap, subst, ◌∙◌, arith, inl, inr}
-use Rattle.std.specs.Prelude.{◌⊎◌, count_by, eqb, find, fold, is_some, nat_le}
+use Rattle.std.specs.Prelude.{◌⊎◌, count_by, find, is_some, nat_le}
 use Rattle.std.specs.Str.{bytes_eq}
 use Rattle.std.proofs.lemmas.Bool.{true≢false, false≢true}
 use Rattle.std.proofs.lemmas.List.Sums.{sum_by-append}
 use Rattle.std.proofs.lemmas.Slice.Eq.{bytes_eq-Decides}
-use Rattle.tt_edge.specs.declared.event.Peer.{Peer}
-use Rattle.tt_edge.specs.declared.event.Door.{Door}
-use Rattle.tt_edge.specs.declared.event.Door.TheVariants.{Main, Side}
 use Rattle.tt_edge.specs.declared.event.Event.{Event}
-use Rattle.tt_edge.specs.declared.event.Event.TheVariants.{Open, Packet, Broken, Shut, Tick, Stop}
-use Rattle.tt_attempts.specs.Attempts.{from_direct}
 use Rattle.tt_gc_table.specs.declared.setup.GcSetup.{GcSetup}
-use Rattle.tt_gc_table.specs.Table.{Table, Connection, Server, Drawn, Meeting, first, connection_of, live_sides, meeting_of, server_on}
+use Rattle.tt_gc_table.specs.Table.{Table, Server, Drawn, server_on}
 use Rattle.tt_gc_table.specs.Table.{server_by}
 use Rattle.tt_gc_table.specs.Table.{drawn_by, holders, NoneTwice}
-use Rattle.tt_gc_table.specs.Deed.{Deed, ◌▹◌, either, given, becomes}
-use Rattle.tt_gc_table.specs.Codes.{new_token, behind_token, IsOwners}
-use Rattle.tt_gc_table.specs.Meetings.{is_over, hears_it, new_meeting, stands, begins_it}
-use Rattle.tt_gc_table.specs.Ending.{goes, leaves, ends}
+use Rattle.tt_gc_table.specs.Deed.{Deed, either}
+use Rattle.tt_gc_table.specs.Codes.{IsOwners}
+use Rattle.tt_gc_table.specs.Ending.{ends}
 use Rattle.tt_gc_table.specs.PacketRules.{most_servers, registers, registers_new, is_known, is_empty, may_return, may_register, on_register}
-use Rattle.tt_gc_table.specs.PacketRules.{read_msg, heard}
-use Rattle.tt_gc_table.specs.Desk.{most_sides, shows, read_stun, at_desk}
-use Rattle.tt_gc_table.specs.Events.{arrives, opened, on_packet, on_broken, on_shut, by_event, charged, is_stop, last_tick, shut_down}
-use Rattle.tt_gc_table.specs.Events.{closed}
-use Rattle.tt_gc_table.specs.Events.{counted, deed, stepped, table_of}
-use Rattle.tt_gc_table.specs.Events as events
-use Rattle.tt_gc_table.specs.Walk.{IsKept, Registers, Returns, Draws, kept_given, kept_where, kept_either, kept_leaves, kept_ends}
-use Rattle.tt_gc_table.specs.Walk.{kept_heard}
-use Rattle.tt_gc_table.specs.Walk.{kept_desk}
+use Rattle.tt_gc_table.specs.Events.{table_of}
+use Rattle.tt_gc_table.specs.Walk.{Registers, Returns, Draws}
 use Rattle.tt_gc_table.proofs.Finding.{find_behind}
-use Rattle.tt_gc_table.proofs.OneConnection.{IsStill, still_heard, still_shows}
-use Rattle.tt_gc_table.proofs.WaysLaws.{word_table}
+use Rattle.tt_gc_table.proofs.Carried.{carried_to}
 
 -- ---- counting
 
 pub count_cons : {A : Type 0} (p : A → Bool) (x : A) (xs : List A) → count_by p (x ∷ xs) ≡ cond (p x) 1 0 + count_by p xs
 count_cons {A = A} p x xs = omega (arith, sum_by-append (λ (y : A). cond (p y) 1 0) (x ∷ []) xs)
 
-count_push : {A : Type 0} (p : A → Bool) (x : A) (xs : List A) → count_by p (xs ++ x ∷ []) ≡ count_by p xs + cond (p x) 1 0
+pub count_push : {A : Type 0} (p : A → Bool) (x : A) (xs : List A) → count_by p (xs ++ x ∷ []) ≡ count_by p xs + cond (p x) 1 0
 count_push {A = A} p x xs = omega (arith, sum_by-append (λ (y : A). cond (p y) 1 0) xs (x ∷ []))
 
-none_found : {A : Type 0} (p : A → Bool) (xs : List A) → count_by p xs ≡ 0 → is_some (find p xs) ≡ false
+pub none_found : {A : Type 0} (p : A → Bool) (xs : List A) → count_by p xs ≡ 0 → is_some (find p xs) ≡ false
 none_found p [] none = refl
 none_found {A = A} p (x ∷ xs) none = by (p x) (sym (count_cons p x xs) ∙ none) (none_found p xs)
   where
@@ -70,9 +56,6 @@ pub record Owned (t : Table) (code : List ℕ) : Type 0 where
 abbrev pub IsOwned : Table → Type 0
 IsOwned t = NoneTwice t.drawn → (code : List ℕ) → Owned t code
 
-abbrev KeepsOwned : Table → Deed → Type 0
-KeepsOwned t d = IsOwned t → IsOwned d.table
-
 -- servers and drawn codes are as they were
 owned_same : (t u : Table) → u.servers ≡ t.servers → u.drawn ≡ t.drawn → IsOwned t → IsOwned u
 owned_same t u servers drawn own once code =
@@ -82,9 +65,6 @@ owned_same t u servers drawn own once code =
       one = omega (arith, same, o.one);
       known = λ none. same ∙ o.known (sym (ap (λ (ds : List Drawn). is_some (find (λ (d : Drawn). bytes_eq code d.code) ds)) drawn) ∙ none);
     }
-
-owned_still : (t u : Table) → IsStill t u → IsOwned t → IsOwned u
-owned_still t u is own = owned_same t u is.servers is.drawn own
 
 -- the code that is returned, or another one
 owned_returned : (t u : Table) (r : Returns t u) (code : List ℕ) (b : Bool) → bytes_eq code r.code ≡ b → Owned t code
@@ -143,84 +123,20 @@ owned_plain t u (inr (inl r)) own once code =
 owned_plain t u (inr (inr r)) own once code =
     owned_drawn t u r code (bytes_eq code r.new.code) refl once (own (fewer_twice t.drawn r.new u.drawn r.drawn once) code) (r.servers code)
 
--- ---- each rule
-
-owned_begins : (s : GcSetup) (t : Table) (code : List ℕ) (m : Meeting) → IsOwned t → IsOwned (begins_it s code m t).table
-owned_begins s t code m own =
-    let u : Table = (stands m.state.stage m (behind_token t)).table in
-    let is : (begins_it s code m t).table ≡ u = word_table s (from_direct s.ways).told m u in
-    subst IsOwned (sym is) (by (is_over m.state.stage))
-  where
-    by : (b : Bool) → IsOwned (either b becomes (λ t. becomes (record t { meetings = t.meetings ++ m ∷ [] })) (behind_token t)).table
-    by true = owned_same t (behind_token t) refl refl own
-    by false = owned_same t (record (behind_token t) { meetings = t.meetings ++ m ∷ [] }) refl refl own
-
-owned : (s : GcSetup) → IsKept s KeepsOwned
-owned s = record {
-  plain = λ t u like own. owned_plain t u like.5 own;
-  tells = λ t to m none own. own;
-  goes = λ t conn own. owned_same t (goes conn t).table refl refl own;
-  hears = λ t h token own. owned_still t (given (meeting_of t token) (hears_it s h) t).table (still_heard s h t (meeting_of t token)) own;
-  shows = λ t peer token side own. owned_still t (shows peer token side t).table (still_shows t peer token side (meeting_of t token)) own;
-  joins = λ t d rule one two own. two (one own);
-}
-
-owned_arrives : (side : Bool) (peer : Peer) (t : Table) → KeepsOwned t (arrives side peer t)
-owned_arrives side peer t own = owned_same t (arrives side peer t).table refl refl own
-
-owned_opened : (s : GcSetup) (door : Door) (peer : Peer) (t : Table) → KeepsOwned t (opened door peer t)
-owned_opened s Main peer t = owned_arrives false peer t
-owned_opened s Side peer t =
-    kept_either KeepsOwned t (nat_le most_sides (live_sides t)) (goes t.openings) (arrives true peer) ((owned s).goes t t.openings)
-    (owned_arrives true peer t)
-
-owned_packet : (s : GcSetup) (kind : ℕ) (body : List ℕ) (x : Connection) (t : Table) → KeepsOwned t (on_packet s kind body x t)
-owned_packet s kind body x t =
-    kept_either KeepsOwned t x.side (at_desk x (read_stun kind body)) (heard s x (read_msg kind body))
-    (kept_desk s KeepsOwned (owned s) t x (read_stun kind body))
-    (kept_heard s KeepsOwned (owned s)
-    (λ t code server v client. owned_begins s t code (new_meeting s (new_token t) server v client)) t x (read_msg kind body))
-
-owned_rule : (s : GcSetup) (e : Event) (t : Table) → KeepsOwned t (by_event s e t)
-owned_rule s (Open door peer) t = owned_opened s door peer t
-owned_rule s (Packet conn kind body) t =
-    kept_given s KeepsOwned (owned s) t (connection_of t conn) (on_packet s kind body) (λ x. owned_packet s kind body x t)
-owned_rule s (Broken conn) t = kept_given s KeepsOwned (owned s) t (connection_of t conn) (on_broken s)
-    (λ x. kept_either KeepsOwned t x.side (goes x.conn) (ends s x.conn 0 []) ((owned s).goes t x.conn)
-    (kept_ends s KeepsOwned (owned s) t x.conn 0 []))
-owned_rule s (Shut conn) t = kept_given s KeepsOwned (owned s) t (connection_of t conn) (on_shut s)
-    (λ x. kept_either KeepsOwned t x.side (goes x.conn) (leaves s x.conn) ((owned s).goes t x.conn)
-    (kept_leaves s KeepsOwned (owned s) t x.conn))
-owned_rule s Tick t = λ own. owned_same t (record t { ticks = t.ticks + 1 }) refl refl own
-owned_rule s Stop t = λ own. own
-
-owned_taken : (s : GcSetup) (e : Event) (t : Table) → KeepsOwned t (by_event s e t ▹ charged e ▹ closed s e)
-owned_taken s e t own =
-    let d1 : Deed = by_event s e t in
-    let d2 : Deed = d1 ▹ charged e in
-    let last : Bool = is_stop e || nat_le s.cost d2.table.cost || eqb d2.table.ticks last_tick in
-    kept_where s KeepsOwned (owned s) d2.table last shut_down (λ own. owned_same d2.table (shut_down d2.table).table refl refl own)
-    (owned_same d1.table d2.table refl refl (owned_rule s e t own))
-
-owned_counted : (e : Event) (t : Table) → IsOwned t → IsOwned (counted e t)
-owned_counted (Open door peer) t own = owned_same t (record t { openings = t.openings + 1 }) refl refl own
-owned_counted (Packet conn kind body) t own = own
-owned_counted (Broken conn) t own = own
-owned_counted (Shut conn) t own = own
-owned_counted Tick t own = own
-owned_counted Stop t own = own
-
-owned_deed : (s : GcSetup) (e : Event) (t : Table) → IsOwned t → IsOwned (stepped s t e)
-owned_deed s e t own =
-    kept_where s KeepsOwned (owned s) (counted e t) (events.takes t e) (λ t. by_event s e t ▹ charged e ▹ closed s e)
-    (owned_taken s e (counted e t)) (owned_counted e t own)
-
-owned_after : (s : GcSetup) (t : Table) (es : List Event) → IsOwned t → IsOwned (fold (stepped s) t es)
-owned_after s t [] own = own
-owned_after s t (e ∷ es) own = owned_after s (stepped s t e) es (owned_deed s e t own)
+is_owned : (s : GcSetup) (es : List Event) → IsOwned (table_of s es)
+is_owned s es = carried_to s IsOwned (record { same = owned_same; registers = owned_plain }) (λ once code. record {
+  one = omega arith;
+  known = λ none. refl;
+}) es
 
 pub one_holder : (s : GcSetup) (es : List Event) (code : List ℕ) → NoneTwice (table_of s es).drawn → holders (table_of s es) code ≤ 1
-one_holder s es code once = (owned_after s (first s) es (λ once code. record { one = omega arith; known = λ none. refl }) once code).one
+one_holder s es code once = (is_owned s es once code).one
+
+-- a code that wasn't drawn has no server
+pub none_undrawn : (s : GcSetup) (es : List Event) (code : List ℕ) → NoneTwice (table_of s es).drawn
+    → is_some (drawn_by (table_of s es) code) ≡ false → is_some (server_by (table_of s es) code) ≡ false
+none_undrawn s es code once none =
+    none_found (λ (v : Server). bytes_eq code v.code) (table_of s es).servers ((is_owned s es once code).known none)
 
 -- ---- the secret
 

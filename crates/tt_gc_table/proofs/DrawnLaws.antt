@@ -82,7 +82,7 @@ counted_length (c ∷ cs) = by (follower alphabet c) (counted_length cs)
     by (Some next) more = refl
     by None more = ap suc more
 
-pass_back : (p : ℕ → Bool) (xs : List ℕ) → list_all p xs ≡ true → list_all p (reverse xs) ≡ true
+pub pass_back : (p : ℕ → Bool) (xs : List ℕ) → list_all p xs ≡ true → list_all p (reverse xs) ≡ true
 pass_back p [] all = refl
 pass_back p (x ∷ xs) all =
     let parts = and_parts (p x) (list_all p xs) all in

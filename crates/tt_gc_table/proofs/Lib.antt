@@ -4,6 +4,7 @@ pub mod WaysPromise
 pub mod OneConnection
 pub mod ListingLaws
 pub mod RegistryLaws
+pub mod Carried
 pub mod CodesLaws
 pub mod CountLaws
 pub mod Keyed
@@ -18,4 +19,5 @@ pub mod TellsLaws
 pub mod HeardLaws
 pub mod LeavingLaws
 pub mod DrawnLaws
+pub mod Counting
 pub mod ListedLaws

@@ -1,6 +1,7 @@
 pub mod Table
 pub mod Deed
 pub mod Codes
+pub mod AllCodes
 pub mod Meetings
 pub mod Ending
 pub mod PacketRules

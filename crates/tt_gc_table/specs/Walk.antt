@@ -48,6 +48,7 @@ pub record Returns (t u : Table) : Type 0 where
 -- a code that is drawn now has one server more
 pub record Draws (t u : Table) : Type 0 where
   pub new : Drawn
+  pub is_new : new.code ≡ new_code t
   pub servers : (c : List ℕ) → holders u c ≡ holders t c + cond (bytes_eq c new.code) 1 0
   pub drawn : u.drawn ≡ t.drawn ++ new ∷ []
 
@@ -259,7 +260,7 @@ kept_register s P k t conn kind port code secret =
       refl,
       refl,
       refl,
-      inr (inr (record { new = new; servers = one_more t u conn kind port new refl; drawn = refl })),
+      inr (inr (record { new = new; is_new = refl; servers = one_more t u conn kind port new refl; drawn = refl })),
       refl,
       refl,
     ))

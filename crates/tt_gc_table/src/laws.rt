@@ -9,10 +9,12 @@ ghost use Rattle.tt_attempts.specs.declared.attempt.Heard.{Heard};
 ghost use Rattle.tt_attempts.specs.declared.attempt.Heard.TheVariants.{Connected};
 ghost use Rattle.tt_attempts.specs.Runs.{told_in, applying};
 ghost use Rattle.tt_gc_table.specs.Ways.{words_for, ways, hearings, numbers, IsCaused};
-ghost use Rattle.tt_gc_table.specs.Table.{Table, Server, Meeting, is_servers, meeting_of, holders, NoneTwice};
+ghost use Rattle.tt_gc_table.specs.Table.{Table, Server, Meeting, is_servers, meeting_of, holders, NoneTwice, server_by, drawn_by};
+ghost use Rattle.std.specs.Prelude.{is_some};
 ghost use Rattle.tt_gc_table.specs.Deed.{Step, becomes};
 ghost use Rattle.tt_gc_table.specs.Ending.{ends};
-ghost use Rattle.tt_gc_table.specs.Codes.{IsOwners};
+ghost use Rattle.tt_gc_table.specs.Codes.{IsOwners, new_code};
+ghost use Rattle.tt_gc_table.specs.AllCodes.{all_codes};
 ghost use Rattle.tt_gc_table.specs.Listing.{ListsServer, EndsListing};
 ghost use Rattle.tt_gc_table.specs.Events.{table_of, is_stop, last_tick};
 ghost use Rattle.tt_edge.specs.declared.event.Event.TheVariants.{Packet};
@@ -96,6 +98,17 @@ pub fn only_asked_servers_are_listed()
 /// twice, as `Parts::drawn_count` says.
 pub fn a_code_has_one_server()
     ensures { (s : GcSetup) (es : List Event) (code : List ℕ) → NoneTwice (table_of s es).drawn → holders (table_of s es) code ≤ 1 }
+{}
+
+/// No code is drawn twice, as long as no more are drawn than there are: whatever happens, a new code is one that wasn't drawn.
+pub fn no_code_is_drawn_twice()
+    ensures new { (t : Table) → length t.drawn < all_codes → is_some (drawn_by t (new_code t)) ≡ false }
+    ensures once { (s : GcSetup) (es : List Event) → length (table_of s es).drawn ≤ all_codes → NoneTwice (table_of s es).drawn }
+    // So a live code belongs to one server, and was drawn.
+    ensures one_server { (s : GcSetup) (es : List Event) (code : List ℕ) → length (table_of s es).drawn ≤ all_codes
+        → holders (table_of s es) code ≤ 1 }
+    ensures drawn { (s : GcSetup) (es : List Event) (code : List ℕ) → length (table_of s es).drawn ≤ all_codes
+        → is_some (drawn_by (table_of s es) code) ≡ false → is_some (server_by (table_of s es) code) ≡ false }
 {}
 
 /// Whoever registers by a code has its secret: a registration with a code is taken only where that code was drawn with the secret

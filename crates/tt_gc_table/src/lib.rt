@@ -29,8 +29,8 @@ pub use codes::{code_text, undrawn};
 pub use heard::{Hearing, hear, plan_connected, plan_failed, plan_result};
 pub use laws::{
     a_bad_packet_ends_its_own_connection, a_code_has_one_server, a_code_is_its_owners,
-    all_is_over_exactly_then, core_laws, only_asked_servers_are_listed, strangers_change_nothing,
-    ways_in_order,
+    all_is_over_exactly_then, core_laws, no_code_is_drawn_twice, only_asked_servers_are_listed,
+    strangers_change_nothing, ways_in_order,
 };
 pub use leaving::plan_end;
 pub use listing::plan_listing;

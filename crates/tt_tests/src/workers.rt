@@ -4,6 +4,7 @@ ghost use Rattle.tt_edge.specs.MemLink.{IsFreshLink};
 ghost use Rattle.tt_room.specs.Passes.{IsOf};
 ghost use Rattle.tt_workers.specs.Working.{IsReady};
 
+mod handles;
 mod sockets;
 mod watched;
 

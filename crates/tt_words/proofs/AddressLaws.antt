@@ -96,6 +96,5 @@ cut_is_address a b c d port word small_a small_b small_c small_d small_port text
 }
   where
     four_are : (a b c d : ℕ) → a < 2 ^ 8 → b < 2 ^ 8 → c < 2 ^ 8 → d < 2 ^ 8 → All (λ n. n < 2 ^ 8) (a ∷ b ∷ c ∷ d ∷ [])
-    four_are a b c d one two three four = All-cons (λ n. n < 2 ^ 8) a (b ∷ c ∷ d ∷ []) one
-        (All-cons (λ n. n < 2 ^ 8) b (c ∷ d ∷ []) two (All-cons (λ n. n < 2 ^ 8) c (d ∷ []) three
-        (All-cons (λ n. n < 2 ^ 8) d [] four (All-nil (λ n. n < 2 ^ 8)))))
+    four_are a b c d one two three four = All-cons (λ n. n < 2 ^ 8) a (b ∷ c ∷ d ∷ []) one (All-cons (λ n. n < 2 ^ 8) b
+        (c ∷ d ∷ []) two (All-cons (λ n. n < 2 ^ 8) c (d ∷ []) three (All-cons (λ n. n < 2 ^ 8) d [] four (All-nil (λ n. n < 2 ^ 8)))))

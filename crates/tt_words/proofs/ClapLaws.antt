@@ -1,20 +1,8 @@
 -- What `clap` says of the programs' commands.
 use Rattle.std.proofs.Common.{◌≡◌, ◌∙◌, List, [], ap, subst, true, refl, inl, inr}
 use Rattle.std.proofs.lemmas.Bool.{and_parts}
-use Rattle.clap.specs.Words.{
-  App,
-  HasKind,
-  HasMatchesOf,
-  IsAmong,
-  Text,
-  fault_of,
-  found_of,
-  is_simple,
-  is_simple_and_free,
-  kind_of,
-  matches_of,
-  rows_of,
-}
+use Rattle.clap.specs.Words.{App, HasKind, HasMatchesOf, IsAmong, Text, fault_of}
+use Rattle.clap.specs.Words.{found_of, is_simple, is_simple_and_free, kind_of, matches_of, rows_of}
 use Rattle.clap.specs.declared.error.Error.{Error}
 use Rattle.clap.specs.declared.error.kind.ErrorKind.TheVariants.{OutOfMemory}
 use Rattle.clap.specs.declared.parser.matches.ArgMatches.{ArgMatches}

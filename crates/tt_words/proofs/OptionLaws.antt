@@ -1,25 +1,6 @@
 -- Options that are added one by one.
-use Rattle.std.proofs.Common.{
-  ◌≡◌,
-  ◌∙◌,
-  ◌<◌,
-  ◌+◌,
-  ◌++◌,
-  ◌∷◌,
-  ℕ,
-  Bool,
-  List,
-  [],
-  map,
-  length,
-  take,
-  get_or,
-  ap,
-  refl,
-  sym,
-  append_assoc,
-  arith,
-}
+use Rattle.std.proofs.Common.{◌≡◌, ◌∙◌, ◌<◌, ◌+◌, ◌++◌, ◌∷◌, ℕ, Bool, List, []}
+use Rattle.std.proofs.Common.{map, length, take, get_or, ap, refl, sym, append_assoc, arith}
 use Rattle.std.specs.Borrow.{Bor}
 use Rattle.std.proofs.lemmas.List.{map-append, take_more, append-nil}
 use Rattle.clap.specs.Words.{App, Rule, Text, with_rule}
@@ -66,5 +47,5 @@ all_texts P (name ∷ names) all =
 pub all_behind : (P : Text → Type 0) (names : List (Bor Text)) → All P (map text_of names) → All (λ name. P name.now) names
 all_behind P [] all = All-nil (λ name. P name.now)
 all_behind P (name ∷ names) all =
-    All-cons (λ n. P n.now) name names (all 0 name.now (omega arith))
-    (all_behind P names (All-rest P name.now (map text_of names) _ refl all))
+    All-cons (λ n. P n.now) name names (all 0 name.now (omega arith)) (all_behind P names (All-rest P name.now
+    (map text_of names) _ refl all))

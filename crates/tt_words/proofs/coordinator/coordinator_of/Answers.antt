@@ -24,6 +24,6 @@ returns-in_err-second c =
 pub returns-in_err-turn : goal.returns-in_err-turn
 returns-in_err-turn c =
     let rows = rows_of (found_of c.args.matches.now) in
-    refused (CoordinatorMeans rows) (GivenAny (IsWords 1 31) (given_for (codes "turn") rows)) (λ (v : CoordinatorWords). v.turn)
-    c.from_residual-in_err-turn.result
+    refused (CoordinatorMeans rows) (GivenAny (IsWords 1 31) (given_for (codes "turn") rows))
+    (λ (v : CoordinatorWords). v.turn) c.from_residual-in_err-turn.result
     c.from_residual-in_err-turn.ensures c.in_err-turn.ensures (λ v means. means.turn)

@@ -16,15 +16,15 @@ returns-in_err-name c =
 pub returns-in_err-company : goal.returns-in_err-company
 returns-in_err-company c =
     let rows = rows_of (found_of c.args.matches.now) in
-    refused (PlayMeans rows) (GivenOr (IsNumber 0 255) 255 (given_for (codes "company") rows)) (λ (v : PlayWords). v.company)
-    c.from_residual-in_err-company.result
+    refused (PlayMeans rows) (GivenOr (IsNumber 0 255) 255 (given_for (codes "company") rows))
+    (λ (v : PlayWords). v.company) c.from_residual-in_err-company.result
     c.from_residual-in_err-company.ensures c.in_err-company.ensures.found (λ v means. means.company)
 
 pub returns-in_err-password : goal.returns-in_err-password
 returns-in_err-password c =
     let rows = rows_of (found_of c.args.matches.now) in
-    refused (PlayMeans rows) (GivenOr (IsWords 0 32) [] (given_for (codes "password") rows)) (λ (v : PlayWords). v.password)
-    c.from_residual-in_err-password.result
+    refused (PlayMeans rows) (GivenOr (IsWords 0 32) [] (given_for (codes "password") rows))
+    (λ (v : PlayWords). v.password) c.from_residual-in_err-password.result
     c.from_residual-in_err-password.ensures
     (subst (λ (d : List ℕ). (w : List ℕ) → GivenOr (IsWords 0 32) d (given_for (codes "password") rows) w → ⊥) c.no_text.ensures
     c.in_err-password.ensures) (λ v means. means.password)

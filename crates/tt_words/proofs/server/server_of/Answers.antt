@@ -63,6 +63,6 @@ returns-in_err-cost c =
 pub returns-in_err-map : goal.returns-in_err-map
 returns-in_err-map c =
     let rows = rows_of (found_of c.args.matches.now) in
-    refused (ServerMeans rows) (GivenAny (IsWords 0 899) (given_for (codes "map") rows)) (λ (v : ServerWords). v.map)
-    c.from_residual-in_err-map.result
+    refused (ServerMeans rows) (GivenAny (IsWords 0 899) (given_for (codes "map") rows))
+    (λ (v : ServerWords). v.map) c.from_residual-in_err-map.result
     c.from_residual-in_err-map.ensures c.in_err-map.ensures (λ v means. means.map)

@@ -10,8 +10,8 @@ returns-else-least-number c value is =
     let digits = c.in_ok-number.ensures.found in
     let bytes = c.as_bytes.ensures.value in
     let found : c.args.text.now ≡ decimal c.in_ok-number.number = cc in
-    let same = one_number c.args.text.now c.in_ok-number.number value c.in_ok-number.ensures.small (omega (arith, most, range))
-    found is.digits in
+    let same = one_number c.args.text.now c.in_ok-number.number value c.in_ok-number.ensures.small (omega
+    (arith, most, range)) found is.digits in
     elim c.else-least-number.either [
       | inl outside ↦ omega (arith, same, range, outside)
       | inr below ↦ omega (arith, same, range, below)
