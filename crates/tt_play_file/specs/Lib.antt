@@ -1,0 +1,4 @@
+-- What a file is
+pub mod File
+-- How a line is read
+pub mod Reading
