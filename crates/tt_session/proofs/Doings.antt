@@ -15,7 +15,8 @@ use Rattle.tt_client.specs.declared.state.State.TheVariants as state
 use Rattle.tt_play_file.specs.declared.line.Act.{Act}
 use Rattle.tt_play_file.specs.declared.line.TimedLine.{TimedLine}
 use Rattle.tt_session.specs.declared.acting.Acted.TheVariants as acted
-use Rattle.tt_session.specs.Acting.{Action, Feeds, Runs, Does, Takes, Standing, Acts, pieces, client_by, text_by, IsIdle, IsLater, IsNotPast}
+use Rattle.tt_session.specs.Acting.{Action, Feeds, Runs, Does, Takes, Standing, Acts}
+use Rattle.tt_session.specs.Acting.{pieces, client_by, text_by, IsIdle, IsLater, IsNotPast}
 use Rattle.tt_session.specs.Acting.{IsRunningAt}
 use Rattle.tt_session.specs.Doing.{ActsRound, DoesLine, IsDue, IsFirstDue, goal_at}
 use Rattle.tt_session.specs.Running.{RunsAt}
@@ -37,7 +38,8 @@ pub record SoFar (s : Standing) (left : List TimedLine) (client : Held) (k k' : 
 
 pub pieces_append : (xs ys : List Action) → pieces (xs ++ ys) ≡ pieces xs ++ pieces ys
 pieces_append [] ys = refl
-pieces_append (Feeds piece ∷ xs) ys = ap (λ (t : List ℕ). piece ++ t) (pieces_append xs ys) ∙ sym (append_assoc piece (pieces xs) (pieces ys))
+pieces_append (Feeds piece ∷ xs) ys = ap (λ (t : List ℕ). piece ++ t) (pieces_append xs ys) ∙ sym (append_assoc piece (pieces xs)
+    (pieces ys))
 pieces_append (Runs frames ∷ xs) ys = pieces_append xs ys
 pieces_append (Does line ∷ xs) ys = pieces_append xs ys
 pieces_append (Takes bytes ∷ xs) ys = pieces_append xs ys
@@ -80,7 +82,8 @@ line_acts s left left' client k k' line so is due =
 
 text_same : (so_printed s_printed text : List ℕ) (act : Act) (a b : Held) → so_printed ≡ s_printed ++ text → a ≡ b
     → so_printed ++ text_by act a ≡ s_printed ++ (text ++ text_by act b)
-text_same so_printed s_printed text act a b is same = ap (λ (t : List ℕ). t ++ text_by act a) is ∙ append_assoc s_printed text (text_by act a)
+text_same so_printed s_printed text act a b is same = ap (λ (t : List ℕ). t ++ text_by act a) is ∙ append_assoc s_printed text
+    (text_by act a)
     ∙ ap (λ (h : Held). s_printed ++ (text ++ text_by act h)) same
 
 pub so_line : (s : Standing) (left left' : List TimedLine) (client client' : Held) (k k' k'' : SinkNow) (line : TimedLine)
@@ -180,14 +183,16 @@ line_lost s left left' client client' k k' k'' line so does = record {
 pub so_runs : (s : Standing) (left : List TimedLine) (client client' : Held) (k k' : SinkNow) (frames : ℕ) → SoFar s left client k k'
     → client' ≡ with_call client (Advance frames) → IsNotPast left client' → SoFar s left client' k k'
 so_runs s left client client' k k' frames so is past =
-    let same : with_call so.last.client (Advance frames) ≡ client' = ap (λ (h : Held). with_call h (Advance frames)) so.client_is ∙ sym is in
+    let same : with_call so.last.client (Advance frames) ≡ client' = ap (λ (h : Held). with_call h
+    (Advance frames)) so.client_is ∙ sym is in
     let next : Standing = record (so.last) { client = with_call so.last.client (Advance frames) } in
     record {
       actions = so.actions ++ Runs frames ∷ [];
       last = next;
       acts = each_more Acts s so.last next so.actions (Runs frames) so.acts (
         refl,
-        subst (λ (h : Held). IsNotPast so.last.left h) (sym same) (subst (λ (ls : List TimedLine). IsNotPast ls client') (sym so.left_is) past),
+        subst (λ (h : Held). IsNotPast so.last.left h) (sym same) (subst (λ (ls : List TimedLine). IsNotPast ls client')
+            (sym so.left_is) past),
       );
       fed = pieces_append so.actions (Runs frames ∷ []) ∙ append-nil (pieces so.actions) ∙ so.fed;
       said = so.said;
@@ -214,7 +219,8 @@ so_idle s left client k k' so idle = record {
   written = (so.written, so.faults);
   stands = (
     so.left_is,
-    subst (λ (h : Held). IsIdle so.last.left h) (sym so.client_is) (subst (λ (ls : List TimedLine). IsIdle ls client) (sym so.left_is) idle),
+    subst (λ (h : Held). IsIdle so.last.left h) (sym so.client_is) (subst (λ (ls : List TimedLine). IsIdle ls client)
+        (sym so.left_is) idle),
   );
 }
 

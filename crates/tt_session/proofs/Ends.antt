@@ -1,5 +1,6 @@
 -- How a run ends.
-use Rattle.std.proofs.Common.{◌≡◌, ℕ, zero, suc, ◌+◌, ◌≤◌, inl, inr, List, [], ◌∷◌, ◌++◌, length, Option, Some, None, refl, sym, ap, ◌∙◌, subst, append_assoc}
+use Rattle.std.proofs.Common.{◌≡◌, ℕ, zero, suc, ◌+◌, ◌≤◌, inl, inr, List, [], ◌∷◌}
+use Rattle.std.proofs.Common.{◌++◌, length, Option, Some, None, refl, sym, ap, ◌∙◌, subst, append_assoc}
 use Rattle.std.proofs.Common.{length-append, arith}
 use Rattle.std.specs.Prelude.{replicate}
 use Rattle.std.proofs.lemmas.List.{append-nil}
@@ -98,13 +99,15 @@ idle_same : (beats bytes : ℕ) (c b d : LinkCounts) → d.idle_reads ≡ b.idle
 idle_same beats bytes c b d same (inl last) = inl (omega (arith, last, same))
 idle_same beats bytes c b d same (inr so) = inr (omega (arith, so, same))
 
-pub beaten : (t t' : TickerNow) (c a b d : LinkCounts) (bytes more n : ℕ) (r : Said) → Clock t t' c a bytes → HeardCounts a b more heard.Going
+pub beaten : (t t' : TickerNow) (c a b d : LinkCounts) (bytes more n : ℕ)
+    (r : Said) → Clock t t' c a bytes → HeardCounts a b more heard.Going
     → SaidCounts b d r → (r ≡ said.Failed → ⊥) → n ≡ bytes + more → Beaten t t' c d n
 beaten t t' c a b d bytes more n r clock hear say ok is = record {
   ticks = clock.ticks;
   told = clock.told;
   counts = clock.counts;
-  paced = subst (λ (m : ℕ). IsPaced (clock.ticks + 1) m c d) (sym is) (idle_same (clock.ticks + 1) (bytes + more) c b d (reads_said b d r say)
+  paced = subst (λ (m : ℕ). IsPaced (clock.ticks + 1) m c d) (sym is) (idle_same (clock.ticks + 1) (bytes + more) c b d
+      (reads_said b d r say)
       (paced_beat clock.ticks bytes more c a b clock.later.idle_reads hear clock.paced));
   later = later_then c b d (later_then c a b clock.later (later_heard a b more heard.Going hear)) (later_said b d r say);
   same = same_then c b d (same_then c a b clock.same (same_heard a b more hear)) (same_said b d r say ok);

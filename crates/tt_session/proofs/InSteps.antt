@@ -93,7 +93,8 @@ act_of_journal : (o : Origin) (events : List Event) (conn : ℕ) (login : Login)
 act_of_journal o events conn login before h at Print text law is sent due so =
     of_more o events text (lines_of_client 1 h) due.frame so (line_of_journal o events conn login before h at law is sent due)
 act_of_journal o events conn login before h at Quit text law is sent due so = subst (IsOfJournal o events) (sym (append-nil text)) so
-act_of_journal o events conn login before h at (Do command) text law is sent due so = subst (IsOfJournal o events) (sym (append-nil text)) so
+act_of_journal o events conn login before h at (Do command) text law is sent due so = subst (IsOfJournal o events) (sym
+    (append-nil text)) so
 
 act_calls : (login : Login) (before : List Call) (act : Act) (h : Held) → h ≡ held login before
     → (after : List Call) × (client_by act h ≡ held login after) × (fed after ≡ fed before)

@@ -105,7 +105,8 @@ fed_by ps = map (λ p. Feeds p) ps
 abbrev pub taken_by : List (List ℕ) → List Action
 taken_by ps = map (λ p. Takes p) ps
 
-pub core_heard : (client : Held) (lines : List TimedLine) (l l1 l2 : LinkNow) (k k' : SinkNow) (now now' : Held) (waits : List ℕ) (r : Heard)
+pub core_heard : (client : Held) (lines : List TimedLine) (l l1 l2 : LinkNow) (k k' : SinkNow) (now now' : Held) (waits : List ℕ)
+    (r : Heard)
     (actions : List Action) (last : Standing) → Core client lines l l1 k k' now waits [] actions last
     → (round : HearsRound hears now now' l1 l2 r)
     → Core client lines l l2 k k' now' waits round.lost (actions ++ fed_by round.pieces) (with_client last now')

@@ -180,7 +180,8 @@ heard_sound login i p is =
     let r = running.hears p.runs (item_told p.place i.msg) in
     elim (is_on running login p) as (λ b. IsSound (cond b (heard_as login i (runner_mark r) r p) p)) [
       | true ↦ (
-        heard_says (goes_on (phase_by (runner_mark r) i) && not (is_off (runner_mark r))) (said_behind login p.place i.msg p.saying) p.saying
+        heard_says (goes_on (phase_by (runner_mark r) i) && not (is_off (runner_mark r)))
+            (said_behind login p.place i.msg p.saying) p.saying
             (token_say (token_in i.msg) (with_bytes (answer login p.place i.msg) p.saying)
             (bytes_say (answer login p.place i.msg) p.saying is.0)) is.0,
         heard_agrees i r,

@@ -37,7 +37,8 @@ use Rattle.tt_rounds.proofs.Chains.{each_append}
 use Rattle.tt_session.specs.Doing.{ActsRound}
 use Rattle.tt_session.specs.Session.{Session, TickerNow, SinkNow, GoesOn, IsQuit, IsEndOf, AllSaid}
 use Rattle.tt_session.proofs.Doings.{part_more}
-use Rattle.tt_session.proofs.Sessions.{Core, hears, due, says, core_heard, core_said, fed_by, taken_by, with_client, with_said, pieces_same, none_fed}
+use Rattle.tt_session.proofs.Sessions.{Core, hears, due, says, core_heard, core_said}
+use Rattle.tt_session.proofs.Sessions.{fed_by, taken_by, with_client, with_said, pieces_same, none_fed}
 use Rattle.tt_session.proofs.Sessions.{heard_length}
 use Rattle.tt_session.proofs.Ends.{Clock, Beaten, Turned, turn_ends, session_of, lost_none, beaten, adds_then}
 use Rattle.tt_session.proofs.Ends.{clock_told, paced_up, ticker_same, same_heard, same_then}
@@ -72,10 +73,14 @@ memory_session client lines left l l1 l2 t t' k k' now waits r turn =
 end_by : (client : Held) (lines left : List TimedLine) (l l1 l2 : LinkNow) (t t' : TickerNow) (k k' : SinkNow) (now : Held)
     (waits : List ℕ) (r : Heard) (e : PlayEnd) → (turn : Turned client lines l l1 l2 t t' k k' now waits r acted.Going left)
     → IsEndOf (state_of turn.last.client.player) (Some e) → Session client lines l l2 t t' k k' e
-end_by client lines left l l1 l2 t t' k k' now waits r end.Shutdown turn is = turn_ends client lines left l l1 l2 t t' k k' now waits r acted.Going end.Shutdown turn refl (λ p. p) refl (λ x. x) is
-end_by client lines left l l1 l2 t t' k k' now waits r end.Desync turn is = turn_ends client lines left l l1 l2 t t' k k' now waits r acted.Going end.Desync turn refl (λ p. p) refl (λ x. x) is
-end_by client lines left l l1 l2 t t' k k' now waits r end.Wrong turn is = turn_ends client lines left l l1 l2 t t' k k' now waits r acted.Going end.Wrong turn refl (λ p. p) refl (λ x. x) is
-end_by client lines left l l1 l2 t t' k k' now waits r end.Ended turn is = turn_ends client lines left l l1 l2 t t' k k' now waits r acted.Going end.Ended turn refl (λ p. p) refl (λ x. x) is
+end_by client lines left l l1 l2 t t' k k' now waits r end.Shutdown turn is = turn_ends client lines left l l1 l2 t t' k k' now
+    waits r acted.Going end.Shutdown turn refl (λ p. p) refl (λ x. x) is
+end_by client lines left l l1 l2 t t' k k' now waits r end.Desync turn is = turn_ends client lines left l l1 l2 t t' k k' now
+    waits r acted.Going end.Desync turn refl (λ p. p) refl (λ x. x) is
+end_by client lines left l l1 l2 t t' k k' now waits r end.Wrong turn is = turn_ends client lines left l l1 l2 t t' k k' now
+    waits r acted.Going end.Wrong turn refl (λ p. p) refl (λ x. x) is
+end_by client lines left l l1 l2 t t' k k' now waits r end.Ended turn is = turn_ends client lines left l l1 l2 t t' k k' now
+    waits r acted.Going end.Ended turn refl (λ p. p) refl (λ x. x) is
 end_by client lines left l l1 l2 t t' k k' now waits r end.Quit turn is = absurd is
 end_by client lines left l l1 l2 t t' k k' now waits r end.Stopped turn is = absurd is
 end_by client lines left l l1 l2 t t' k k' now waits r end.SinkFault turn is = absurd is
@@ -237,14 +242,16 @@ write_fails client lines left l l1 l2 l3 t t' k k' now now' waits waits' turn go
     let bytes_is : length (pieces actions) ≡ turn.bytes + turn.more =
     ap (λ (xs : List ℕ). length xs) (pieces_same turn.actions (taken_by m.given) (none_fed m.given)) ∙ turn.length_is in
     let core = core_said client lines l l2 l3 k k' now now' waits waits' said.Failed turn.actions turn.last turn.core round in
-    let faults : l2.counts.faults ≡ l.counts.faults = (same_then l.counts l1.counts l2.counts turn.clock.same (same_heard l1.counts l2.counts
+    let faults : l2.counts.faults ≡ l.counts.faults = (same_then l.counts l1.counts l2.counts turn.clock.same
+    (same_heard l1.counts l2.counts
     turn.more turn.heard)).faults in
     let later = later_then l1.counts l2.counts l3.counts (later_heard l1.counts l2.counts turn.more heard.Going turn.heard)
     (later_said l2.counts l3.counts said.Failed round.counts) in
     let more : turn.bytes ≤ length (pieces actions ++ []) = omega (arith, bytes_is, length-append (pieces actions) []) in
     session_of client lines l l3 t t' k k' now' waits' [] end.LinkFault actions last core refl (core.printed, core.faults) turn.clock.ticks
     (clock_told t t' l.counts l1.counts turn.bytes turn.clock) (ticker_same t t' turn.clock.counts)
-    (paced_up turn.clock.ticks turn.bytes (length (pieces actions ++ [])) l.counts l1.counts l3.counts later.idle_reads more turn.clock.paced) (
+    (paced_up turn.clock.ticks turn.bytes (length (pieces actions ++ [])) l.counts l1.counts l3.counts later.idle_reads more
+    turn.clock.paced) (
       subst (λ (n : ℕ). Rises n l3.counts.faults) faults round.counts.0,
       by_same GoesBy now.player.phase now'.player.phase now.player.runs now'.player.runs same.0 same.1 goes,
       by_same (IdleBy turn.last.left) now.player.phase now'.player.phase now.player.runs now'.player.runs same.0 same.1 idle,
@@ -285,7 +292,8 @@ ticker_fails client lines left l l3 t t' t'' k k' now waits s counts told =
     let b = s.beaten in
     let rises : Rises t.counts.faults t''.counts.faults = subst (λ (n : ℕ). Rises n t''.counts.faults) (ap (λ (c : TickCounts). c.faults)
     b.counts) counts.0 in
-    session_of client lines l l3 t t'' k k' now waits [] end.TickerFault s.actions s.last s.core refl (s.core.printed, s.core.faults) b.ticks
+    session_of client lines l l3 t t'' k k' now waits [] end.TickerFault s.actions s.last s.core refl
+    (s.core.printed, s.core.faults) b.ticks
     (adds_then t.beats t'.beats t''.beats (replicate b.ticks beat.Tick) [] b.told told) rises
     (fewer_paced b.ticks (length (pieces s.actions)) (length (pieces s.actions ++ [])) l.counts l3.counts
     (nil_length (length (pieces s.actions)) (pieces s.actions) refl) b.paced) (rises, s.all_said, s.goes, s.idle)

@@ -39,7 +39,8 @@ returns-in-Memory g c =
     let i = c.round.invariant in
     let h = c.hear_round-heard.ensures in
     lost_session c.args.player.now c.args.left.now.items (now c.args.link.now) (now c.round.link) (now c.hear_round-heard.new.link)
-    (ticker c.args.ticker.now) (ticker c.round.ticker) (sink c.args.sink.now) (sink c.round.sink) c.round.player c.hear_round-heard.new.hearer
+    (ticker c.args.ticker.now) (ticker c.round.ticker) (sink c.args.sink.now)
+    (sink c.round.sink) c.round.player c.hear_round-heard.new.hearer
     c.round.outbox i.actions i.last i.core i.clock (subst (λ (r : Heard). HearsRound hears c.round.player c.hear_round-heard.new.hearer
     (now c.round.link) (now c.hear_round-heard.new.link) r) c.in-Memory.is h)
 
@@ -50,11 +51,13 @@ returns-in-Quit g c =
     let ticker : g.row.T.Denot → TickerNow = ticker_now g.T.Ticker.counts g.T.Ticker.beats in
     let i = c.round.invariant in
     let h = c.hear_round-heard.ensures in
-    let turn = turned c.args.player.now c.args.left.now.items c.round.left.items c.act.new.left.items (now c.args.link.now) (now c.round.link) (now c.hear_round-heard.new.link)
+    let turn = turned c.args.player.now c.args.left.now.items c.round.left.items c.act.new.left.items (now c.args.link.now)
+    (now c.round.link) (now c.hear_round-heard.new.link)
     (ticker c.args.ticker.now) (ticker c.round.ticker) (sink c.args.sink.now) (sink c.round.sink) (sink c.act.new.sink) c.round.player
     c.hear_round-heard.new.hearer c.act.new.player c.round.outbox c.hear_round-heard.result acted.Quit i.actions i.last i.core i.left_is
     i.clock h c.in_default.not-Memory c.in-Quit.ensures quit_whole in
-    quit_session c.args.player.now c.args.left.now.items c.act.new.left.items (now c.args.link.now) (now c.round.link) (now c.hear_round-heard.new.link)
+    quit_session c.args.player.now c.args.left.now.items c.act.new.left.items (now c.args.link.now) (now c.round.link)
+    (now c.hear_round-heard.new.link)
     (ticker c.args.ticker.now) (ticker c.round.ticker) (sink c.args.sink.now) (sink c.act.new.sink) c.act.new.player c.round.outbox
     c.hear_round-heard.result turn
 
@@ -65,11 +68,13 @@ returns-in-Memory-act g c =
     let ticker : g.row.T.Denot → TickerNow = ticker_now g.T.Ticker.counts g.T.Ticker.beats in
     let i = c.round.invariant in
     let h = c.hear_round-heard.ensures in
-    let turn = turned c.args.player.now c.args.left.now.items c.round.left.items c.act.new.left.items (now c.args.link.now) (now c.round.link) (now c.hear_round-heard.new.link)
+    let turn = turned c.args.player.now c.args.left.now.items c.round.left.items c.act.new.left.items (now c.args.link.now)
+    (now c.round.link) (now c.hear_round-heard.new.link)
     (ticker c.args.ticker.now) (ticker c.round.ticker) (sink c.args.sink.now) (sink c.round.sink) (sink c.act.new.sink) c.round.player
     c.hear_round-heard.new.hearer c.act.new.player c.round.outbox c.hear_round-heard.result acted.Memory i.actions i.last i.core i.left_is
     i.clock h c.in_default.not-Memory c.in-Memory-act.ensures memory_whole in
-    memory_session c.args.player.now c.args.left.now.items c.act.new.left.items (now c.args.link.now) (now c.round.link) (now c.hear_round-heard.new.link)
+    memory_session c.args.player.now c.args.left.now.items c.act.new.left.items (now c.args.link.now) (now c.round.link)
+    (now c.hear_round-heard.new.link)
     (ticker c.args.ticker.now) (ticker c.round.ticker) (sink c.args.sink.now) (sink c.act.new.sink) c.act.new.player c.round.outbox
     c.hear_round-heard.result turn
 
@@ -80,7 +85,8 @@ returns-in-SinkFault g c =
     let ticker : g.row.T.Denot → TickerNow = ticker_now g.T.Ticker.counts g.T.Ticker.beats in
     let i = c.round.invariant in
     let h = c.hear_round-heard.ensures in
-    fault_session c.args.player.now c.args.left.now.items c.round.left.items c.act.new.left.items (now c.args.link.now) (now c.round.link) (now c.hear_round-heard.new.link)
+    fault_session c.args.player.now c.args.left.now.items c.round.left.items c.act.new.left.items (now c.args.link.now)
+    (now c.round.link) (now c.hear_round-heard.new.link)
     (ticker c.args.ticker.now) (ticker c.round.ticker) (sink c.args.sink.now) (sink c.round.sink) (sink c.act.new.sink) c.round.player
     c.hear_round-heard.new.hearer c.act.new.player c.round.outbox c.hear_round-heard.result i.actions i.last i.core i.left_is i.clock h
     c.in_default.not-Memory c.in-SinkFault.ensures
@@ -92,13 +98,16 @@ returns-in-Some-end_of g c =
     let ticker : g.row.T.Denot → TickerNow = ticker_now g.T.Ticker.counts g.T.Ticker.beats in
     let i = c.round.invariant in
     let h = c.hear_round-heard.ensures in
-    let turn = turned c.args.player.now c.args.left.now.items c.round.left.items c.act.new.left.items (now c.args.link.now) (now c.round.link) (now c.hear_round-heard.new.link)
+    let turn = turned c.args.player.now c.args.left.now.items c.round.left.items c.act.new.left.items (now c.args.link.now)
+    (now c.round.link) (now c.hear_round-heard.new.link)
     (ticker c.args.ticker.now) (ticker c.round.ticker) (sink c.args.sink.now) (sink c.round.sink) (sink c.act.new.sink) c.round.player
     c.hear_round-heard.new.hearer c.act.new.player c.round.outbox c.hear_round-heard.result acted.Going i.actions i.last i.core i.left_is
     i.clock h c.in_default.not-Memory c.in-Going.ensures going_whole in
-    end_session c.args.player.now c.args.left.now.items c.act.new.left.items (now c.args.link.now) (now c.round.link) (now c.hear_round-heard.new.link)
+    end_session c.args.player.now c.args.left.now.items c.act.new.left.items (now c.args.link.now) (now c.round.link)
+    (now c.hear_round-heard.new.link)
     (ticker c.args.ticker.now) (ticker c.round.ticker) (sink c.args.sink.now) (sink c.act.new.sink) c.act.new.player c.round.outbox
-    c.hear_round-heard.result c.in-Some-end_of.end turn (subst (λ (s : State). IsEndOf s (Some c.in-Some-end_of.end)) c.state.ensures c.in-Some-end_of.ensures)
+    c.hear_round-heard.result c.in-Some-end_of.end turn (subst (λ (s : State). IsEndOf s
+    (Some c.in-Some-end_of.end)) c.state.ensures c.in-Some-end_of.ensures)
 
 pub returns-in-End : goal.returns-in-End
 returns-in-End g c =
@@ -107,16 +116,20 @@ returns-in-End g c =
     let ticker : g.row.T.Denot → TickerNow = ticker_now g.T.Ticker.counts g.T.Ticker.beats in
     let i = c.round.invariant in
     let h = c.hear_round-heard.ensures in
-    let turn = turned c.args.player.now c.args.left.now.items c.round.left.items c.act.new.left.items (now c.args.link.now) (now c.round.link) (now c.hear_round-heard.new.link)
+    let turn = turned c.args.player.now c.args.left.now.items c.round.left.items c.act.new.left.items (now c.args.link.now)
+    (now c.round.link) (now c.hear_round-heard.new.link)
     (ticker c.args.ticker.now) (ticker c.round.ticker) (sink c.args.sink.now) (sink c.round.sink) (sink c.act.new.sink) c.round.player
     c.hear_round-heard.new.hearer c.act.new.player c.round.outbox c.hear_round-heard.result acted.Going i.actions i.last i.core i.left_is
     i.clock h c.in_default.not-Memory c.in-Going.ensures going_whole in
     let goes : GoesOn (state_of c.act.new.player.player) = subst GoesOn c.state.ensures c.in-None-end_of.ensures in
     let turned_so = subst (λ (r : Heard). Turned c.args.player.now c.args.left.now.items (now c.args.link.now) (now c.round.link)
-    (now c.hear_round-heard.new.link) (ticker c.args.ticker.now) (ticker c.round.ticker) (sink c.args.sink.now) (sink c.act.new.sink) c.act.new.player
+    (now c.hear_round-heard.new.link) (ticker c.args.ticker.now) (ticker c.round.ticker) (sink c.args.sink.now)
+    (sink c.act.new.sink) c.act.new.player
     c.round.outbox r acted.Going c.act.new.left.items) c.in-End.is turn in
-    link_end c.args.player.now c.args.left.now.items c.act.new.left.items (now c.args.link.now) (now c.round.link) (now c.hear_round-heard.new.link)
-    (ticker c.args.ticker.now) (ticker c.round.ticker) (sink c.args.sink.now) (sink c.act.new.sink) c.act.new.player c.round.outbox turned_so goes
+    link_end c.args.player.now c.args.left.now.items c.act.new.left.items (now c.args.link.now) (now c.round.link)
+    (now c.hear_round-heard.new.link)
+    (ticker c.args.ticker.now) (ticker c.round.ticker) (sink c.args.sink.now)
+    (sink c.act.new.sink) c.act.new.player c.round.outbox turned_so goes
 
 pub returns-in-Failed : goal.returns-in-Failed
 returns-in-Failed g c =
@@ -125,16 +138,20 @@ returns-in-Failed g c =
     let ticker : g.row.T.Denot → TickerNow = ticker_now g.T.Ticker.counts g.T.Ticker.beats in
     let i = c.round.invariant in
     let h = c.hear_round-heard.ensures in
-    let turn = turned c.args.player.now c.args.left.now.items c.round.left.items c.act.new.left.items (now c.args.link.now) (now c.round.link) (now c.hear_round-heard.new.link)
+    let turn = turned c.args.player.now c.args.left.now.items c.round.left.items c.act.new.left.items (now c.args.link.now)
+    (now c.round.link) (now c.hear_round-heard.new.link)
     (ticker c.args.ticker.now) (ticker c.round.ticker) (sink c.args.sink.now) (sink c.round.sink) (sink c.act.new.sink) c.round.player
     c.hear_round-heard.new.hearer c.act.new.player c.round.outbox c.hear_round-heard.result acted.Going i.actions i.last i.core i.left_is
     i.clock h c.in_default.not-Memory c.in-Going.ensures going_whole in
     let goes : GoesOn (state_of c.act.new.player.player) = subst GoesOn c.state.ensures c.in-None-end_of.ensures in
     let turned_so = subst (λ (r : Heard). Turned c.args.player.now c.args.left.now.items (now c.args.link.now) (now c.round.link)
-    (now c.hear_round-heard.new.link) (ticker c.args.ticker.now) (ticker c.round.ticker) (sink c.args.sink.now) (sink c.act.new.sink) c.act.new.player
+    (now c.hear_round-heard.new.link) (ticker c.args.ticker.now) (ticker c.round.ticker) (sink c.args.sink.now)
+    (sink c.act.new.sink) c.act.new.player
     c.round.outbox r acted.Going c.act.new.left.items) c.in-Failed.is turn in
-    link_fails c.args.player.now c.args.left.now.items c.act.new.left.items (now c.args.link.now) (now c.round.link) (now c.hear_round-heard.new.link)
-    (ticker c.args.ticker.now) (ticker c.round.ticker) (sink c.args.sink.now) (sink c.act.new.sink) c.act.new.player c.round.outbox turned_so goes
+    link_fails c.args.player.now c.args.left.now.items c.act.new.left.items (now c.args.link.now) (now c.round.link)
+    (now c.hear_round-heard.new.link)
+    (ticker c.args.ticker.now) (ticker c.round.ticker) (sink c.args.sink.now)
+    (sink c.act.new.sink) c.act.new.player c.round.outbox turned_so goes
 
 pub returns-in-Failed-say_round : goal.returns-in-Failed-say_round
 returns-in-Failed-say_round g c =
@@ -143,16 +160,20 @@ returns-in-Failed-say_round g c =
     let ticker : g.row.T.Denot → TickerNow = ticker_now g.T.Ticker.counts g.T.Ticker.beats in
     let i = c.round.invariant in
     let h = c.hear_round-heard.ensures in
-    let turn = turned c.args.player.now c.args.left.now.items c.round.left.items c.act.new.left.items (now c.args.link.now) (now c.round.link) (now c.hear_round-heard.new.link)
+    let turn = turned c.args.player.now c.args.left.now.items c.round.left.items c.act.new.left.items (now c.args.link.now)
+    (now c.round.link) (now c.hear_round-heard.new.link)
     (ticker c.args.ticker.now) (ticker c.round.ticker) (sink c.args.sink.now) (sink c.round.sink) (sink c.act.new.sink) c.round.player
     c.hear_round-heard.new.hearer c.act.new.player c.round.outbox c.hear_round-heard.result acted.Going i.actions i.last i.core i.left_is
     i.clock h c.in_default.not-Memory c.in-Going.ensures going_whole in
     let goes : GoesOn (state_of c.act.new.player.player) = subst GoesOn c.state.ensures c.in-None-end_of.ensures in
     let turned_so = subst (λ (r : Heard). Turned c.args.player.now c.args.left.now.items (now c.args.link.now) (now c.round.link)
-    (now c.hear_round-heard.new.link) (ticker c.args.ticker.now) (ticker c.round.ticker) (sink c.args.sink.now) (sink c.act.new.sink) c.act.new.player
+    (now c.hear_round-heard.new.link) (ticker c.args.ticker.now) (ticker c.round.ticker) (sink c.args.sink.now)
+    (sink c.act.new.sink) c.act.new.player
     c.round.outbox r acted.Going c.act.new.left.items) c.in-Going-heard.is turn in
-    write_fails c.args.player.now c.args.left.now.items c.act.new.left.items (now c.args.link.now) (now c.round.link) (now c.hear_round-heard.new.link) (now c.say_round.new.link)
-    (ticker c.args.ticker.now) (ticker c.round.ticker) (sink c.args.sink.now) (sink c.act.new.sink) c.act.new.player c.say_round.new.speaker c.round.outbox
+    write_fails c.args.player.now c.args.left.now.items c.act.new.left.items (now c.args.link.now) (now c.round.link)
+    (now c.hear_round-heard.new.link) (now c.say_round.new.link)
+    (ticker c.args.ticker.now) (ticker c.round.ticker) (sink c.args.sink.now)
+    (sink c.act.new.sink) c.act.new.player c.say_round.new.speaker c.round.outbox
     c.say_round.new.outbox turned_so goes c.in-Failed-say_round.ensures
 
 pub returns-in-Stop : goal.returns-in-Stop
@@ -162,19 +183,24 @@ returns-in-Stop g c =
     let ticker : g.row.T.Denot → TickerNow = ticker_now g.T.Ticker.counts g.T.Ticker.beats in
     let i = c.round.invariant in
     let h = c.hear_round-heard.ensures in
-    let turn = turned c.args.player.now c.args.left.now.items c.round.left.items c.act.new.left.items (now c.args.link.now) (now c.round.link) (now c.hear_round-heard.new.link)
+    let turn = turned c.args.player.now c.args.left.now.items c.round.left.items c.act.new.left.items (now c.args.link.now)
+    (now c.round.link) (now c.hear_round-heard.new.link)
     (ticker c.args.ticker.now) (ticker c.round.ticker) (sink c.args.sink.now) (sink c.round.sink) (sink c.act.new.sink) c.round.player
     c.hear_round-heard.new.hearer c.act.new.player c.round.outbox c.hear_round-heard.result acted.Going i.actions i.last i.core i.left_is
     i.clock h c.in_default.not-Memory c.in-Going.ensures going_whole in
     let goes : GoesOn (state_of c.act.new.player.player) = subst GoesOn c.state.ensures c.in-None-end_of.ensures in
     let turned_so = subst (λ (r : Heard). Turned c.args.player.now c.args.left.now.items (now c.args.link.now) (now c.round.link)
-    (now c.hear_round-heard.new.link) (ticker c.args.ticker.now) (ticker c.round.ticker) (sink c.args.sink.now) (sink c.act.new.sink) c.act.new.player
+    (now c.hear_round-heard.new.link) (ticker c.args.ticker.now) (ticker c.round.ticker) (sink c.args.sink.now)
+    (sink c.act.new.sink) c.act.new.player
     c.round.outbox r acted.Going c.act.new.left.items) c.in-Going-heard.is turn in
-    let spoke = spoken c.args.player.now c.args.left.now.items c.act.new.left.items (now c.args.link.now) (now c.round.link) (now c.hear_round-heard.new.link) (now c.say_round.new.link)
-    (ticker c.args.ticker.now) (ticker c.round.ticker) (sink c.args.sink.now) (sink c.act.new.sink) c.act.new.player c.say_round.new.speaker c.round.outbox
+    let spoke = spoken c.args.player.now c.args.left.now.items c.act.new.left.items (now c.args.link.now) (now c.round.link)
+    (now c.hear_round-heard.new.link) (now c.say_round.new.link)
+    (ticker c.args.ticker.now) (ticker c.round.ticker) (sink c.args.sink.now)
+    (sink c.act.new.sink) c.act.new.player c.say_round.new.speaker c.round.outbox
     c.say_round.new.outbox c.say_round.result turned_so goes c.say_round.ensures c.in_default-say_round.not-Failed in
     stop_session c.args.player.now c.args.left.now.items c.act.new.left.items (now c.args.link.now) (now c.say_round.new.link)
-    (ticker c.args.ticker.now) (ticker c.round.ticker) (ticker c.wait.new.self) (sink c.args.sink.now) (sink c.act.new.sink) c.say_round.new.speaker
+    (ticker c.args.ticker.now) (ticker c.round.ticker) (ticker c.wait.new.self) (sink c.args.sink.now)
+    (sink c.act.new.sink) c.say_round.new.speaker
     c.say_round.new.outbox spoke c.in-Stop.ensures.counts c.in-Stop.ensures.beats
 
 pub returns-in-Failed-wait : goal.returns-in-Failed-wait
@@ -184,19 +210,24 @@ returns-in-Failed-wait g c =
     let ticker : g.row.T.Denot → TickerNow = ticker_now g.T.Ticker.counts g.T.Ticker.beats in
     let i = c.round.invariant in
     let h = c.hear_round-heard.ensures in
-    let turn = turned c.args.player.now c.args.left.now.items c.round.left.items c.act.new.left.items (now c.args.link.now) (now c.round.link) (now c.hear_round-heard.new.link)
+    let turn = turned c.args.player.now c.args.left.now.items c.round.left.items c.act.new.left.items (now c.args.link.now)
+    (now c.round.link) (now c.hear_round-heard.new.link)
     (ticker c.args.ticker.now) (ticker c.round.ticker) (sink c.args.sink.now) (sink c.round.sink) (sink c.act.new.sink) c.round.player
     c.hear_round-heard.new.hearer c.act.new.player c.round.outbox c.hear_round-heard.result acted.Going i.actions i.last i.core i.left_is
     i.clock h c.in_default.not-Memory c.in-Going.ensures going_whole in
     let goes : GoesOn (state_of c.act.new.player.player) = subst GoesOn c.state.ensures c.in-None-end_of.ensures in
     let turned_so = subst (λ (r : Heard). Turned c.args.player.now c.args.left.now.items (now c.args.link.now) (now c.round.link)
-    (now c.hear_round-heard.new.link) (ticker c.args.ticker.now) (ticker c.round.ticker) (sink c.args.sink.now) (sink c.act.new.sink) c.act.new.player
+    (now c.hear_round-heard.new.link) (ticker c.args.ticker.now) (ticker c.round.ticker) (sink c.args.sink.now)
+    (sink c.act.new.sink) c.act.new.player
     c.round.outbox r acted.Going c.act.new.left.items) c.in-Going-heard.is turn in
-    let spoke = spoken c.args.player.now c.args.left.now.items c.act.new.left.items (now c.args.link.now) (now c.round.link) (now c.hear_round-heard.new.link) (now c.say_round.new.link)
-    (ticker c.args.ticker.now) (ticker c.round.ticker) (sink c.args.sink.now) (sink c.act.new.sink) c.act.new.player c.say_round.new.speaker c.round.outbox
+    let spoke = spoken c.args.player.now c.args.left.now.items c.act.new.left.items (now c.args.link.now) (now c.round.link)
+    (now c.hear_round-heard.new.link) (now c.say_round.new.link)
+    (ticker c.args.ticker.now) (ticker c.round.ticker) (sink c.args.sink.now)
+    (sink c.act.new.sink) c.act.new.player c.say_round.new.speaker c.round.outbox
     c.say_round.new.outbox c.say_round.result turned_so goes c.say_round.ensures c.in_default-say_round.not-Failed in
     ticker_fails c.args.player.now c.args.left.now.items c.act.new.left.items (now c.args.link.now) (now c.say_round.new.link)
-    (ticker c.args.ticker.now) (ticker c.round.ticker) (ticker c.wait.new.self) (sink c.args.sink.now) (sink c.act.new.sink) c.say_round.new.speaker
+    (ticker c.args.ticker.now) (ticker c.round.ticker) (ticker c.wait.new.self) (sink c.args.sink.now)
+    (sink c.act.new.sink) c.say_round.new.speaker
     c.say_round.new.outbox spoke c.in-Failed-wait.ensures.counts c.in-Failed-wait.ensures.beats
 
 pub round-preserved : goal.round-preserved
@@ -206,16 +237,20 @@ round-preserved g c =
     let ticker : g.row.T.Denot → TickerNow = ticker_now g.T.Ticker.counts g.T.Ticker.beats in
     let i = c.round.invariant in
     let h = c.hear_round-heard.ensures in
-    let turn = turned c.args.player.now c.args.left.now.items c.round.left.items c.act.new.left.items (now c.args.link.now) (now c.round.link) (now c.hear_round-heard.new.link)
+    let turn = turned c.args.player.now c.args.left.now.items c.round.left.items c.act.new.left.items (now c.args.link.now)
+    (now c.round.link) (now c.hear_round-heard.new.link)
     (ticker c.args.ticker.now) (ticker c.round.ticker) (sink c.args.sink.now) (sink c.round.sink) (sink c.act.new.sink) c.round.player
     c.hear_round-heard.new.hearer c.act.new.player c.round.outbox c.hear_round-heard.result acted.Going i.actions i.last i.core i.left_is
     i.clock h c.in_default.not-Memory c.in-Going.ensures going_whole in
     let goes : GoesOn (state_of c.act.new.player.player) = subst GoesOn c.state.ensures c.in-None-end_of.ensures in
     let turned_so = subst (λ (r : Heard). Turned c.args.player.now c.args.left.now.items (now c.args.link.now) (now c.round.link)
-    (now c.hear_round-heard.new.link) (ticker c.args.ticker.now) (ticker c.round.ticker) (sink c.args.sink.now) (sink c.act.new.sink) c.act.new.player
+    (now c.hear_round-heard.new.link) (ticker c.args.ticker.now) (ticker c.round.ticker) (sink c.args.sink.now)
+    (sink c.act.new.sink) c.act.new.player
     c.round.outbox r acted.Going c.act.new.left.items) c.in-Going-heard.is turn in
-    let spoke = spoken c.args.player.now c.args.left.now.items c.act.new.left.items (now c.args.link.now) (now c.round.link) (now c.hear_round-heard.new.link) (now c.say_round.new.link)
-    (ticker c.args.ticker.now) (ticker c.round.ticker) (sink c.args.sink.now) (sink c.act.new.sink) c.act.new.player c.say_round.new.speaker c.round.outbox
+    let spoke = spoken c.args.player.now c.args.left.now.items c.act.new.left.items (now c.args.link.now) (now c.round.link)
+    (now c.hear_round-heard.new.link) (now c.say_round.new.link)
+    (ticker c.args.ticker.now) (ticker c.round.ticker) (sink c.args.sink.now)
+    (sink c.act.new.sink) c.act.new.player c.say_round.new.speaker c.round.outbox
     c.say_round.new.outbox c.say_round.result turned_so goes c.say_round.ensures c.in_default-say_round.not-Failed in
     record {
       actions = spoke.actions;
@@ -223,6 +258,7 @@ round-preserved g c =
       core = spoke.core;
       left_is = spoke.left_is;
       clock = clock_next (ticker c.args.ticker.now) (ticker c.round.ticker) (ticker c.wait.new.self) (g.L.Link.counts c.args.link.now)
-          (g.L.Link.counts c.say_round.new.link) (length (pieces spoke.actions)) spoke.beaten c.in-Tick.ensures.beats c.in-Tick.ensures.counts;
+          (g.L.Link.counts c.say_round.new.link) (length (pieces spoke.actions)) spoke.beaten c.in-Tick.ensures.beats
+          c.in-Tick.ensures.counts;
       goes = subst (λ (h : Held). GoesOn (state_of h.player)) spoke.core.client_is spoke.goes;
     }

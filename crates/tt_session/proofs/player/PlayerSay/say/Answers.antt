@@ -7,7 +7,8 @@ use Rattle.tt_session.proofs.Sounds.{call_sound, left_to_say}
 use Rattle.tt_session.proofs.player.PlayerSay.say.Goals as goal
 
 pub invariant_of-self : goal.invariant_of-self
-invariant_of-self c = subst (λ (h : Held). IsSound h.player) (sym c.take.ensures.taken) (call_sound c.self.inside.client (Take c.take.result)
+invariant_of-self c = subst (λ (h : Held). IsSound h.player) (sym c.take.ensures.taken) (call_sound c.self.inside.client
+    (Take c.take.result)
     c.self.invariant)
 
 pub returns-clause-rest : goal.returns-clause-rest
