@@ -1,0 +1,2 @@
+-- The statuses of the program
+pub mod Statuses
