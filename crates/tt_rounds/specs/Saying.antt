@@ -27,14 +27,14 @@ pub record Flushes (w w' : List ℕ) (l l' : LinkNow) (r : Said) : Type 0 where
 -- What was due was given from the front, piece by piece. What waited and what was given was written from the front, and the rest
 -- of it waits.
 pub record Moves {S : Type 0} (due : S → List ℕ) (says : S → List ℕ → S → Type 0) (s s' : S) (w w' : List ℕ) (l l' : LinkNow) : Type 0
-    where
-  pub given : List (List ℕ)
-  pub said : Each says s given s'
-  pub due_is : due s ≡ joined given ++ due s'
-  pub out : List ℕ
-  pub balance : w ++ joined given ≡ out ++ w'
-  pub written : Appends l.held l'.held out
-  pub read : Keeps l.read l'.read
+  where
+    pub given : List (List ℕ)
+    pub said : Each says s given s'
+    pub due_is : due s ≡ joined given ++ due s'
+    pub out : List ℕ
+    pub balance : w ++ joined given ≡ out ++ w'
+    pub written : Appends l.held l'.held out
+    pub read : Keeps l.read l'.read
 
 -- and nothing is left, where all was written
 pub record SaysRound {S : Type 0} (due : S → List ℕ) (says : S → List ℕ → S → Type 0) (s s' : S) (w w' : List ℕ) (l l' : LinkNow)

@@ -44,11 +44,10 @@ pub fn hear_round<L: Link, H: Hear>(link: &mut L, hearer: &mut H) -> Heard
     let mut piece = [0; PIECE];
     'hearing: for _reads in 0..MOST_READS {
         match link.read(&mut piece) {
-            LinkGot::Bytes(n) => {
-                if hearer.hear(&piece[..n]).is_err() {
-                    return Heard::Memory;
-                }
-            }
+            LinkGot::Bytes(n) => match hearer.hear(&piece[..n]) {
+                Ok(()) => {}
+                Err(_) => return Heard::Memory,
+            },
             LinkGot::Nothing => return Heard::Going,
             LinkGot::End => return Heard::End,
             LinkGot::Failed => return Heard::Failed,

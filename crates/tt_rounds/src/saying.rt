@@ -28,12 +28,14 @@ pub fn say_round<L: Link, P: Say>(link: &mut L, outbox: &mut Outbox, speaker: &m
         (link_now L.counts L.left L.was_read L.held link.old) (link_now L.counts L.left L.was_read L.held link.new) result }
 {
     'saying: loop {
-        let said = outbox.flush(link);
-        if said != Said::All {
-            return said;
-        }
-        if outbox.fill(speaker) == 0 {
-            return Said::All;
+        match outbox.flush(link) {
+            Said::All => {
+                if outbox.fill(speaker) == 0 {
+                    return Said::All;
+                }
+            }
+            Said::Held => return Said::Held,
+            Said::Failed => return Said::Failed,
         }
     }
 }
