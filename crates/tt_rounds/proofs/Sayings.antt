@@ -1,5 +1,5 @@
 -- Writes, one after another.
-use Rattle.std.proofs.Common.{◌≡◌, ℕ, List, [], ◌∷◌, ◌++◌, take, drop, refl, sym, ap, ◌∙◌, subst, append_assoc, arith}
+use Rattle.std.proofs.Common.{◌≡◌, ℕ, ◌<◌, List, [], ◌∷◌, ◌++◌, length, take, drop, refl, sym, ap, ◌∙◌, subst, append_assoc, arith}
 use Rattle.std.proofs.lemmas.List.{append-nil, take-append-drop}
 use Rattle.std.specs.Io.KnownBytes.{Appends, Keeps}
 use Rattle.std.proofs.KnownBytes.{Appends-nil, Appends-trans, Appends-kept, Keeps-refl, Keeps-trans}
@@ -45,14 +45,15 @@ written_more w v v' l k k' n so more read is counts = record {
 
 -- the last write wrote nothing, or there is nothing more to write
 pub flushed : (w v v' : List ℕ) (l k k' : LinkNow) (r : Said) → Written w v l k → Keeps k.held k'.held → Keeps k.read k'.read → v' ≡ v
-    → SaidCounts k.counts k'.counts r → (r ≡ said.All → v' ≡ []) → Flushes w v' l k' r
-flushed w v v' l k k' r so held read same counts all = record {
+    → SaidCounts k.counts k'.counts r → (r ≡ said.All → v' ≡ []) → (r ≡ said.Held → 0 < length v') → Flushes w v' l k' r
+flushed w v v' l k k' r so held read same counts all some = record {
   out = so.out;
   front = so.front ∙ ap (λ (xs : List ℕ). so.out ++ xs) (sym same);
   written = Appends-kept l.held k.held k'.held so.out so.written held;
   read = Keeps-trans l.read k.read k'.read so.read read;
   counts = said_after l.counts k.counts k'.counts r so.counts counts;
   all = all;
+  some_held = some;
 }
 
 pub held_counts : (a b : LinkCounts) → WriteCounts a b wrote.Nothing → SaidCounts a b said.Held
@@ -77,6 +78,14 @@ NotAll other = Unit {0}
 
 pub held_some : said.Held ≡ said.All → ⊥
 held_some is = subst NotAll is tt
+
+-- what is all holds nothing
+abbrev NotHeld : Said → Type 0
+NotHeld said.Held = ⊥
+NotHeld other = Unit {0}
+
+pub all_none : said.All ≡ said.Held → ⊥
+all_none is = subst NotHeld is tt
 
 pub failed_some : said.Failed ≡ said.All → ⊥
 failed_some is = subst NotAll is tt
@@ -129,4 +138,5 @@ says_ended due says s t w v v' l k k' r so counts flush none = record {
   moves = moves_flushed due says s t w v v' l k k' r so flush;
   counts = said_after l.counts k.counts k'.counts r counts flush.counts;
   all = λ is. (flush.all is, none is);
+  some_held = flush.some_held;
 }

@@ -1,5 +1,5 @@
 -- The half of a round that says: what the writes of a round come to.
-use Rattle.std.specs.Prelude.{◌≡◌, ℕ, ◌≤◌, List, [], ◌++◌}
+use Rattle.std.specs.Prelude.{◌≡◌, ℕ, ◌<◌, ◌≤◌, List, [], ◌++◌, length}
 use Rattle.std.specs.Io.KnownBytes.{Appends, Keeps}
 use Rattle.tt_edge.specs.Link.{LinkCounts, Rises}
 use Rattle.tt_rounds.specs.Links.{LinkNow}
@@ -23,6 +23,7 @@ pub record Flushes (w w' : List ℕ) (l l' : LinkNow) (r : Said) : Type 0 where
   pub read : Keeps l.read l'.read
   pub counts : SaidCounts l.counts l'.counts r
   pub all : r ≡ said.All → w' ≡ []
+  pub some_held : r ≡ said.Held → 0 < length w'
 
 -- What was due was given from the front, piece by piece. What waited and what was given was written from the front, and the rest
 -- of it waits.
@@ -36,9 +37,10 @@ pub record Moves {S : Type 0} (due : S → List ℕ) (says : S → List ℕ → 
     pub written : Appends l.held l'.held out
     pub read : Keeps l.read l'.read
 
--- and nothing is left, where all was written
+-- and nothing is left, where all was written; some of it is, where the link takes nothing more
 pub record SaysRound {S : Type 0} (due : S → List ℕ) (says : S → List ℕ → S → Type 0) (s s' : S) (w w' : List ℕ) (l l' : LinkNow)
     (r : Said) : Type 0 where
   pub moves : Moves due says s s' w w' l l'
   pub counts : SaidCounts l.counts l'.counts r
   pub all : r ≡ said.All → (w' ≡ []) × (due s' ≡ [])
+  pub some_held : r ≡ said.Held → 0 < length w'

@@ -3,7 +3,7 @@ use Rattle.std.proofs.lemmas.List.{nil_from_length}
 use Rattle.tt_rounds.specs.Links.{LinkNow, link_now}
 use Rattle.tt_rounds.specs.declared.outbox.Said.TheVariants as said
 use Rattle.tt_rounds.proofs.Counting.{said_after}
-use Rattle.tt_rounds.proofs.Sayings.{moves_none, moves_flushed, moves_filled, says_ended, held_some, failed_some}
+use Rattle.tt_rounds.proofs.Sayings.{moves_none, moves_flushed, moves_filled, says_ended, held_some, failed_some, all_none}
 use Rattle.tt_rounds.proofs.saying.say_round.Goals as goal
 
 pub saying-init : goal.saying-init
@@ -39,6 +39,7 @@ returns-then-fill-eq0 g c =
       counts = said_after (g.L.Link.counts c.args.link.now) (g.L.Link.counts c.saying.link) (g.L.Link.counts c.flush.new.link) said.All
           c.saying.invariant.counts f.counts;
       all = λ is. (nil_from_length c.fill.new.self (omega (arith, none, c.fill.ensures.count)), c.fill.ensures.none none);
+      some_held = λ is. absurd (all_none is);
     }
 
 pub saying-preserved : goal.saying-preserved
