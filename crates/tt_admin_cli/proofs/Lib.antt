@@ -1,0 +1,6 @@
+pub mod FileLaws
+pub mod SendingLaws
+pub mod HearingLaws
+pub mod ListenLaws
+pub mod SpeakLaws
+pub mod RunLaws

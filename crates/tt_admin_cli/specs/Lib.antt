@@ -1,0 +1,10 @@
+pub mod Commands
+pub mod Reading
+pub mod Sending
+pub mod Telling
+pub mod Hearing
+pub mod Rounds
+pub mod Session
+pub mod Listening
+pub mod Speaking
+pub mod Runs
