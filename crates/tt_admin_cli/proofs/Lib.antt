@@ -1,6 +1,0 @@
-pub mod FileLaws
-pub mod SendingLaws
-pub mod HearingLaws
-pub mod ListenLaws
-pub mod SpeakLaws
-pub mod RunLaws

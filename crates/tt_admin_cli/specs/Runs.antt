@@ -8,12 +8,17 @@ use Rattle.tt_words.specs.declared.admin.AdminWords.{AdminWords}
 use Rattle.tt_words.specs.Forms.{IsAdminForm}
 use Rattle.tt_rounds.specs.Links.{LinkNow}
 use Rattle.tt_rounds.specs.Commands.{commands_limit}
-use Rattle.tt_admin_cli.specs.declared.command.Command.{Command}
-use Rattle.tt_admin_cli.specs.declared.ended.Ended.{Ended}
-use Rattle.tt_admin_cli.specs.Commands.{Spells, IsFile}
-use Rattle.tt_admin_cli.specs.Sending.{join_of}
-use Rattle.tt_admin_cli.specs.Rounds.{SinkNow, TickerNow}
-use Rattle.tt_admin_cli.specs.Session.{DeskSession, status_of}
+use Rattle.tt_admin_file.specs.declared.command.Command.{Command}
+use Rattle.tt_admin.specs.declared.message.AdminMsg.{AdminMsg}
+use Rattle.tt_admin.specs.declared.message.AdminMsg.TheVariants.{AdminJoin}
+use Rattle.tt_admin_run.specs.declared.ended.Ended.{Ended}
+use Rattle.tt_admin_file.specs.Commands.{Spells, IsFile}
+use Rattle.tt_admin_run.specs.Rounds.{SinkNow, TickerNow}
+use Rattle.tt_admin_run.specs.Session.{DeskSession, status_of}
+
+-- the first message: the password and the name that the words give, and the version of this program
+abbrev pub join_of : AdminWords → AdminMsg
+join_of words = AdminJoin words.password words.name (codes "1")
 
 -- the file of commands was read to its end, and has no more bytes than the limit
 pub record IsInput (left left' : Option (List ℕ)) (input : List ℕ) : Type 0 where

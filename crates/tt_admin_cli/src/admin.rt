@@ -1,5 +1,5 @@
 //! The top call of the admin's client: words, a link, a ticker, a command file and a sink in, a status out.
-ghost use Rattle.std.specs.Prelude.{◌≡◌, ◌⊎◌, ◌≢◌, ◌<◌, ◌≤◌, ◌+◌, List, ℕ, length, IfSome, IfOk};
+ghost use Rattle.std.specs.Prelude.{◌≡◌, ◌⊎◌, ◌≢◌, ◌<◌, ◌≤◌, List, ℕ, [], ◌∷◌, length, IfSome, IfOk};
 ghost use Rattle.std.specs.Io.KnownBytes.{Appends};
 ghost use Rattle.tt_edge.specs.Count.{Rose};
 ghost use Rattle.tt_edge.specs.Link.{Rises};
@@ -9,22 +9,16 @@ ghost use Rattle.tt_words.specs.declared.admin.AdminWords.{AdminWords};
 ghost use Rattle.tt_words.specs.Forms.{IsAdminForm};
 ghost use Rattle.tt_rounds.specs.Links.{link_now};
 ghost use Rattle.tt_rounds.specs.Commands.{commands_limit};
-ghost use Rattle.tt_lines.specs.Lines.{lines_of};
-ghost use Rattle.tt_admin_cli.specs.declared.command.Command.{Command};
-ghost use Rattle.tt_admin_cli.specs.Commands.{Spells};
-ghost use Rattle.tt_admin_cli.specs.Sending.{join_of};
-ghost use Rattle.tt_admin_cli.specs.Session.{DeskSession, status_of};
-ghost use Rattle.tt_admin_cli.specs.Rounds.{IsAgenda, sink_now, ticker_now};
-ghost use Rattle.tt_admin_cli.specs.Runs.{IsRun, IsRefused, bad_line_text};
+ghost use Rattle.tt_admin_run.specs.Rounds.{IsAgenda, sink_now, ticker_now};
+ghost use Rattle.tt_admin_cli.specs.Runs.{IsRun, IsRefused, bad_line_text, join_of};
 
-use crate::command::Command;
-use crate::file::{FileBad, read_file};
-use crate::run::run;
-use crate::sending::{Agenda, agenda_of, join_of};
 use std::alloc::Global;
 use std::sync::Wait;
+use tt_admin::AdminMsg;
+use tt_admin_file::{Command, FileBad, read_file};
+use tt_admin_run::{Agenda, agenda_of, run};
 use tt_edge::{Link, Sink, Source, Ticker, write_all};
-use tt_frame::{Line, OutOfMemory};
+use tt_frame::{Line, OutOfMemory, Text};
 use tt_lines::{put, put_number};
 use tt_rounds::read_commands;
 use tt_words::{AdminWords, WordsError, admin_words};
@@ -98,6 +92,27 @@ pub fn admin_main<R: Wait, L: Link, T: Ticker, S: Source, K: Sink>(
     };
     let ended = run(rt, alloc, &agenda, link, ticker, sink);
     ended.status()
+}
+
+/// The first message of an admin.
+fn join_of(words: AdminWords) -> AdminMsg
+    ensures { result ≡ join_of words }
+{
+    AdminMsg::AdminJoin {
+        password: words.password,
+        application: words.name,
+        version: version(),
+    }
+}
+
+/// The version of this program.
+fn version() -> Text<31>
+    ensures { result ≡ 49 ∷ [] }
+{
+    match Text::new(b"1") {
+        Some(text) => text,
+        None => unreachable!(),
+    }
 }
 
 /// All that the words and the lines say.

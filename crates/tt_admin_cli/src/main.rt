@@ -6,15 +6,6 @@
 #![tactic(auto)]
 
 mod admin;
-mod command;
-mod ended;
-mod file;
-mod hearing;
-mod listening;
-mod reading;
-mod run;
-mod sending;
-mod speaking;
 
 use crate::admin::admin_main;
 use std::alloc::Global;
