@@ -297,6 +297,17 @@ spoken_same a b said.All k fails = (ap (λ (c : LinkCounts). c.faults) k, ap (λ
 spoken_same a b said.Held k fails = (ap (λ (c : LinkCounts). c.faults) k.2, ap (λ (c : LinkCounts). c.ends) k.2)
 spoken_same a b said.Failed k fails = absurd (fails refl)
 
+-- what failed is nothing else
+abbrev IsFault : Said → Type 0
+IsFault said.Failed = Unit {0}
+IsFault other = ⊥
+
+all_no_fault : said.All ≡ said.Failed → ⊥
+all_no_fault is = subst IsFault (sym is) tt
+
+held_no_fault : said.Held ≡ said.Failed → ⊥
+held_no_fault is = subst IsFault (sym is) tt
+
 -- what was said, however it ended
 going_said : (join : AdminMsg) (lines : List Command) (l m m' : LinkNow) (t t' : TickerNow) (k j : SinkNow) (rest : List ℕ) (n : Notes)
     (w w' : List ℕ) (given given' ticks beats most : ℕ) (q : Bool) (all : List ℕ) (e : Option Ended) (r : Said)
@@ -346,7 +357,7 @@ spoke join lines l m m' t t' k j rest n w w' given given' ticks beats most q all
   spoke_by : SpeaksTo None q (length all) most given' w' m.counts m'.counts → Spoke join lines l m' t t' k j rest n w' given' ticks beats
   spoke_by (inl done) =
       let next = going_said join lines l m m' t t' k j rest n w w' given given' ticks beats most q all None said.All g is fits due s done.0
-      (λ fails. cc) in
+      all_no_fault in
       let written : next.written ≡ due_bytes join lines n.welcome ticks =
       sym (append-nil next.written) ∙ ap (λ (x : List ℕ). next.written ++ x) (sym done.1) ∙ next.balance
       ∙ ap₂ (λ (i : ℕ) (xs : List ℕ). take i xs) done.2 (sym is) ∙ due in
@@ -366,7 +377,7 @@ spoke join lines l m m' t t' k j rest n w w' given given' ticks beats most q all
       }
   spoke_by (inr held) =
       let next = going_said join lines l m m' t t' k j rest n w w' given given' ticks beats most q all None said.Held g is fits due s held.0
-      (λ fails. cc) in
+      held_no_fault in
       record {
         going = next;
         stops = record {
@@ -455,7 +466,7 @@ quit_spoken : (join : AdminMsg) (lines : List Command) (l m m' : LinkNow) (t t' 
     → Speaks all q most given given' w w' m m' (Some ended.Quit) → DeskSession join lines l m' t t' k j ended.Quit
 quit_spoken join lines l m m' t t' k j rest n w w' given given' ticks beats most q all g is quit fits due few s =
     let next = going_said join lines l m m' t t' k j rest n w w' given given' ticks beats most q all (Some ended.Quit) said.All g is fits
-    due s s.ends.0 (λ fails. cc) in
+    due s s.ends.0 all_no_fault in
     let end : length (all_bytes join lines) ≤ given' = omega (arith, s.ends.2, ap length is) in
     let written : next.written ≡ all_bytes join lines =
     sym (append-nil next.written) ∙ ap (λ (x : List ℕ). next.written ++ x) (sym s.ends.1) ∙ next.balance
