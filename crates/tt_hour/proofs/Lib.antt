@@ -1,0 +1,4 @@
+pub mod ListLaws
+pub mod RoundLaws
+pub mod PartLaws
+pub mod ScriptLaws
