@@ -3,6 +3,7 @@ use Rattle.std.specs.Prelude.{◌≡◌, ◌⊎◌, ℕ, List, [], Result, Ok, E
 use Rattle.tt_log.specs.Contents.{Contents}
 use Rattle.tt_log.specs.Origin.{Origin}
 use Rattle.tt_log.specs.Saved.{IsSaved}
+use Rattle.tt_log.specs.Script.{Spells}
 use Rattle.tt_world.specs.World.{WorldState, start}
 use Rattle.tt_world.specs.declared.setup.Setup.{Setup}
 use Rattle.tt_map.specs.Reading.{map_in}
@@ -28,3 +29,10 @@ origin_in script = origin_from script.setup script.saved
 -- bytes that a game may start from: none, or the map of a saved game
 abbrev pub MayStart : List ℕ → Type 0
 MayStart saved = (saved ≡ []) ⊎ IsSaved saved
+
+-- the lines of an input spell a script of a game with this setup, from these bytes of a map
+pub record IsScriptOf (setup : Setup) (saved : List ℕ) (texts : List (List ℕ)) : Type 0 where
+  pub script : Contents
+  pub spelled : Spells script texts
+  pub made : setup ≡ script.setup
+  pub told : saved ≡ script.saved

@@ -1,6 +1,8 @@
 -- What a script means: its lines, done in order.
 use Rattle.std.specs.Prelude.{ℕ, ◌+◌, Bool, false, not, ◌||◌, ◌==◌, List, [], ◌∷◌, ◌++◌, length, map, drop, replicate, fold}
-use Rattle.std.specs.Prelude.{if◌then◌else◌}
+use Rattle.std.specs.Prelude.{if◌then◌else◌, Option, Some, None}
+use Rattle.tt_client.specs.Calls.{Advance, Take}
+use Rattle.tt_client.specs.declared.login.Login.{Login}
 use Rattle.tt_frame.specs.Packet.{Packet}
 use Rattle.tt_frame.specs.Stream.{End, rest_of, bad_size}
 use Rattle.tt_frame.specs.StreamReading.{reading}
@@ -9,21 +11,28 @@ use Rattle.tt_edge.specs.declared.event.Door.TheVariants as door
 use Rattle.tt_edge.specs.declared.event.Peer.{Peer}
 use Rattle.tt_edge.specs.declared.event.Event.{Event}
 use Rattle.tt_edge.specs.declared.event.Event.TheVariants as event
+use Rattle.tt_edge.specs.Event.{opens}
 use Rattle.tt_log.specs.Origin.{Origin}
 use Rattle.tt_log.specs.History.{table_of}
 use Rattle.tt_log.specs.Table as table
+use Rattle.tt_log.specs.Told.{sent}
 use Rattle.tt_log.specs.declared.script.line.Line1.{Line1}
-use Rattle.tt_log.specs.declared.script.line.Line1.TheVariants.{Open, Side, Bytes, Shut, Tick, Stop}
+use Rattle.tt_log.specs.declared.script.line.Line1.TheVariants.{Open, Side, Bytes, Shut, Tick, Stop, Join, Up, Down, Run, Pump, Do, Forge}
+use Rattle.tt_log.specs.declared.script.line.Line1.TheVariants.{Expect}
+use Rattle.tt_playing.specs.Attached.{Attached, called, changed, fresh, handed, is_attached, login_of, misled, ordered, runs_in, said_by}
+use Rattle.tt_playing.specs.Attached.{with_client}
 
--- the events so far, all bytes that were fed to each connection, and how many lines were refused
+-- the events so far, all bytes that were fed to each connection, the client that is attached to it, if one is, and how many lines
+-- were refused
 pub record Played : Type 0 where
   pub events : List Event
   pub fed : ℕ → List ℕ
+  pub clients : ℕ → Option Attached
   pub refused : ℕ
 
 -- nothing was done yet
 abbrev pub nothing : Played
-nothing = record { events = []; fed = λ conn. []; refused = 0 }
+nothing = record { events = []; fed = λ conn. []; clients = λ conn. None; refused = 0 }
 
 -- ---- how the game stands behind some events
 
@@ -75,17 +84,30 @@ added conn fed piece = drop (length (stream_events conn fed)) (stream_events con
 abbrev pub is_gone : Origin → List Event → ℕ → Bool
 is_gone o events conn = is_over o events || not (is_live o events conn)
 
--- a line whose opening, events or piece find the game over, or that names a connection that is not live
-abbrev pub is_refused : Origin → List Event → Line1 → Bool
-is_refused o events Open = is_over o events
-is_refused o events Side = is_over o events
-is_refused o events (Bytes conn piece) = is_gone o events conn
-is_refused o events (Shut conn) = is_gone o events conn
-is_refused o events (Tick n) = is_over o events
-is_refused o events Stop = is_over o events
-is_refused o events line = false
+-- no client is attached to a connection
+abbrev pub is_bare : Played → ℕ → Bool
+is_bare p conn = not (is_attached (p.clients conn))
 
--- ---- what the other lines do
+-- A line is refused where its opening, its event or its piece finds the game over; where what it is fed, or who is closed, is a
+-- connection that is not live; where it asks for a client, and none is attached; and where it has a command, and the client
+-- does not run. No other line is refused.
+abbrev pub is_refused : Origin → Played → Line1 → Bool
+is_refused o p Open = is_over o p.events
+is_refused o p Side = is_over o p.events
+is_refused o p (Bytes conn piece) = is_gone o p.events conn
+is_refused o p (Shut conn) = is_gone o p.events conn
+is_refused o p (Tick n) = is_over o p.events
+is_refused o p Stop = is_over o p.events
+is_refused o p (Join name company password own) = is_over o p.events
+is_refused o p (Up conn n) = is_gone o p.events conn || is_bare p conn
+is_refused o p (Down conn n) = is_bare p conn
+is_refused o p (Run conn n) = is_bare p conn
+is_refused o p (Pump conn) = is_bare p conn
+is_refused o p (Do conn command) = not (runs_in (p.clients conn))
+is_refused o p (Forge conn bytes) = is_bare p conn
+is_refused o p (Expect line) = false
+
+-- ---- what the other lines do: events
 
 abbrev pub with_event : Event → Played → Played
 with_event e p = record p { events = p.events ++ e ∷ [] }
@@ -110,7 +132,39 @@ with_piece o conn piece p =
 abbrev pub with_ticks : Origin → ℕ → Played → Played
 with_ticks o n p = record p { events = until_over o p.events (replicate n event.Tick) }
 
--- An expected line does nothing, and the lines of attached clients are in no script that is played.
+-- ---- what they do: attached clients
+
+-- the client of a connection is changed, where one is attached
+abbrev pub on_client : ℕ → (Attached → Attached) → Played → Played
+on_client conn change p = record p { clients = with_client conn (changed change (p.clients conn)) p.clients }
+
+-- a connection at the main door, with a client
+abbrev pub joined : Login → Played → Played
+joined login p = let q = opened door.Main p in record q { clients = with_client (opens q.events) (Some (fresh login)) q.clients }
+
+-- at most so many of the client's bytes, to its connection as one piece
+abbrev pub brought_up : Origin → ℕ → ℕ → Played → Played
+brought_up o conn n p =
+    let piece = said_by n (p.clients conn) in
+    with_piece o conn piece (on_client conn (called (Take (length piece))) p)
+
+-- at most so many of the connection's bytes, to its client as one piece
+abbrev pub brought_down : Origin → ℕ → ℕ → Played → Played
+brought_down o conn n p = on_client conn (handed n (sent o p.events conn)) p
+
+-- as many as there are
+abbrev pub most : ℕ
+most = 4294967295
+
+-- down and run, as far as they go; and up, where the connection is live
+abbrev pub pumped : Origin → ℕ → Played → Played
+pumped o conn p =
+    let run = on_client conn (called (Advance most)) (brought_down o conn most p) in
+    if is_gone o p.events conn then run else brought_up o conn most run
+
+-- ---- what each does, and the lines
+
+-- An expected line does nothing.
 abbrev pub did : Origin → Played → Line1 → Played
 did o p Open = opened door.Main p
 did o p Side = opened door.Side p
@@ -118,16 +172,21 @@ did o p (Bytes conn piece) = with_piece o conn piece p
 did o p (Shut conn) = with_event (event.Shut conn) p
 did o p (Tick n) = with_ticks o n p
 did o p Stop = with_event event.Stop p
-did o p line = p
-
--- ---- the lines
+did o p (Join name company password own) = joined (login_of o.setup name company password own) p
+did o p (Up conn n) = brought_up o conn n p
+did o p (Down conn n) = brought_down o conn n p
+did o p (Run conn n) = on_client conn (called (Advance n)) p
+did o p (Pump conn) = pumped o conn p
+did o p (Do conn command) = on_client conn (ordered command) p
+did o p (Forge conn bytes) = on_client conn (misled bytes) p
+did o p (Expect line) = p
 
 abbrev pub one_refused : Played → Played
 one_refused p = record p { refused = p.refused + 1 }
 
 -- a line of a game that is made from this; one that is refused is counted, and changes nothing else
 abbrev pub done : Origin → Played → Line1 → Played
-done o p line = if is_refused o p.events line then one_refused p else did o p line
+done o p line = if is_refused o p line then one_refused p else did o p line
 
 abbrev pub played : Origin → List Line1 → Played
 played o lines = fold (done o) nothing lines

@@ -1,201 +1,38 @@
-//! The lines of a script, done on a hub in order.
-//!
-//! A play keeps the hub, of each connection its door and the bytes that are no whole packet yet, and how many lines were
-//! refused. Whether a line is refused is asked before it is done (`is_refused`), so the hub takes all that is put to it.
-ghost use Rattle.std.specs.Prelude.{◌≡◌, ◌+◌, ◌<◌, ◌≤◌, ℕ, [], ◌∷◌, ◌++◌, true, false, length, drop, fold, replicate};
-ghost use Rattle.std.specs.Prelude.{Ok, IfOk, OnOk, OnErr};
+//! The lines that are events of the game: openings, pieces of a stream, ends, ticks and the stop.
+ghost use Rattle.std.specs.Prelude.{◌≡◌, ◌+◌, ◌<◌, ◌≤◌, ℕ, [], ◌∷◌, ◌++◌, true, false, length, drop, replicate};
+ghost use Rattle.std.specs.Prelude.{IfOk, OnOk, OnErr};
 ghost use Rattle.tt_frame.specs.Packet.{IsBytes};
 ghost use Rattle.tt_frame.specs.Stream.{rest_of};
 ghost use Rattle.tt_frame.specs.StreamReading.{reading};
 ghost use Rattle.tt_edge.specs.Event.{opens};
 ghost use Rattle.tt_hub.specs.Hub.{origin, taken};
-ghost use Rattle.tt_lines.specs.Lines.{lines_of};
 ghost use Rattle.tt_log.specs.Events.{takes};
 ghost use Rattle.tt_log.specs.History.{table_of};
 ghost use Rattle.tt_log.specs.Origin.{Origin};
-ghost use Rattle.tt_log.specs.Saved.{IsSaved};
-ghost use Rattle.tt_log.specs.Script.{line_in};
-ghost use Rattle.tt_map.specs.Reading.{map_in};
-ghost use Rattle.tt_world.specs.Setup.{Fits};
-ghost use Rattle.tt_replay.specs.Begun.{origin_from, world_from, MayStart};
-ghost use Rattle.tt_replay.specs.Played.{Played, nothing, reader_limit, is_live, is_over, stream_events, until_ended, until_over};
-ghost use Rattle.tt_replay.specs.Played.{is_refused, opened, one_refused, with_event, with_piece, with_ticks, did, done};
-ghost use Rattle.tt_replay.specs.Playing.{IsAt, PlayedTo};
-ghost use Rattle.tt_replay.specs.Script.{needs_client, is_of_client, IsPlayedWith};
+ghost use Rattle.tt_playing.specs.Played.{Played, reader_limit, is_gone, is_live, is_over, stream_events, until_ended, until_over};
+ghost use Rattle.tt_playing.specs.Played.{opened, with_event, with_piece, with_ticks};
+ghost use Rattle.tt_playing.specs.Playing.{IsAt, Stands};
 
-use crate::script::{Start, next_number};
+use crate::play::{Connection, Play};
 use std::alloc::Global;
 use tt_edge::{Body, Core, CoreErr, Door, Event, Peer};
 use tt_frame::{Next, OutOfMemory, first_of};
 use tt_hub::Hub;
-use tt_log::{Line1, ScriptBad, ScriptReader, Step};
-use tt_map::{MapBad, decode_map};
-use tt_world::{Setup, World};
 
 /// The largest packet that is read.
 const READER_LIMIT: u16 = 32_767;
 
 /// Where every opening of a script comes from.
-const NOBODY: Peer = Peer {
+pub(crate) const NOBODY: Peer = Peer {
     host: [0; 4],
     port: 0,
 };
 
-/// A connection that the lines done so far have opened.
-#[derive(Drop)]
-pub struct Connection {
-    /// Where it came in.
-    pub door: Door,
-    /// What of its stream is no whole packet yet.
-    pub rest: Vec<u8>,
-}
-
-/// What the lines done so far came to.
-#[derive(Drop)]
-pub struct Play {
-    /// The hub, which has taken their events.
-    pub hub: Hub,
-    /// The connections, in the order of their openings: that of number 1 stands first.
-    pub connections: Vec<Connection>,
-    /// How many lines were refused.
-    pub refused: u32,
-}
-
-/// Does the lines of a script in order, on a hub that is made for it from the script's start. They are read one after the
-/// other, and none is kept.
-pub fn play_script(alloc: Global, start: &Start, bytes: &[u8]) -> Result<Play, OutOfMemory>
-    requires script { IsPlayedWith start.now.setup start.now.saved.items (lines_of bytes.now) }
-    ensures played { IfOk result (λ play. PlayedTo (lines_of bytes.now) play) }
+/// Whether the game is over, or a connection isn't live.
+pub(crate) fn is_gone(hub: &Hub, conn: u32) -> bool
+    ensures gone { result ≡ is_gone (origin hub.now) hub.now.events conn }
 {
-    let mut play = begun(alloc, start)?;
-    let mut reader = ScriptReader::new(bytes);
-    loop {
-        match reader.next(alloc) {
-            Ok(Some(step)) => {
-                if let Err(_) = do_step(alloc, &mut play, step) {
-                    return Err(OutOfMemory);
-                }
-            }
-            Ok(None) => return Ok(play),
-            Err(ScriptBad::Line(_)) => unreachable!(),
-            Err(ScriptBad::Memory) => return Err(OutOfMemory),
-        }
-    }
-}
-
-/// A play of no lines yet.
-fn begun(alloc: Global, start: &Start) -> Result<Play, OutOfMemory>
-    requires setup { Fits start.now.setup }
-    requires saved { MayStart start.now.saved.items }
-    ensures at { IfOk result (λ play. IsAt (origin_from start.now.setup start.now.saved.items) play nothing) }
-{
-    Ok(Play {
-        hub: hub_from(alloc, &start.setup, &start.saved)?,
-        connections: Vec::new(alloc),
-        refused: 0,
-    })
-}
-
-/// A hub that starts from the world that the bytes of a map tell, or, where there are none, from the setup.
-fn hub_from(alloc: Global, setup: &Setup, saved: &[u8]) -> Result<Hub, OutOfMemory>
-    requires setup { Fits setup.now }
-    requires saved { MayStart saved.now }
-    ensures start { IfOk result (λ hub. hub.start ≡ world_from setup.now saved.now) }
-    ensures setup { IfOk result (λ hub. hub.setup ≡ setup.now) }
-    ensures events { IfOk result (λ hub. hub.events ≡ []) }
-    ensures counts { IfOk result (λ hub. hub.counts ≡ []) }
-{
-    if saved.is_empty() {
-        return Hub::new(alloc, setup);
-    }
-    let world = saved_world(alloc, saved)?;
-    match Hub::from_world(alloc, setup, world) {
-        Ok(hub) => Ok(hub),
-        Err(_) => Err(OutOfMemory),
-    }
-}
-
-/// The world of a saved game.
-fn saved_world(alloc: Global, saved: &[u8]) -> Result<World, OutOfMemory>
-    requires { IsSaved saved.now }
-    ensures world { IfOk result (λ world. map_in saved.now ≡ Ok world) }
-    ensures day { IfOk result (λ world. world.day ≤ 900000000) }
-{
-    match decode_map(alloc, saved) {
-        Ok(world) => Ok(world),
-        Err(MapBad::Memory) => Err(OutOfMemory),
-        Err(MapBad::Tag(_)) => unreachable!(),
-        Err(MapBad::Version(_)) => unreachable!(),
-        Err(MapBad::Chunk { .. }) => unreachable!(),
-    }
-}
-
-/// Does one line, settings included. What a setting says and the map are in the start of the game already.
-fn do_step(alloc: Global, play: &mut Play, step: Step) -> Result<(), OutOfMemory>
-    requires built { needs_client step ≡ false }
-    requires count { length play.old.connections.items ≡ opens play.old.hub.events }
-    ensures at { (o : Origin) (p : Played) → IsAt o play.old p → OnOk result (IsAt o play.new (fold (done o) p (line_in step))) }
-{
-    match step {
-        Step::Set(_setting) => Ok(()),
-        Step::Saved(_map) => Ok(()),
-        Step::Line(line) => do_line(alloc, play, &line),
-    }
-}
-
-/// Does one line, or counts it where it is refused.
-fn do_line(alloc: Global, play: &mut Play, line: &Line1) -> Result<(), OutOfMemory>
-    requires built { is_of_client line.now ≡ false }
-    requires count { length play.old.connections.items ≡ opens play.old.hub.events }
-    ensures at { (o : Origin) (p : Played) → IsAt o play.old p → OnOk result (IsAt o play.new (done o p line.now)) }
-{
-    if is_refused(&play.hub, line) {
-        refuse(play)
-    } else {
-        do_accepted(alloc, play, line)
-    }
-}
-
-/// Whether a line is refused: what it asks for finds the game over, or it names a connection that isn't live.
-fn is_refused(hub: &Hub, line: &Line1) -> bool
-    ensures refused { result ≡ is_refused (origin hub.now) hub.now.events line.now }
-{
-    match line {
-        Line1::Open | Line1::Side | Line1::Tick(_) | Line1::Stop => hub.over(),
-        Line1::Bytes(conn, _) | Line1::Shut(conn) => hub.over() || !hub.live(*conn),
-        Line1::Join(_, _, _, _) | Line1::Up(_, _) | Line1::Down(_, _) | Line1::Run(_, _) => false,
-        Line1::Pump(_) | Line1::Do(_, _) | Line1::Forge(_, _) | Line1::Expect(_) => false,
-    }
-}
-
-/// Counts a line that is refused. More than can be told are answered by want of memory.
-fn refuse(play: &mut Play) -> Result<(), OutOfMemory>
-    ensures at { (o : Origin) (p : Played) → IsAt o play.old p → OnOk result (IsAt o play.new (one_refused p)) }
-{
-    play.refused = next_number(play.refused)?;
-    Ok(())
-}
-
-/// Does a line that isn't refused.
-fn do_accepted(alloc: Global, play: &mut Play, line: &Line1) -> Result<(), OutOfMemory>
-    requires built { is_of_client line.now ≡ false }
-    requires accepted { is_refused (origin play.old.hub) play.old.hub.events line.now ≡ false }
-    requires count { length play.old.connections.items ≡ opens play.old.hub.events }
-    ensures at { (o : Origin) (p : Played) → IsAt o play.old p → OnOk result (IsAt o play.new (did o p line.now)) }
-{
-    match line {
-        Line1::Open => open(alloc, play, Door::Main),
-        Line1::Side => open(alloc, play, Door::Side),
-        Line1::Bytes(conn, piece) => feed(alloc, play, *conn, piece.bytes()),
-        Line1::Shut(conn) => shut(play, *conn),
-        Line1::Tick(n) => run_ticks(play, *n),
-        Line1::Stop => stop(play),
-        Line1::Expect(_) => Ok(()),
-        Line1::Join(_, _, _, _) | Line1::Up(_, _) | Line1::Down(_, _) | Line1::Run(_, _) => {
-            unreachable!()
-        }
-        Line1::Pump(_) | Line1::Do(_, _) | Line1::Forge(_, _) => unreachable!(),
-    }
+    hub.over() || !hub.live(conn)
 }
 
 /// An opening, of a game that is not over.
