@@ -26,7 +26,7 @@ use Rattle.tt_log.proofs.Lists.{found-passes}
 use Rattle.tt_log.proofs.Malformed as members
 use Rattle.tt_log.proofs.AdminEnds as admins
 use Rattle.tt_hub.specs.Laws.{ended_stays, unopened, over_is_last}
-use Rattle.tt_replay.specs.Played.{is_live, is_over, as_long_as, reader_limit, packet_event, end_events, stream_events}
+use Rattle.tt_playing.specs.Played.{is_live, is_over, as_long_as, nobody, reader_limit, packet_event, end_events, stream_events}
 
 -- ---- how many openings
 
@@ -228,3 +228,7 @@ last-from (event.Stop ∷ es) at peer n c is = last-from es at peer n c (omega (
 
 pub door-new : (es : List Event) (at : Door) (peer : Peer) → door_of (es ++ event.Open at peer ∷ []) (opens es + 1) ≡ Some at
 door-new es at peer = last-from es at peer 0 (opens es + 1) (omega arith)
+
+-- one opening more
+pub opened_one : (es : List Event) (at : Door) → opens (es ++ event.Open at nobody ∷ []) ≡ opens es + 1
+opened_one es at = opens-push es (event.Open at nobody)

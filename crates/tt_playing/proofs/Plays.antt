@@ -1,6 +1,6 @@
--- Lines, done one after another.
-use Rattle.std.proofs.Common.{◌≡◌, ◌≢◌, ℕ, zero, suc, ◌+◌, ◌≤◌, ◌<◌, Bool, true, false, not, cond, List, [], ◌∷◌, ◌++◌, length, drop}
-use Rattle.std.proofs.Common.{replicate, refl, sym, ap, ap₂, subst, ◌∙◌, arith, Some}
+-- A play behind events more.
+use Rattle.std.proofs.Common.{◌≡◌, ◌≢◌, ℕ, zero, suc, ◌+◌, ◌≤◌, ◌<◌, Bool, true, false, not, cond, List, [], ◌∷◌, ◌++◌, length, take, drop}
+use Rattle.std.proofs.Common.{replicate, refl, sym, ap, ap₂, subst, ◌∙◌, arith, Option, Some}
 use Rattle.std.specs.Prelude.{◌==◌, slice_index_or, slice_set, if◌then◌else◌}
 use Rattle.std.proofs.lemmas.List.{append-nil, drop-drop, length-drop, length-append, get_or-drop, get_or_append_left, get_or_push}
 use Rattle.std.proofs.lemmas.List.{get_or-set_same, get_or-set_other, length-set}
@@ -15,18 +15,22 @@ use Rattle.tt_edge.specs.declared.event.Door.{Door}
 use Rattle.tt_edge.specs.declared.event.Event.{Event}
 use Rattle.tt_edge.specs.declared.event.Event.TheVariants as event
 use Rattle.tt_edge.specs.Event.{is_open, opens}
+use Rattle.tt_client.specs.Held.{Held}
 use Rattle.tt_hub.specs.Hub.{HubState, origin, taken}
 use Rattle.tt_log.specs.Doors.{door_of}
 use Rattle.tt_log.specs.Origin.{Origin}
-use Rattle.tt_log.specs.declared.script.line.Line1.{Line1}
-use Rattle.tt_replay.specs.declared.play.Play.{Play}
-use Rattle.tt_replay.specs.declared.play.Connection.{Connection}
-use Rattle.tt_replay.specs.Played.{Played, reader_limit, is_live, is_over, is_refused, stream_events, added, until_ended}
-use Rattle.tt_replay.specs.Played.{until_over, nobody, opened, one_refused, fed_more, with_event, with_piece, with_ticks, did, done}
-use Rattle.tt_replay.specs.Playing.{AreDoors, IsKept, IsAt}
-use Rattle.tt_replay.proofs.Events.{opens-push, goes-on, goes-no-further, in-front, live-before, live-opened, door-stays}
-use Rattle.tt_replay.proofs.Events.{another, door-new, opens-stay, opens-ticks, opens-stream}
-use Rattle.tt_replay.proofs.Streams.{events_packet, events_partial, events_bad_size, read_joined, added_is}
+use Rattle.tt_log.specs.Told.{sent}
+use Rattle.tt_log.proofs.Going.{sent-grows}
+use Rattle.tt_playing.specs.declared.play.Play.{Play}
+use Rattle.tt_playing.specs.declared.play.Connection.{Connection}
+use Rattle.tt_playing.specs.Attached.{Attached, client_in, client_of, given_in}
+use Rattle.tt_playing.specs.Played.{Played, reader_limit, is_live, is_over, stream_events, added, until_ended}
+use Rattle.tt_playing.specs.Played.{until_over, nobody, opened, one_refused, fed_more, with_event, with_piece, with_ticks}
+use Rattle.tt_playing.specs.Playing.{IsKept, IsAt}
+use Rattle.tt_playing.proofs.Pieces.{take-front}
+use Rattle.tt_playing.proofs.Histories.{opens-push, goes-on, goes-no-further, in-front, live-before, live-opened, door-stays}
+use Rattle.tt_playing.proofs.Histories.{another, door-new, opens-stay, opens-ticks, opens-stream}
+use Rattle.tt_playing.proofs.Streams.{events_packet, events_partial, events_bad_size, read_joined, added_is}
 
 -- ---- the packets of some bytes, one after another
 
@@ -100,16 +104,37 @@ bytes_append (x ∷ xs) ys fits also (suc i) = bytes_append xs ys (λ k. fits (s
 
 -- ---- what is kept of a connection
 
--- more events leave it, where nothing was fed to it
-kept_more : (o : Origin) (p q : Played) (more : List Event) (conn : ℕ) (c : Connection) → q.events ≡ p.events ++ more
-    → q.fed conn ≡ p.fed conn → 1 ≤ conn → conn ≤ opens p.events → IsKept o p conn c → IsKept o q conn c
-kept_more o p q more conn c events fed some within kept = record {
-  door = ap (λ (es : List Event). door_of es conn) events ∙ door-stays p.events more conn some within ∙ kept.door;
-  bytes = subst (λ (xs : List ℕ). IsBytes xs) (sym fed) kept.bytes;
-  held = kept.held;
-  rest = λ live. ap (λ (xs : List ℕ). (reading reader_limit xs).1) fed ∙ kept.rest (live-before o p.events more conn within
-      (subst (λ (es : List Event). is_live o es conn ≡ true) events live));
-}
+pub record Stays (o : Origin) (es fs : List Event) (conn n : ℕ) : Type 0 where
+  pub within : n ≤ length (sent o fs conn)
+  pub told : take n (sent o fs conn) ≡ take n (sent o es conn)
+
+-- what was sent stays
+pub sent_stays : (o : Origin) (es fs more : List Event) (conn n : ℕ) → fs ≡ es ++ more → n ≤ length (sent o es conn) → Stays o es fs conn n
+sent_stays o es fs more conn n is within =
+    let grows = sent-grows o es more conn in
+    let now : sent o fs conn ≡ sent o es conn ++ grows.0 = ap (λ (xs : List Event). sent o xs conn) is ∙ grows.1 in
+    record {
+      within = omega (arith, ap length now, length-append (sent o es conn) grows.0, within);
+      told = ap (take n) now ∙ take-front n (sent o es conn) grows.0 within;
+    }
+
+-- more events leave it, where nothing was fed to it, and its client is the same
+kept_more : (o : Origin) (keeps : Bool) (p q : Played) (more : List Event) (conn : ℕ) (c : Connection) → q.events ≡ p.events ++ more
+    → q.fed conn ≡ p.fed conn → q.clients conn ≡ p.clients conn → 1 ≤ conn → conn ≤ opens p.events → IsKept o keeps p conn c
+    → IsKept o keeps q conn c
+kept_more o keeps p q more conn c events fed clients some within kept =
+    let given : given_in (q.clients conn) ≡ given_in (p.clients conn) = ap given_in clients in
+    let stays = sent_stays o p.events q.events more conn (given_in (p.clients conn)) events kept.within in
+    record {
+      door = ap (λ (es : List Event). door_of es conn) events ∙ door-stays p.events more conn some within ∙ kept.door;
+      bytes = subst (λ (xs : List ℕ). IsBytes xs) (sym fed) kept.bytes;
+      held = kept.held;
+      rest = λ live. ap (λ (xs : List ℕ). (reading reader_limit xs).1) fed ∙ kept.rest (live-before o p.events more conn within
+          (subst (λ (es : List Event). is_live o es conn ≡ true) events live));
+      client = kept.client ∙ ap client_in (sym clients);
+      within = omega (arith, given, stays.within);
+      told = λ is. kept.told is ∙ sym stays.told ∙ ap (λ (n : ℕ). take n (sent o q.events conn)) (sym given);
+    }
 
 read_nothing : (reading reader_limit []).1 ≡ rest_of []
 unfolding reading_within
@@ -119,14 +144,20 @@ no_bytes : IsBytes []
 no_bytes i = omega arith
 
 -- one that was opened just now
-kept_new : (o : Origin) (p : Played) (at : Door) (conn : ℕ) (c : Connection) → conn ≡ opens p.events + 1 → p.fed conn ≡ [] → c.door ≡ at
-    → c.rest.items ≡ [] → IsKept o (opened at p) conn c
-kept_new o p at conn c number unfed door none = record {
-  door = ap (λ (n : ℕ). door_of (p.events ++ event.Open at nobody ∷ []) n) number ∙ door-new p.events at nobody ∙ ap Some (sym door);
-  bytes = subst (λ (xs : List ℕ). IsBytes xs) (sym unfed) no_bytes;
-  held = subst (λ (xs : List ℕ). IsBytes xs) (sym none) no_bytes;
-  rest = λ live. ap (λ (xs : List ℕ). (reading reader_limit xs).1) unfed ∙ read_nothing ∙ ap rest_of (sym none);
-}
+kept_new : (o : Origin) (keeps : Bool) (p : Played) (at : Door) (conn : ℕ) (c : Connection) (clients : ℕ → Option Attached)
+    → conn ≡ opens p.events + 1 → p.fed conn ≡ [] → c.door ≡ at → c.rest.items ≡ [] → c.client ≡ client_in (clients conn)
+    → given_in (clients conn) ≡ 0 → c.told.items ≡ [] → IsKept o keeps (record (opened at p) { clients = clients }) conn c
+kept_new o keeps p at conn c clients number unfed door none client nothing_given untold =
+    let es = p.events ++ event.Open at nobody ∷ [] in
+    record {
+      door = ap (λ (n : ℕ). door_of es n) number ∙ door-new p.events at nobody ∙ ap Some (sym door);
+      bytes = subst (λ (xs : List ℕ). IsBytes xs) (sym unfed) no_bytes;
+      held = subst (λ (xs : List ℕ). IsBytes xs) (sym none) no_bytes;
+      rest = λ live. ap (λ (xs : List ℕ). (reading reader_limit xs).1) unfed ∙ read_nothing ∙ ap rest_of (sym none);
+      client = client;
+      within = omega (arith, nothing_given);
+      told = λ is. untold ∙ sym (ap (λ (n : ℕ). take n (sent o es conn)) nothing_given);
+    }
 
 fed_here : (conn : ℕ) (piece : List ℕ) (fed : ℕ → List ℕ) → fed_more conn piece fed conn ≡ fed conn ++ piece
 fed_here conn piece fed =
@@ -136,12 +167,13 @@ fed_elsewhere : (conn other : ℕ) (piece : List ℕ) (fed : ℕ → List ℕ) �
 fed_elsewhere conn other piece fed apart = ap (λ (b : Bool). if b then fed other ++ piece else fed other) (ne_eqb other conn apart)
 
 -- one that a piece was fed to
-kept_piece : (o : Origin) (p : Played) (conn : ℕ) (piece : List ℕ) (old new : Connection) → is_live o p.events conn ≡ true → IsBytes piece
-    → IsKept o p conn old → new.door ≡ old.door → IsBytes new.rest.items
+kept_piece : (o : Origin) (keeps : Bool) (p : Played) (conn : ℕ) (piece : List ℕ) (old new : Connection) → is_live o p.events conn ≡ true
+    → IsBytes piece → IsKept o keeps p conn old → new.door ≡ old.door → new.client ≡ old.client → new.told.items ≡ old.told.items
+    → IsBytes new.rest.items
     → (is_live o (with_piece o conn piece p).events conn ≡ true
     → (reading reader_limit (old.rest.items ++ piece)).1 ≡ rest_of new.rest.items)
-    → IsKept o (with_piece o conn piece p) conn new
-kept_piece o p conn piece old new live is kept door held rest =
+    → IsKept o keeps (with_piece o conn piece p) conn new
+kept_piece o keeps p conn piece old new live is kept door client told held rest =
     let q = with_piece o conn piece p in
     let more = in-front (λ es. is_live o es conn) p.events (added conn (p.fed conn) piece) in
     let there = live-opened o p.events conn live in
@@ -149,12 +181,16 @@ kept_piece o p conn piece old new live is kept door held rest =
     let all = bytes_append (p.fed conn) piece kept.bytes is in
     let joined = read_joined (p.fed conn) old.rest.items piece kept.bytes all (bytes_append old.rest.items piece kept.held is)
     (kept.rest live) in
+    let stays = sent_stays o p.events q.events more.0 conn (given_in (p.clients conn)) more.1 kept.within in
     record {
       door = ap (λ (es : List Event). door_of es conn) more.1 ∙ door-stays p.events more.0 conn there.some there.within ∙ kept.door
           ∙ ap Some (sym door);
       bytes = subst (λ (xs : List ℕ). IsBytes xs) (sym here) all;
       held = held;
       rest = λ still. ap (λ (xs : List ℕ). (reading reader_limit xs).1) here ∙ joined.1 ∙ rest still;
+      client = client ∙ kept.client;
+      within = stays.within;
+      told = λ k. told ∙ kept.told k ∙ sym stays.told;
     }
 
 -- ---- one line more
@@ -165,13 +201,16 @@ at_more : (o : Origin) (play : Play) (hub : HubState) (p : Played) (events more 
     → ((conn : ℕ) → taken hub conn ≡ taken play.hub conn) → IsAt o (record play { hub = hub }) (record p { events = events })
 at_more o play hub p events more at same now is opened untaken = record {
   made = same ∙ at.made;
+  revision = at.revision;
   events = now;
-  untaken = λ conn. untaken conn ∙ at.untaken conn;
+  given = λ conn. untaken conn ∙ at.given conn;
   refused = at.refused;
   count = at.count ∙ sym opened;
-  each = λ place other within. kept_more o p (record p { events = events }) more (place + 1) _ is refl (omega arith)
+  each = λ place other within. kept_more o play.keeps p (record p { events = events }) more (place + 1) _ is refl refl (omega arith)
       (omega (arith, within, at.count)) (at.each place other within);
   unfed = λ conn above. at.unfed conn (omega (arith, above, opened));
+  bare = λ conn above. at.bare conn (omega (arith, above, opened));
+  none = at.none;
 }
 
 -- one event that opens none
@@ -196,40 +235,60 @@ pub at_refused : (o : Origin) (play : Play) (p : Played) (refused : ℕ) → IsA
     → IsAt o (record play { refused = refused }) (one_refused p)
 at_refused o play p refused at is = record {
   made = at.made;
+  revision = at.revision;
   events = at.events;
-  untaken = at.untaken;
+  given = at.given;
   refused = is ∙ ap (λ (n : ℕ). n + 1) at.refused;
   count = at.count;
-  each = λ place other within. kept_more o p (one_refused p) [] (place + 1) _ (sym (append-nil p.events)) refl (omega arith)
+  each = λ place other within. kept_more o play.keeps p (one_refused p) [] (place + 1) _ (sym (append-nil p.events)) refl refl (omega arith)
       (omega (arith, within, at.count)) (at.each place other within);
   unfed = at.unfed;
+  bare = at.bare;
+  none = at.none;
 }
 
--- an opening
-pub at_opening : (o : Origin) (play next : Play) (p : Played) (door : Door) (c : Connection) → IsAt o play p
+-- an opening, with a client or without one
+pub at_opening : (o : Origin) (play next : Play) (p : Played) (door : Door) (c : Connection) (clients : ℕ → Option Attached) → IsAt o play p
     → origin next.hub ≡ origin play.hub → next.hub.events ≡ play.hub.events ++ event.Open door nobody ∷ []
-    → ((conn : ℕ) → taken next.hub conn ≡ taken play.hub conn) → next.refused ≡ play.refused
-    → next.connections.items ≡ play.connections.items ++ c ∷ [] → c.door ≡ door → c.rest.items ≡ [] → IsAt o next (opened door p)
-at_opening o play next p door c at same now untaken refused pushed at_door none =
+    → ((conn : ℕ) → taken next.hub conn ≡ taken play.hub conn) → next.refused ≡ play.refused → next.revision ≡ play.revision
+    → next.keeps ≡ play.keeps
+    → next.connections.items ≡ play.connections.items ++ c ∷ [] → c.door ≡ door → c.rest.items ≡ [] → c.told.items ≡ []
+    → ((conn : ℕ) → conn ≢ opens p.events + 1 → clients conn ≡ p.clients conn)
+    → c.client ≡ client_in (clients (opens p.events + 1)) → given_in (clients (opens p.events + 1)) ≡ 0
+    → IsAt o next (record (opened door p) { clients = clients })
+at_opening o play next p door c clients at same now untaken refused revision keeps pushed at_door none untold others client fresh_one =
     let e = event.Open door nobody in
+    let q : Played = record (opened door p) { clients = clients } in
     let n = length play.connections.items in
     let push = opens-push p.events e in
     let long : length next.connections.items ≡ n + 1 = ap length pushed ∙ length-append play.connections.items (c ∷ []) in
     let number : n ≡ opens p.events = at.count in
-    let Kept : ℕ → Connection → Type 0 = λ place k. IsKept o (opened door p) (place + 1) k in
+    let Kept : ℕ → Connection → Type 0 = λ place k. IsKept o next.keeps q (place + 1) k in
     let new : (place : ℕ) (other : Connection) → place ≡ n → Kept place (slice_index_or next.connections.items place other) =
-    λ place other is. subst (λ (k : Connection). Kept place k)
+    λ place other is.
+    let here : place + 1 ≡ opens p.events + 1 = omega (arith, is, number) in
+    subst (λ (k : Connection). Kept place k)
     (sym (ap (λ (cs : List Connection). slice_index_or cs place other) pushed ∙ get_or_push play.connections.items c other place (sym is)))
-    (kept_new o p door (place + 1) c (omega (arith, is, number)) (at.unfed (place + 1) (omega (arith, is, number))) at_door none) in
+    (kept_new o next.keeps p door (place + 1) c clients here (at.unfed (place + 1) (omega (arith, is, number))) at_door none
+    (client ∙ ap (λ (m : ℕ). client_in (clients m)) (sym here)) (ap (λ (m : ℕ). given_in (clients m)) here ∙ fresh_one) untold) in
     let old : (place : ℕ) (other : Connection) → place < n → Kept place (slice_index_or next.connections.items place other) =
     λ place other low. subst (λ (k : Connection). Kept place k)
     (sym (ap (λ (cs : List Connection). slice_index_or cs place other) pushed
     ∙ get_or_append_left play.connections.items (c ∷ []) other place low))
-    (kept_more o p (opened door p) (e ∷ []) (place + 1) _ refl refl (omega arith) (omega (arith, low, number)) (at.each place other low)) in
+    (subst (λ (b : Bool). IsKept o b q (place + 1) (slice_index_or play.connections.items place other)) (sym keeps)
+    (kept_more o play.keeps p q (e ∷ []) (place + 1) _ refl refl (others (place + 1) (λ is. omega (arith, is, low, number))) (omega arith)
+    (omega (arith, low, number)) (at.each place other low))) in
     record {
       made = same ∙ at.made;
+      revision = revision ∙ at.revision;
       events = now ∙ ap (λ (es : List Event). es ++ e ∷ []) at.events;
-      untaken = λ conn. untaken conn ∙ at.untaken conn;
+      given = λ conn. elim (conn == opens p.events + 1) as (λ (b : Bool). (conn == opens p.events + 1) ≡ b
+          → taken next.hub conn ≡ given_in (clients conn)) [
+            | true ↦ (λ is. let here = eqb-true conn (opens p.events + 1) is in
+                untaken conn ∙ at.given conn ∙ ap given_in (at.bare conn (omega (arith, here)))
+                ∙ sym (ap (λ (m : ℕ). given_in (clients m)) here ∙ fresh_one))
+            | false ↦ (λ is. untaken conn ∙ at.given conn ∙ ap given_in (sym (others conn (another conn (opens p.events + 1) is))))
+          ] refl;
       refused = refused ∙ at.refused;
       count = omega (arith, long, number, push);
       each = λ place other within. elim (place == n) as (λ (b : Bool). (place == n) ≡ b
@@ -238,6 +297,8 @@ at_opening o play next p door c at same now untaken refused pushed at_door none 
             | false ↦ (λ is. old place other (omega (arith, within, long, another place n is)))
           ] refl;
       unfed = λ conn above. at.unfed conn (omega (arith, above, push));
+      bare = λ conn above. others conn (λ is. omega (arith, is, above, push)) ∙ at.bare conn (omega (arith, above, push));
+      none = others 0 (λ is. omega (arith, is)) ∙ at.none;
     }
 
 -- a piece of a connection that is live
@@ -245,22 +306,26 @@ pub at_piece : (o : Origin) (play next : Play) (p : Played) (conn place : ℕ) (
     → IsBytes piece → is_live (origin play.hub) play.hub.events conn ≡ true → place + 1 ≡ conn
     → origin next.hub ≡ origin play.hub
     → next.hub.events ≡ until_ended (origin play.hub) conn play.hub.events (stream_events conn (old.rest.items ++ piece))
-    → ((c : ℕ) → taken next.hub c ≡ taken play.hub c) → next.refused ≡ play.refused
+    → ((c : ℕ) → taken next.hub c ≡ taken play.hub c) → next.refused ≡ play.refused → next.revision ≡ play.revision
+    → next.keeps ≡ play.keeps
     → old ≡ slice_index_or play.connections.items place old
-    → next.connections.items ≡ slice_set play.connections.items place new → new.door ≡ old.door
+    → next.connections.items ≡ slice_set play.connections.items place new → new.door ≡ old.door → new.client ≡ old.client
+    → new.told.items ≡ old.told.items
     → (IsBytes old.rest.items → IsBytes new.rest.items)
     → (is_live (origin play.hub) next.hub.events conn ≡ true
     → (reading reader_limit (old.rest.items ++ piece)).1 ≡ rest_of new.rest.items)
     → IsAt o next (with_piece o conn piece p)
-at_piece o play next p conn place piece old new at is live number same now untaken refused read written door held rest =
+at_piece o play next p conn place piece old new at is live number same now untaken refused revision keeps read written door client told held
+    rest =
     let q = with_piece o conn piece p in
     let cs = play.connections.items in
     let live_then : is_live o p.events conn ≡ true = ap₂ (λ (g : Origin) (es : List Event). is_live g es conn) (sym at.made) (sym at.events)
     ∙ live in
     let there = live-opened o p.events conn live_then in
     let low : place < length cs = omega (arith, there.within, number, at.count) in
-    let found : IsKept o p (place + 1) old = subst (λ (k : Connection). IsKept o p (place + 1) k) (sym read) (at.each place old low) in
-    let kept : IsKept o p conn old = subst (λ (n : ℕ). IsKept o p n old) number found in
+    let found : IsKept o play.keeps p (place + 1) old = subst (λ (k : Connection). IsKept o play.keeps p (place + 1) k) (sym read)
+    (at.each place old low) in
+    let kept : IsKept o play.keeps p conn old = subst (λ (n : ℕ). IsKept o play.keeps p n old) number found in
     let all = bytes_append (p.fed conn) piece kept.bytes is in
     let adds = added_is conn (p.fed conn) old.rest.items piece kept.bytes all (bytes_append old.rest.items piece kept.held is)
     (kept.rest live_then) in
@@ -274,41 +339,31 @@ at_piece o play next p conn place piece old new at is live number same now untak
     let rest_then : is_live o q.events conn ≡ true → (reading reader_limit (old.rest.items ++ piece)).1 ≡ rest_of new.rest.items =
     λ still. rest (ap₂ (λ (g : Origin) (es : List Event). is_live g es conn) at.made events ∙ still) in
     let long : length next.connections.items ≡ length cs = ap length written ∙ length-set cs place new in
-    let Kept : ℕ → Connection → Type 0 = λ n k. IsKept o q (n + 1) k in
+    let Kept : ℕ → Connection → Type 0 = λ n k. IsKept o play.keeps q (n + 1) k in
     let here : (n : ℕ) (other : Connection) → n ≡ place → Kept n (slice_index_or next.connections.items n other) =
     λ n other one. subst (λ (k : Connection). Kept n k)
     (sym (ap₂ (λ (ks : List Connection) (i : ℕ). slice_index_or ks i other) written one ∙ get_or-set_same cs place new other low))
-    (subst (λ (i : ℕ). IsKept o q i new) (sym number ∙ ap (λ (i : ℕ). i + 1) (sym one))
-    (kept_piece o p conn piece old new live_then is kept door (held kept.held) rest_then)) in
+    (subst (λ (i : ℕ). IsKept o play.keeps q i new) (sym number ∙ ap (λ (i : ℕ). i + 1) (sym one))
+    (kept_piece o play.keeps p conn piece old new live_then is kept door client told (held kept.held) rest_then)) in
     let elsewhere : (n : ℕ) (other : Connection) → n < length cs → n ≢ place → Kept n (slice_index_or next.connections.items n other) =
     λ n other within apart. subst (λ (k : Connection). Kept n k)
     (sym (ap (λ (ks : List Connection). slice_index_or ks n other) written ∙ get_or-set_other cs place n new other apart))
-    (kept_more o p q more.0 (n + 1) _ more.1 (fed_elsewhere conn (n + 1) piece p.fed (λ e. apart (omega (arith, e, number)))) (omega arith)
-    (omega (arith, within, at.count)) (at.each n other within)) in
+    (kept_more o play.keeps p q more.0 (n + 1) _ more.1 (fed_elsewhere conn (n + 1) piece p.fed (λ e. apart (omega (arith, e, number)))) refl
+    (omega arith) (omega (arith, within, at.count)) (at.each n other within)) in
     record {
       made = same ∙ at.made;
+      revision = revision ∙ at.revision;
       events = events;
-      untaken = λ c. untaken c ∙ at.untaken c;
+      given = λ c. untaken c ∙ at.given c;
       refused = refused ∙ at.refused;
       count = omega (arith, long, at.count, count);
-      each = λ n other within. elim (n == place) as (λ (b : Bool). (n == place) ≡ b
-          → Kept n (slice_index_or next.connections.items n other)) [
+      each = λ n other within. subst (λ (b : Bool). IsKept o b q (n + 1) (slice_index_or next.connections.items n other)) (sym keeps)
+          (elim (n == place) as (λ (b : Bool). (n == place) ≡ b → Kept n (slice_index_or next.connections.items n other)) [
             | true ↦ (λ one. here n other (eqb-true n place one))
             | false ↦ (λ apart. elsewhere n other (omega (arith, within, long)) (another n place apart))
-          ] refl;
+          ] refl);
       unfed = λ c above. fed_elsewhere conn c piece p.fed (λ e. omega (arith, e, above, count, there.within))
           ∙ at.unfed c (omega (arith, above, count));
+      bare = λ c above. at.bare c (omega (arith, above, count));
+      none = at.none;
     }
-
--- ---- a line that is refused, or not
-
-pub refused_so : (o : Origin) (play : Play) (p : Played) (line : Line1) (b : Bool) → IsAt o play p
-    → is_refused (origin play.hub) play.hub.events line ≡ b → done o p line ≡ (if b then one_refused p else did o p line)
-refused_so o play p line b at is =
-    ap (λ (c : Bool). if c then one_refused p else did o p line)
-    (ap₂ (λ (g : Origin) (es : List Event). is_refused g es line) (sym at.made) (sym at.events) ∙ is)
-
--- the doors of what is kept
-pub doors_kept : (o : Origin) (play : Play) (p : Played) → IsAt o play p → AreDoors play.hub.events play.connections.items
-doors_kept o play p at place other within =
-    ap (λ (es : List Event). door_of es (place + 1)) at.events ∙ (at.each place other within).door

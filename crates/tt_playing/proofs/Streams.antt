@@ -11,7 +11,7 @@ use Rattle.tt_frame.proofs.StreamLaws.{reading_reads, reads_more}
 use Rattle.tt_frame.proofs.FirstLaws.{read_so, read_packet, read_partial, read_bad_size}
 use Rattle.tt_edge.specs.declared.event.Event.{Event}
 use Rattle.tt_edge.specs.declared.event.Event.TheVariants as event
-use Rattle.tt_replay.specs.Played.{reader_limit, packet_event, end_events, stream_events, added}
+use Rattle.tt_playing.specs.Played.{reader_limit, packet_event, end_events, stream_events, added}
 
 -- ---- what stands first
 

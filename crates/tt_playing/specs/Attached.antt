@@ -1,9 +1,9 @@
 -- Clients that a script attaches to its connections.
 use Rattle.std.specs.Prelude.{ℕ, ◌+◌, Bool, true, false, ◌==◌, List, [], ◌∷◌, ◌++◌, take, drop, length, Option, Some, None}
 use Rattle.std.specs.Prelude.{if◌then◌else◌}
-use Rattle.tt_client.specs.Calls.{Call, Feed, Advance, Submit, Take}
-use Rattle.tt_client.specs.Held.{Held, held}
-use Rattle.tt_client.specs.Saying.{bytes_of}
+use Rattle.tt_client.specs.Calls.{Call, Feed, Submit}
+use Rattle.tt_client.specs.Held.{Held, held, with_call}
+use Rattle.tt_client.specs.Saying.{IsSaying, bytes_of}
 use Rattle.tt_client.specs.State.{state_of, is_running}
 use Rattle.tt_client.specs.declared.login.Login.{Login}
 use Rattle.tt_world.specs.declared.command.Command.{Command}
@@ -61,11 +61,6 @@ ordered command a = called (Submit (client_of a).player.company command) a
 
 -- ---- a connection, where one may be attached
 
--- at most so many of the bytes that it has to say; none without a client
-abbrev pub said_by : ℕ → Option Attached → List ℕ
-said_by n None = []
-said_by n (Some a) = take n (bytes_of (client_of a).player.saying)
-
 abbrev pub given_in : Option Attached → ℕ
 given_in None = 0
 given_in (Some a) = a.given
@@ -74,15 +69,6 @@ abbrev pub client_in : Option Attached → Option Held
 client_in None = None
 client_in (Some a) = Some (client_of a)
 
-abbrev pub is_attached : Option Attached → Bool
-is_attached None = false
-is_attached (Some a) = true
-
--- there is one, and it runs
-abbrev pub runs_in : Option Attached → Bool
-runs_in None = false
-runs_in (Some a) = is_running (state_of (client_of a).player)
-
 abbrev pub changed : (Attached → Attached) → Option Attached → Option Attached
 changed change None = None
 changed change (Some a) = Some (change a)
@@ -90,3 +76,29 @@ changed change (Some a) = Some (change a)
 -- another one on a connection
 abbrev pub with_client : ℕ → Option Attached → (ℕ → Option Attached) → ℕ → Option Attached
 with_client conn client clients other = if other == conn then client else clients other
+
+-- ---- a client, where there may be one
+
+-- behind a call
+abbrev pub after_call : Call → Option Held → Option Held
+after_call c None = None
+after_call c (Some h) = Some (with_call h c)
+
+-- and behind a command for its own company
+abbrev pub after_order : Command → Option Held → Option Held
+after_order command None = None
+after_order command (Some h) = Some (with_call h (Submit h.player.company command))
+
+abbrev pub runs_with : Option Held → Bool
+runs_with None = false
+runs_with (Some h) = is_running (state_of h.player)
+
+-- at most so many of the bytes that it has to say
+abbrev pub waiting_in : ℕ → Option Held → List ℕ
+waiting_in n None = []
+waiting_in n (Some h) = take n (bytes_of h.player.saying)
+
+-- what waits there is laid out as what any client has to say is
+abbrev pub AreSayings : Option Held → Type 0
+AreSayings None = Unit {0}
+AreSayings (Some h) = IsSaying h.player.saying

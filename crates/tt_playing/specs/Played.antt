@@ -1,7 +1,8 @@
 -- What a script means: its lines, done in order.
 use Rattle.std.specs.Prelude.{ℕ, ◌+◌, Bool, false, not, ◌||◌, ◌==◌, List, [], ◌∷◌, ◌++◌, length, map, drop, replicate, fold}
-use Rattle.std.specs.Prelude.{if◌then◌else◌, Option, Some, None}
+use Rattle.std.specs.Prelude.{if◌then◌else◌, Option, Some, None, is_some}
 use Rattle.tt_client.specs.Calls.{Advance, Take}
+use Rattle.tt_client.specs.Held.{Held}
 use Rattle.tt_client.specs.declared.login.Login.{Login}
 use Rattle.tt_frame.specs.Packet.{Packet}
 use Rattle.tt_frame.specs.Stream.{End, rest_of, bad_size}
@@ -19,8 +20,8 @@ use Rattle.tt_log.specs.Told.{sent}
 use Rattle.tt_log.specs.declared.script.line.Line1.{Line1}
 use Rattle.tt_log.specs.declared.script.line.Line1.TheVariants.{Open, Side, Bytes, Shut, Tick, Stop, Join, Up, Down, Run, Pump, Do, Forge}
 use Rattle.tt_log.specs.declared.script.line.Line1.TheVariants.{Expect}
-use Rattle.tt_playing.specs.Attached.{Attached, called, changed, fresh, handed, is_attached, login_of, misled, ordered, runs_in, said_by}
-use Rattle.tt_playing.specs.Attached.{with_client}
+use Rattle.tt_playing.specs.Attached.{Attached, called, changed, client_in, fresh, handed, login_of, misled, ordered, runs_with}
+use Rattle.tt_playing.specs.Attached.{waiting_in, with_client}
 
 -- the events so far, all bytes that were fed to each connection, the client that is attached to it, if one is, and how many lines
 -- were refused
@@ -84,28 +85,27 @@ added conn fed piece = drop (length (stream_events conn fed)) (stream_events con
 abbrev pub is_gone : Origin → List Event → ℕ → Bool
 is_gone o events conn = is_over o events || not (is_live o events conn)
 
--- no client is attached to a connection
-abbrev pub is_bare : Played → ℕ → Bool
-is_bare p conn = not (is_attached (p.clients conn))
+-- A line is refused where its opening, its event or its piece finds the game over; where it feeds or closes a connection that is not
+-- live; where it asks for a client, and none is attached; and where it has a command, and the client does not run. No other line is
+-- refused. That is said by whether the game is over, by which connections are gone, and by the client that each has.
+abbrev pub refuses : Bool → (ℕ → Bool) → (ℕ → Option Held) → Line1 → Bool
+refuses over gone client Open = over
+refuses over gone client Side = over
+refuses over gone client (Bytes conn piece) = gone conn
+refuses over gone client (Shut conn) = gone conn
+refuses over gone client (Tick n) = over
+refuses over gone client Stop = over
+refuses over gone client (Join name company password own) = over
+refuses over gone client (Up conn n) = gone conn || not (is_some (client conn))
+refuses over gone client (Down conn n) = not (is_some (client conn))
+refuses over gone client (Run conn n) = not (is_some (client conn))
+refuses over gone client (Pump conn) = not (is_some (client conn))
+refuses over gone client (Do conn command) = not (runs_with (client conn))
+refuses over gone client (Forge conn bytes) = not (is_some (client conn))
+refuses over gone client (Expect line) = false
 
--- A line is refused where its opening, its event or its piece finds the game over; where what it is fed, or who is closed, is a
--- connection that is not live; where it asks for a client, and none is attached; and where it has a command, and the client
--- does not run. No other line is refused.
 abbrev pub is_refused : Origin → Played → Line1 → Bool
-is_refused o p Open = is_over o p.events
-is_refused o p Side = is_over o p.events
-is_refused o p (Bytes conn piece) = is_gone o p.events conn
-is_refused o p (Shut conn) = is_gone o p.events conn
-is_refused o p (Tick n) = is_over o p.events
-is_refused o p Stop = is_over o p.events
-is_refused o p (Join name company password own) = is_over o p.events
-is_refused o p (Up conn n) = is_gone o p.events conn || is_bare p conn
-is_refused o p (Down conn n) = is_bare p conn
-is_refused o p (Run conn n) = is_bare p conn
-is_refused o p (Pump conn) = is_bare p conn
-is_refused o p (Do conn command) = not (runs_in (p.clients conn))
-is_refused o p (Forge conn bytes) = is_bare p conn
-is_refused o p (Expect line) = false
+is_refused o p line = refuses (is_over o p.events) (is_gone o p.events) (λ conn. client_in (p.clients conn)) line
 
 -- ---- what the other lines do: events
 
@@ -145,7 +145,7 @@ joined login p = let q = opened door.Main p in record q { clients = with_client 
 -- at most so many of the client's bytes, to its connection as one piece
 abbrev pub brought_up : Origin → ℕ → ℕ → Played → Played
 brought_up o conn n p =
-    let piece = said_by n (p.clients conn) in
+    let piece = waiting_in n (client_in (p.clients conn)) in
     with_piece o conn piece (on_client conn (called (Take (length piece))) p)
 
 -- at most so many of the connection's bytes, to its client as one piece

@@ -1,21 +1,23 @@
 -- What a play is behind some lines.
-use Rattle.std.specs.Prelude.{◌≡◌, ◌+◌, ◌<◌, ◌≤◌, ℕ, Bool, true, Some, None, List, [], length, take, slice_index_or}
+use Rattle.std.specs.Prelude.{◌≡◌, ◌+◌, ◌<◌, ◌≤◌, ℕ, zero, suc, Bool, true, Option, Some, None, List, [], length, take, slice_get}
+use Rattle.std.specs.Prelude.{slice_index_or}
 use Rattle.tt_frame.specs.Packet.{IsBytes}
 use Rattle.tt_frame.specs.Stream.{rest_of}
 use Rattle.tt_frame.specs.StreamReading.{reading}
-use Rattle.tt_edge.specs.declared.event.Event.{Event}
 use Rattle.tt_edge.specs.Event.{opens}
+use Rattle.tt_client.specs.Held.{Held}
 use Rattle.tt_hub.specs.Hub.{origin, taken}
 use Rattle.tt_log.specs.Contents.{Contents}
 use Rattle.tt_log.specs.Doors.{door_of}
 use Rattle.tt_log.specs.Origin.{Origin}
 use Rattle.tt_log.specs.Script.{Spells}
 use Rattle.tt_log.specs.Told.{sent}
+use Rattle.tt_log.specs.declared.script.line.Line1.{Line1}
 use Rattle.tt_playing.specs.declared.play.Play.{Play}
 use Rattle.tt_playing.specs.declared.play.Connection.{Connection}
 use Rattle.tt_playing.specs.Attached.{client_in, given_in}
 use Rattle.tt_playing.specs.Begun.{origin_in}
-use Rattle.tt_playing.specs.Played.{Played, reader_limit, is_live, played}
+use Rattle.tt_playing.specs.Played.{Played, reader_limit, is_gone, is_live, is_over, played, refuses}
 
 -- What is kept of the connection with this number: its door; while it is live, the rest of its stream; and its client, if one is
 -- attached. No more was handed to the client than was sent; and where it is asked for, that is kept too.
@@ -42,6 +44,21 @@ pub record IsAt (o : Origin) (play : Play) (p : Played) : Type 0 where
   pub unfed : (conn : ℕ) → opens p.events < conn → p.fed conn ≡ []
   pub bare : (conn : ℕ) → opens p.events < conn → p.clients conn ≡ None
   pub none : p.clients 0 ≡ None
+
+-- the client of a connection, as the code has it
+abbrev pub client_on : Option Connection → Option Held
+client_on None = None
+client_on (Some c) = c.client
+
+abbrev pub client_at : Play → ℕ → Option Held
+client_at play zero = None
+client_at play (suc place) = client_on (slice_get play.connections.items place)
+
+-- whether a line is refused, as the code has it
+abbrev pub refused_by : Play → Line1 → Bool
+refused_by play line =
+    let o = origin play.hub in
+    refuses (is_over o play.hub.events) (is_gone o play.hub.events) (client_at play) line
 
 -- it is behind some lines of some game
 abbrev pub Stands : Play → Type 0

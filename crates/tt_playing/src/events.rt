@@ -10,7 +10,7 @@ ghost use Rattle.tt_log.specs.Events.{takes};
 ghost use Rattle.tt_log.specs.History.{table_of};
 ghost use Rattle.tt_log.specs.Origin.{Origin};
 ghost use Rattle.tt_playing.specs.Played.{Played, reader_limit, is_gone, is_live, is_over, stream_events, until_ended, until_over};
-ghost use Rattle.tt_playing.specs.Played.{opened, with_event, with_piece, with_ticks};
+ghost use Rattle.tt_playing.specs.Played.{nobody, opened, with_event, with_piece, with_ticks};
 ghost use Rattle.tt_playing.specs.Playing.{IsAt, Stands};
 
 use crate::play::{Connection, Play};
@@ -23,7 +23,7 @@ use tt_hub::Hub;
 const READER_LIMIT: u16 = 32_767;
 
 /// Where every opening of a script comes from.
-pub(crate) const NOBODY: Peer = Peer {
+const NOBODY: Peer = Peer {
     host: [0; 4],
     port: 0,
 };
@@ -36,40 +36,56 @@ pub(crate) fn is_gone(hub: &Hub, conn: u32) -> bool
 }
 
 /// An opening, of a game that is not over.
-fn open(alloc: Global, play: &mut Play, door: Door) -> Result<(), OutOfMemory>
+pub(crate) fn open(alloc: Global, play: &mut Play, door: Door) -> Result<(), OutOfMemory>
     requires going { is_over (origin play.old.hub) play.old.hub.events ≡ false }
     ensures at { (o : Origin) (p : Played) → IsAt o play.old p → OnOk result (IsAt o play.new (opened door p)) }
+    ensures keeps { play.new.keeps ≡ play.old.keeps }
 {
-    put(&mut play.hub, Event::Open { door, peer: NOBODY })?;
+    put_opening(&mut play.hub, door)?;
     play.connections.push(Connection {
         door,
         rest: Vec::new(alloc),
+        client: None,
+        told: Vec::new(alloc),
     })?;
     Ok(())
 }
 
+/// An opening is put to the hub of a game that is not over.
+pub(crate) fn put_opening(hub: &mut Hub, door: Door) -> Result<(), OutOfMemory>
+    requires going { is_over (origin hub.old) hub.old.events ≡ false }
+    ensures events { OnOk result (hub.new.events ≡ hub.old.events ++ Event.Open door nobody ∷ []) }
+    ensures origin { origin hub.new ≡ origin hub.old }
+    ensures taken { (conn : ℕ) → taken hub.new conn ≡ taken hub.old conn }
+{
+    put(hub, Event::Open { door, peer: NOBODY })
+}
+
 /// A connection that is live is closed.
-fn shut(play: &mut Play, conn: u32) -> Result<(), OutOfMemory>
+pub(crate) fn shut(play: &mut Play, conn: u32) -> Result<(), OutOfMemory>
     requires going { is_over (origin play.old.hub) play.old.hub.events ≡ false }
     requires live { is_live (origin play.old.hub) play.old.hub.events conn ≡ true }
     ensures at { (o : Origin) (p : Played) → IsAt o play.old p → OnOk result (IsAt o play.new (with_event (Event.Shut conn) p)) }
+    ensures keeps { play.new.keeps ≡ play.old.keeps }
 {
     put(&mut play.hub, Event::Shut { conn })?;
     Ok(())
 }
 
 /// A game that is not over is stopped.
-fn stop(play: &mut Play) -> Result<(), OutOfMemory>
+pub(crate) fn stop(play: &mut Play) -> Result<(), OutOfMemory>
     requires going { is_over (origin play.old.hub) play.old.hub.events ≡ false }
     ensures at { (o : Origin) (p : Played) → IsAt o play.old p → OnOk result (IsAt o play.new (with_event Event.Stop p)) }
+    ensures keeps { play.new.keeps ≡ play.old.keeps }
 {
     put(&mut play.hub, Event::Stop)?;
     Ok(())
 }
 
 /// So many ticks, until the game is over.
-fn run_ticks(play: &mut Play, n: u32) -> Result<(), OutOfMemory>
+pub(crate) fn run_ticks(play: &mut Play, n: u32) -> Result<(), OutOfMemory>
     ensures at { (o : Origin) (p : Played) → IsAt o play.old p → OnOk result (IsAt o play.new (with_ticks o n p)) }
+    ensures keeps { play.new.keeps ≡ play.old.keeps }
 {
     put_ticks(&mut play.hub, n)?;
     Ok(())
@@ -90,11 +106,16 @@ fn put_ticks(hub: &mut Hub, n: u32) -> Result<(), OutOfMemory>
 }
 
 /// Feeds a piece to a connection that is live.
-fn feed(alloc: Global, play: &mut Play, conn: u32, piece: &[u8]) -> Result<(), OutOfMemory>
-    requires going { is_over (origin play.old.hub) play.old.hub.events ≡ false }
+pub(crate) fn feed(
+    alloc: Global,
+    play: &mut Play,
+    conn: u32,
+    piece: &[u8],
+) -> Result<(), OutOfMemory>
     requires live { is_live (origin play.old.hub) play.old.hub.events conn ≡ true }
-    requires count { length play.old.connections.items ≡ opens play.old.hub.events }
+    requires stands { Stands play.old }
     ensures at { (o : Origin) (p : Played) → IsAt o play.old p → OnOk result (IsAt o play.new (with_piece o conn piece.now p)) }
+    ensures keeps { play.new.keeps ≡ play.old.keeps }
 {
     let place = place_of(&play.hub, conn);
     feed_rest(

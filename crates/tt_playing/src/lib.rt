@@ -9,10 +9,9 @@
 mod attached;
 mod bringing;
 mod events;
-mod laws;
 mod play;
 mod start;
 
-pub use laws::clients_are_in_step;
+pub use attached::client_of;
 pub use play::{Connection, Play, begun, do_line, do_step, next_number, play_script};
 pub use start::{Start, start_of};

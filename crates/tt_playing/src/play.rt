@@ -1,7 +1,7 @@
 //! A play: the lines of a script, done one after the other.
 //!
 //! Whether a line is refused is asked before it is done (`is_refused`), so the hub takes all that is put to it.
-ghost use Rattle.std.specs.Prelude.{◌≡◌, ◌+◌, ℕ, [], false, fold, IfOk, OnOk};
+ghost use Rattle.std.specs.Prelude.{◌≡◌, ◌+◌, ◌≤◌, ℕ, Ok, [], false, fold, IfOk, OnOk};
 ghost use Rattle.tt_lines.specs.Lines.{lines_of};
 ghost use Rattle.tt_log.specs.Lines.{IsLine};
 ghost use Rattle.tt_log.specs.Origin.{Origin};
@@ -11,16 +11,16 @@ ghost use Rattle.tt_log.specs.Steps.{IsStep};
 ghost use Rattle.tt_map.specs.Reading.{map_in};
 ghost use Rattle.tt_world.specs.Setup.{Fits};
 ghost use Rattle.tt_playing.specs.Begun.{origin_from, world_from, MayStart, IsScriptOf};
-ghost use Rattle.tt_playing.specs.Played.{Played, nothing, is_refused, one_refused, did, done};
-ghost use Rattle.tt_playing.specs.Playing.{IsAt, PlayedTo, Stands};
+ghost use Rattle.tt_playing.specs.Played.{Played, nothing, one_refused, did, done};
+ghost use Rattle.tt_playing.specs.Playing.{IsAt, PlayedTo, Stands, refused_by};
 
 use crate::attached::{attach, forge, has_client, is_running, order, run};
 use crate::bringing::{bring_down, bring_up, pump};
-use crate::events::{feed, open, run_ticks, shut, stop};
+use crate::events::{feed, is_gone, open, run_ticks, shut, stop};
 use crate::start::Start;
 use std::alloc::Global;
 use tt_client::Client;
-use tt_edge::Door;
+use tt_edge::{Core, Door};
 use tt_frame::{Name, OutOfMemory};
 use tt_hub::Hub;
 use tt_log::{Line1, ScriptBad, ScriptReader, Step};
@@ -164,7 +164,7 @@ pub fn do_line(alloc: Global, play: &mut Play, line: &Line1) -> Result<(), OutOf
 
 /// Whether a line is refused.
 fn is_refused(play: &Play, line: &Line1) -> bool
-    ensures refused { (o : Origin) (p : Played) → IsAt o play.now p → result ≡ is_refused o p line.now }
+    ensures refused { result ≡ refused_by play.now line.now }
 {
     match line {
         Line1::Open | Line1::Side | Line1::Tick(_) | Line1::Stop => play.hub.over(),
@@ -198,7 +198,7 @@ pub fn next_number(number: u32) -> Result<u32, OutOfMemory>
 fn do_accepted(alloc: Global, play: &mut Play, line: &Line1) -> Result<(), OutOfMemory>
     requires stands { Stands play.old }
     requires line { IsLine line.now }
-    requires accepted { (o : Origin) (p : Played) → IsAt o play.old p → is_refused o p line.now ≡ false }
+    requires accepted { refused_by play.old line.now ≡ false }
     ensures at { (o : Origin) (p : Played) → IsAt o play.old p → OnOk result (IsAt o play.new (did o p line.now)) }
     ensures keeps { play.new.keeps ≡ play.old.keeps }
 {

@@ -1,7 +1,7 @@
 use Rattle.std.proofs.Common.{rules, ◌≡◌, [], subst, IfOk}
 use Rattle.tt_world.specs.World.{WorldState}
-use Rattle.tt_replay.proofs.Steps.{own_start}
-use Rattle.tt_replay.proofs.play.hub_from.Goals as goal
+use Rattle.tt_playing.proofs.Steps.{own_start}
+use Rattle.tt_playing.proofs.play.hub_from.Goals as goal
 
 pub returns-then-is_empty-clause-start : goal.returns-then-is_empty-clause-start
 returns-then-is_empty-clause-start c =

@@ -1,6 +1,6 @@
 use Rattle.std.proofs.Common.{refl}
-use Rattle.tt_replay.proofs.Steps.{saved_is, never_bad}
-use Rattle.tt_replay.proofs.play.saved_world.Goals as goal
+use Rattle.tt_playing.proofs.Steps.{saved_is, never_bad}
+use Rattle.tt_playing.proofs.play.saved_world.Goals as goal
 
 pub returns-in-Ok : goal.returns-in-Ok
 returns-in-Ok c =
