@@ -8,10 +8,8 @@
 mod expecting;
 mod form;
 mod help;
-mod play;
 mod replay;
 mod report;
-mod script;
 
 use crate::help::answer_of;
 use crate::replay::replay_main;

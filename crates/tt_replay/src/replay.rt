@@ -8,19 +8,19 @@ ghost use Rattle.tt_edge.specs.Source.{ConsumesAtMost, ConsumesCount};
 ghost use Rattle.tt_replay.specs.declared.form.Form.{Form};
 ghost use Rattle.tt_replay.specs.declared.form.Form.TheVariants.{Check};
 ghost use Rattle.tt_replay.specs.declared.replay.NoAnswer.TheVariants.{BadLine, Differs, Memory};
-ghost use Rattle.tt_replay.specs.Script.{IsPlayedWith};
+ghost use Rattle.tt_playing.specs.Begun.{IsScriptOf};
 ghost use Rattle.tt_replay.specs.Statuses.{form_of, input_limit, IsOfForm, IsAnswer, IsWritten, IsPartlyWritten, IsRefused, IsDiffering, IsOther, agrees_text, bad_line_text, differs_text};
 
 use crate::expecting::difference;
 use crate::form::{Form, form_of};
-use crate::play::play_script;
 use crate::report::report_of;
-use crate::script::{ScriptError, Start, start_of};
 use std::alloc::Global;
 use thiserror::Error;
 use tt_edge::{ReadAllError, Sink, Source, read_all, write_all};
 use tt_frame::{Line, OutOfMemory};
 use tt_lines::{put, put_number};
+use tt_log::ScriptBad;
+use tt_playing::{Start, play_script, start_of};
 use tt_show::{ShowError, show};
 
 /// All was done as said.
@@ -161,8 +161,8 @@ fn run(alloc: Global, input: &[u8]) -> Result<Vec<u8>, NoAnswer>
 {
     let start = match start_of(alloc, input) {
         Ok(start) => start,
-        Err(ScriptError::BadLine(line)) => return Err(NoAnswer::BadLine(line)),
-        Err(ScriptError::Memory) => return Err(NoAnswer::Memory),
+        Err(ScriptBad::Line(line)) => return Err(NoAnswer::BadLine(line)),
+        Err(ScriptBad::Memory) => return Err(NoAnswer::Memory),
     };
     match report_of_script(alloc, &start, input) {
         Ok(report) => Ok(report),
@@ -214,10 +214,10 @@ fn show_list(alloc: Global, input: &[u8]) -> Result<Vec<u8>, NoAnswer>
 
 /// The report of the script that the bytes spell, in a game from its start.
 fn report_of_script(alloc: Global, start: &Start, input: &[u8]) -> Result<Vec<u8>, OutOfMemory>
-    requires script { IsPlayedWith start.now.setup start.now.saved.items (lines_of input.now) }
+    requires script { IsScriptOf start.now.setup start.now.saved.items (lines_of input.now) }
     ensures answer { IfOk result (λ report. IsAnswer Form.Run (lines_of input.now) report.items) }
 {
-    let mut play = play_script(alloc, start, input)?;
+    let mut play = play_script(alloc, start, input, true)?;
     let report = report_of(alloc, &mut play)?;
     Ok(report)
 }

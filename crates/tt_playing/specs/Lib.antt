@@ -1,0 +1,4 @@
+pub mod Begun
+pub mod Attached
+pub mod Played
+pub mod Playing
