@@ -1,3 +1,4 @@
 pub mod Compared
 pub mod Answering
 pub mod Reports
+pub mod Words

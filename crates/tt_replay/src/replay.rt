@@ -1,4 +1,4 @@
-//! The replay program's top call: words, a source and a sink in, a status out.
+//! What is answered to an input: words, a source and a sink in, a status out.
 ghost use Rattle.std.specs.Prelude.{◌≡◌, ◌⊎◌, ◌≢◌, ◌<◌, ◌≤◌, ◌↔◌, ◌+◌, List, ℕ, Some, None, Err, length, IfSome, IfOk};
 ghost use Rattle.std.specs.Io.KnownBytes.{Appends};
 ghost use Rattle.tt_lines.specs.Lines.{lines_of, IsFirstBad};
@@ -78,7 +78,7 @@ impl From<OutOfMemory> for NoAnswer {
 ///
 /// It waits for nobody, and returns over every source that answers its calls: at most one byte past the limit is
 /// read, and each read takes at least one.
-pub fn replay_main<S: Source, K: Sink>(
+pub fn answer_input<S: Source, K: Sink>(
     alloc: Global,
     args: &[Line],
     source: &mut S,

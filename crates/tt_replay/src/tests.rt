@@ -1,7 +1,7 @@
 //! The program's top call over sources and sinks in memory.
 ghost use Rattle.std.specs.Prelude.{◌<◌};
 
-use crate::replay::replay_main;
+use crate::program::replay_main;
 use std::alloc::Global;
 use std::test::*;
 use tt_edge::{MemSink, MemSource};

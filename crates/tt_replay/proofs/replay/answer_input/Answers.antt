@@ -1,7 +1,7 @@
 use Rattle.std.proofs.Common.{◌≡◌, Some}
 use Rattle.tt_replay.specs.Statuses.{form_of}
 use Rattle.tt_replay.proofs.Answering.{written, partly, refused, differing, never_refused, checked_alone}
-use Rattle.tt_replay.proofs.replay.replay_main.Goals as goal
+use Rattle.tt_replay.proofs.replay.answer_input.Goals as goal
 
 pub returns-in-Err-BadLine-clause-refused : goal.returns-in-Err-BadLine-clause-refused
 returns-in-Err-BadLine-clause-refused g c three =
