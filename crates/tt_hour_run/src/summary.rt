@@ -74,7 +74,7 @@ fn running_at(play: &Play, frame: u32, last: u32) -> Result<u32, OutOfMemory>
 
 /// Whether there is a client that runs, and stands at a frame.
 fn runs_at(client: Option<&Client>, frame: u32) -> bool
-    ensures { result ≡ runs_at frame (option_copied client) }
+    ensures { result ≡ runs_at frame (option_copied client.entry) }
 {
     match client {
         None => false,

@@ -16,24 +16,51 @@ do_line-requires c =
     let each = subst (AllByRecursion IsLine) c.in-Some.ensures c.loop-line.invariant.lines in
     record { stands = (game.0, now.0, now.1); line = each.0 }
 
-pub loop-line-preserved : goal.loop-line-preserved
-loop-line-preserved c =
+pub loop-line-preserved-in_ok-do_line-in-Some : goal.loop-line-preserved-in_ok-do_line-in-Some
+loop-line-preserved-in_ok-do_line-in-Some c =
     let each = subst (AllByRecursion IsLine) c.in-Some.ensures c.loop-line.invariant.lines in
     record {
       lines = each.1;
       at = λ o p at. (
-        let now = c.loop-line.invariant.at o p at in
-        (
-          done o now.0 c.in-Some.line,
-          c.in_ok-do_line.ensures.at o now.0 now.1,
-          sym (ap (λ (ls : List Line1). fold (done o) now.0 ls) c.in-Some.ensures) ∙ now.2,
-        )
-      );
+          let now = c.loop-line.invariant.at o p at in (
+            done o now.0 c.in-Some.line,
+            c.in_ok-do_line-in-Some.ensures.at o now.0 now.1,
+            sym (ap (λ (ls : List Line1). fold (done o) now.0 ls) c.in-Some.ensures) ∙ now.2,
+          )
+          );
+    }
+
+pub loop-line-preserved-in_ok-do_line-in-Some-2 : goal.loop-line-preserved-in_ok-do_line-in-Some-2
+loop-line-preserved-in_ok-do_line-in-Some-2 c =
+    let each = subst (AllByRecursion IsLine) c.in-Some.ensures c.loop-line.invariant.lines in
+    record {
+      lines = each.1;
+      at = λ o p at. (
+          let now = c.loop-line.invariant.at o p at in (
+            done o now.0 c.in-Some.line,
+            c.in_ok-do_line-in-Some.ensures.at o now.0 now.1,
+            sym (ap (λ (ls : List Line1). fold (done o) now.0 ls) c.in-Some.ensures) ∙ now.2,
+          )
+          );
+    }
+
+pub loop-line-preserved-in_ok-do_line-in-Some-3 : goal.loop-line-preserved-in_ok-do_line-in-Some-3
+loop-line-preserved-in_ok-do_line-in-Some-3 c =
+    let each = subst (AllByRecursion IsLine) c.in-Some.ensures c.loop-line.invariant.lines in
+    record {
+      lines = each.1;
+      at = λ o p at. (
+          let now = c.loop-line.invariant.at o p at in (
+            done o now.0 c.in-Some.line,
+            c.in_ok-do_line-in-Some.ensures.at o now.0 now.1,
+            sym (ap (λ (ls : List Line1). fold (done o) now.0 ls) c.in-Some.ensures) ∙ now.2,
+          )
+          );
     }
 
 pub returns-in-None : goal.returns-in-None
 returns-in-None c = λ o p at. (
-  let now = c.loop-line.invariant.at o p at in
-  subst (λ (q : Played). IsAt o c.loop-line.play q) (sym (ap (λ (ls : List Line1). fold (done o) now.0 ls) c.in-None.ensures.0) ∙ now.2)
-  now.1
-)
+    let now = c.loop-line.invariant.at o p at in
+    subst (λ (q : Played). IsAt o c.loop-line.play q) (sym (ap (λ (ls : List Line1). fold (done o) now.0 ls) c.in-None.ensures.0) ∙ now.2)
+    now.1
+    )

@@ -6,8 +6,8 @@ use Rattle.tt_hour_run.proofs.summary.summary_of.Goals as goal
 
 pub returns : goal.returns
 returns c = λ o p at. (
-  summary_is o c.args.play.now p c.new.result.items c.put_game.new.text.items c.put_refused.new.text.items c.put_running.new.text.items
-  c.in_ok-running.running at c.new.ensures.items c.in_ok-put_game.ensures c.in_ok-put_refused.ensures.text
-  (c.in_ok-running.ensures ∙ ap₂ (λ (f n : ℕ). running_upto f (client_at c.args.play.now) n) c.frame.ensures.frame c.connections.ensures.connections)
-  c.in_ok-put_running.ensures.text
-)
+    summary_is o c.args.play.now p c.new-text.result.items c.put_game.new.text.items c.put_refused.new.text.items c.put_running.new.text.items
+    c.in_ok-running.running at c.new-text.ensures.items c.in_ok-put_game.ensures c.in_ok-put_refused.ensures.text
+    (c.in_ok-running.ensures ∙ ap₂ (λ (f n : ℕ). running_upto f (client_at c.args.play.now) n) c.frame.ensures.frame c.connections.ensures.connections)
+    c.in_ok-put_running.ensures.text
+    )
