@@ -16,6 +16,20 @@ do_line-requires c =
     let each = subst (AllByRecursion IsLine) c.in-Some.ensures c.loop-line.invariant.lines in
     record { stands = (game.0, now.0, now.1); line = each.0 }
 
+pub loop-line-preserved : goal.loop-line-preserved
+loop-line-preserved c =
+    let each = subst (AllByRecursion IsLine) c.in-Some.ensures c.loop-line.invariant.lines in
+    record {
+      lines = each.1;
+      at = λ o p at. (
+          let now = c.loop-line.invariant.at o p at in (
+            done o now.0 c.in-Some.line,
+            c.in_ok-do_line-in-Some.ensures.at o now.0 now.1,
+            sym (ap (λ (ls : List Line1). fold (done o) now.0 ls) c.in-Some.ensures) ∙ now.2,
+          )
+          );
+    }
+
 pub loop-line-preserved-in_ok-do_line-in-Some : goal.loop-line-preserved-in_ok-do_line-in-Some
 loop-line-preserved-in_ok-do_line-in-Some c =
     let each = subst (AllByRecursion IsLine) c.in-Some.ensures c.loop-line.invariant.lines in
