@@ -1,0 +1,10 @@
+use Rattle.std.proofs.Common.{ℕ, List, ap, ◌∙◌}
+use Rattle.std.specs.BTreeSet.{BTreeSet}
+use Rattle.tt_numbers.specs.Numbers.{keys_in, numbers_at}
+use Rattle.tt_numbers.proofs.Keys.{other_key}
+use Rattle.tt_numbers.proofs.by_key.NumbersByKey.clear.Goals as goal
+
+pub returns-clause-others : goal.returns-clause-others
+returns-clause-others c = λ other apart.
+    ap keys_in (c.remove-gone.ensures.updates.2 other (other_key c.args.key other apart))
+    ∙ ap (λ (es : List (ℕ × BTreeSet ℕ)). numbers_at es other) c.self.view_is
