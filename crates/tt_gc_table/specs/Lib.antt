@@ -16,5 +16,6 @@ pub mod Registry
 pub mod Lines
 pub mod OpenAttempts
 pub mod Parts
+pub mod ByConnection
 pub mod Hearing
 pub mod Tells

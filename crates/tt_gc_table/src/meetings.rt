@@ -1,4 +1,4 @@
-//! The open attempts: found by token, in the order of their numbers.
+//! The open attempts: found by token, in the order of their numbers, and by the connections of their two.
 ghost use Rattle.std.specs.Prelude.{◌≡◌, ◌≢◌, ◌<◌, ◌^◌, ℕ, Some, [], ◌∷◌, ◌++◌, length, drop};
 ghost use Rattle.std.specs.Prelude.{find, filter, map, not, cond, IfSome, IfNone, OnOk, OnErr};
 ghost use Rattle.std.specs.Fmt.{decimal};
@@ -13,6 +13,9 @@ ghost use Rattle.tt_gc_table.specs.Hearing.{told_each};
 ghost use Rattle.tt_gc_table.specs.Tells.{told_to};
 ghost use Rattle.tt_gc_table.specs.Parts.{IsBegun, is_of, is_lost};
 ghost use Rattle.tt_gc_table.specs.OpenAttempts.{meetings_of, with_stage, IsToken, Distinct};
+ghost use Rattle.tt_gc_table.specs.ByConnection.{with_number, Stands};
+ghost use Rattle.std.specs.Map.{remove_entry};
+ghost use Rattle.std.specs.Ordering.{nat_cmp, eq_by_cmp};
 
 use crate::heard::plan_heard;
 use crate::parts::Parts;
@@ -24,6 +27,7 @@ use tt_attempts::{Attempt, Heard};
 use tt_edge::Peer;
 use tt_frame::{OutOfMemory, Text};
 use tt_lines::number_of;
+use tt_numbers::NumbersByKey;
 
 /// One of the two that an attempt brings together.
 #[derive(Clone, Copy, Debug, PartialEq, Eq)]
@@ -109,10 +113,14 @@ impl Meeting {
     }
 }
 
-/// The open attempts, by number.
+/// The open attempts, by number; and their numbers by connection, so that the end of a connection looks at its own attempts alone.
 #[derive(Drop)]
 pub struct Meetings {
     by_number: BTreeMap<u32, Meeting>,
+    /// The numbers by the connection of the server.
+    served: NumbersByKey,
+    /// The numbers by the connection of the client.
+    asked: NumbersByKey,
 }
 
 impl Model for Meetings {
@@ -121,12 +129,14 @@ impl Model for Meetings {
     ghost use Rattle.std.specs.BTreeMap.{IsOrdered};
     ghost use Rattle.tt_gc_table.specs.Table as table;
     ghost use Rattle.tt_gc_table.specs.OpenAttempts.{IsNumbered};
+    ghost use Rattle.tt_gc_table.specs.ByConnection.{server_of, client_of, IsIndex};
 
     ghost Value = { List (ℕ × table.Meeting) };
 
     ghost view = { λ m. m.by_number.entries };
 
-    ghost invariant = { λ m. IsNumbered m.by_number.entries × IsOrdered nat_cmp m.by_number };
+    ghost invariant = { λ m. IsNumbered m.by_number.entries × IsOrdered nat_cmp m.by_number
+        × IsIndex server_of m.served m.by_number.entries × IsIndex client_of m.asked m.by_number.entries };
 }
 
 /// The number that stands behind a token's eight characters.
@@ -156,6 +166,8 @@ impl Meetings {
     {
         Meetings {
             by_number: BTreeMap::new(alloc),
+            served: NumbersByKey::new(alloc),
+            asked: NumbersByKey::new(alloc),
         }
     }
 
@@ -223,11 +235,23 @@ impl Meetings {
             → meetings_of self.new ≡ filter (λ x. not (is_for token.now x)) (meetings_of self.old) }
         ensures begun { (last : ℕ) → IsBegun last self.old → IsBegun last self.new }
     {
-        let by_number = &mut self.by_number;
+        let by_number = &self.by_number;
         let Some(number) = number_in(token) else {
             return;
         };
-        let _over = by_number.remove(&number);
+        let _count = by_number.len();
+        self.take_out(number);
+    }
+
+    /// The open attempt with this number, if there is one, is over.
+    fn take_out(&mut self, number: u32)
+        ensures { self.new ≡ remove_entry (eq_by_cmp nat_cmp number) self.old }
+    {
+        let Some(meeting) = self.by_number.remove(&number) else {
+            return;
+        };
+        self.served.remove(meeting.server.conn, number);
+        self.asked.remove(meeting.client.conn, number);
     }
 
     /// One more is open, with a number above those of the others.
@@ -237,12 +261,23 @@ impl Meetings {
         ensures ok { OnOk result (self.new ≡ self.old ++ (number, meeting) ∷ []) }
         ensures err { OnErr result (self.new ≡ self.old) }
     {
-        self.by_number.insert(number, meeting)?;
+        let server = meeting.server.conn;
+        let client = meeting.client.conn;
+        self.served.add(server, number)?;
+        if self.asked.add(client, number).is_err() {
+            self.served.remove(server, number);
+            return Err(OutOfMemory);
+        }
+        if self.by_number.insert(number, meeting).is_err() {
+            self.served.remove(server, number);
+            self.asked.remove(client, number);
+            return Err(OutOfMemory);
+        }
         Ok(())
     }
 
     /// Plans what is told to the clients of other connections that were to be brought to this one, whose server has gone: in the
-    /// order of the attempts. It looks at each that is open.
+    /// order of the attempts. It looks at those of this server alone.
     pub fn tell_lost(
         &self,
         alloc: Global,
@@ -254,19 +289,61 @@ impl Meetings {
         ensures told { OnOk result ((s : GcSetup) → s.turn_host ≡ turn_host.now → (c : ℕ) → told_to c out.new
             ≡ told_to c out.old ++ told_each s ServerGone parts.now c (filter (is_lost conn) (meetings_of self.now))) }
     {
-        for meeting in self.by_number.values() {
-            if meeting.is_lost(conn) {
-                let _stage = plan_heard(alloc, out, parts, turn_host, Heard::ServerGone, meeting)?;
-            }
+        let by_number = &self.by_number;
+        let _count = by_number.len();
+        let Some(numbers) = self.served.get(conn) else {
+            return Ok(());
+        };
+        for number in numbers.iter() {
+            self.tell_one(alloc, out, parts, turn_host, conn, *number)?;
         }
         Ok(())
     }
 
-    /// None is open any more whose server or client is on this connection. It looks at each that is open.
+    /// Plans what is told where the open attempt with this number has lost its server, whose connection this was.
+    fn tell_one(
+        &self,
+        alloc: Global,
+        out: &mut Tells,
+        parts: &Parts,
+        turn_host: &Text<31>,
+        conn: u32,
+        number: u32,
+    ) -> Result<(), OutOfMemory>
+        ensures told { OnOk result ((s : GcSetup) → s.turn_host ≡ turn_host.now → (c : ℕ) → told_to c out.new
+            ≡ told_to c out.old ++ told_each s ServerGone parts.now c (filter (is_lost conn) (with_number number self.now))) }
+    {
+        let Some(meeting) = self.by_number.get(&number) else {
+            return Ok(());
+        };
+        if meeting.is_lost(conn) {
+            let _stage = plan_heard(alloc, out, parts, turn_host, Heard::ServerGone, meeting)?;
+        }
+        Ok(())
+    }
+
+    /// The number of an open attempt whose server or client is on this connection.
+    fn first_of(&self, conn: u32) -> Option<u32>
+        ensures some { IfSome result (λ n. Stands conn n self.now) }
+        ensures none { IfNone result (filter (λ e. not (is_of conn e.1)) self.now ≡ self.now) }
+    {
+        let _count = self.by_number.len();
+        if let Some(number) = self.asked.first(conn) {
+            return Some(number);
+        }
+        match self.served.first(conn) {
+            Some(number) => Some(number),
+            None => None,
+        }
+    }
+
+    /// None is open any more whose server or client is on this connection. It looks at those alone.
     pub fn leave(&mut self, conn: u32)
         ensures meetings { meetings_of self.new ≡ filter (λ m. not (is_of conn m)) (meetings_of self.old) }
         ensures begun { (last : ℕ) → IsBegun last self.old → IsBegun last self.new }
     {
-        self.by_number.retain(|_, meeting| !meeting.is_of(conn));
+        while let Some(number) = self.first_of(conn) {
+            self.take_out(number);
+        }
     }
 }

@@ -4,6 +4,8 @@ use Rattle.tt_attempts.specs.Attempts.{stepped, AttemptState}
 use Rattle.tt_gc_table.specs.Table.{Meeting, is_for}
 use Rattle.tt_gc_table.specs.Parts.{IsBegun}
 use Rattle.tt_gc_table.specs.OpenAttempts.{meetings_of, with_stage, IsNumbered}
+use Rattle.tt_gc_table.specs.ByConnection.{server_of, client_of, IsIndex}
+use Rattle.tt_gc_table.proofs.Indexed.{index_set}
 use Rattle.tt_gc_table.proofs.Numbers.{nowhere}
 use Rattle.tt_gc_table.proofs.ByToken.{Looked, Here, here, missing, nobody, changed_here, begun_set, numbered_set}
 use Rattle.tt_gc_table.proofs.meetings.Meetings.hear.Goals as goal
@@ -41,6 +43,12 @@ invariant_of-self-2 c =
       subst IsNumbered (sym (c.get_mut.follows.holds w).0) (numbered_set c.in-Some.number c.self.inside.by_number.entries v w
           (sym c.in-Some-get_mut.ensures.value) (ap (λ (m : Meeting). m.token) c.meeting.view_is) c.self.invariant.0),
       (c.get_mut.follows.holds w).4,
+      subst (IsIndex server_of c.self.inside.served) (sym (c.get_mut.follows.holds w).0) (index_set server_of c.self.inside.served
+          c.in-Some.number c.self.inside.by_number.entries v w (sym c.in-Some-get_mut.ensures.value)
+          (ap server_of c.meeting.view_is) c.self.invariant.2),
+      subst (IsIndex client_of c.self.inside.asked) (sym (c.get_mut.follows.holds w).0) (index_set client_of c.self.inside.asked
+          c.in-Some.number c.self.inside.by_number.entries v w (sym c.in-Some-get_mut.ensures.value)
+          (ap client_of c.meeting.view_is) c.self.invariant.3),
     )
 
 pub returns-clause-meetings : goal.returns-clause-meetings

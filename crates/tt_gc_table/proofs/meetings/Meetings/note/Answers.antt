@@ -4,6 +4,8 @@ use Rattle.tt_gc_table.specs.Table.{Meeting, is_for}
 use Rattle.tt_gc_table.specs.Parts.{IsBegun}
 use Rattle.tt_gc_table.specs.OpenAttempts.{meetings_of, IsNumbered}
 use Rattle.tt_gc_table.specs.Desk.{with_note}
+use Rattle.tt_gc_table.specs.ByConnection.{server_of, client_of, IsIndex}
+use Rattle.tt_gc_table.proofs.Indexed.{index_set, note_server, note_client}
 use Rattle.tt_gc_table.proofs.Numbers.{nowhere}
 use Rattle.tt_gc_table.proofs.ByToken.{Looked, missing, nobody, changed_here, begun_set, numbered_set, same_token}
 use Rattle.tt_gc_table.proofs.meetings.Meetings.note.Goals as goal
@@ -35,6 +37,12 @@ invariant_of-self-2 c =
           (sym c.in-Some-get_mut.ensures.value) (ap (λ (m : Meeting). m.token) c.note.ensures ∙ same_token c.args.side c.args.peer v)
           c.self.invariant.0),
       (c.get_mut.follows.holds w).4,
+      subst (IsIndex server_of c.self.inside.served) (sym (c.get_mut.follows.holds w).0) (index_set server_of c.self.inside.served
+          c.in-Some.number c.self.inside.by_number.entries v w (sym c.in-Some-get_mut.ensures.value)
+          (ap server_of c.note.ensures ∙ note_server c.args.side c.args.peer v) c.self.invariant.2),
+      subst (IsIndex client_of c.self.inside.asked) (sym (c.get_mut.follows.holds w).0) (index_set client_of c.self.inside.asked
+          c.in-Some.number c.self.inside.by_number.entries v w (sym c.in-Some-get_mut.ensures.value)
+          (ap client_of c.note.ensures ∙ note_client c.args.side c.args.peer v) c.self.invariant.3),
     )
 
 pub returns-clause-meetings : goal.returns-clause-meetings
