@@ -1,3 +1,4 @@
 pub mod Changes
 pub mod Queues
 pub mod Running
+pub mod Sound

@@ -4,6 +4,7 @@ ghost use Rattle.tt_edge.specs.Event.{event_cost};
 ghost use Rattle.tt_gc_table.specs.Events.{names_live, takes, is_stop, last_tick, closed};
 ghost use Rattle.tt_gc.specs.Queues.{queue_of, IsAsFull};
 ghost use Rattle.tt_gc.specs.Running.{IsStepped, about};
+ghost use Rattle.tt_gc.specs.Sound.{AreDrawn};
 
 use crate::change::apply;
 use crate::outbox::Outbox;
@@ -93,6 +94,7 @@ pub(crate) fn advance(
     event: &Event,
 ) -> Result<(), OutOfMemory>
     requires taken { takes parts.old event.now ≡ true }
+    requires drawn { AreDrawn parts.old }
     ensures ok { OnOk result (IsStepped rules.now event.now parts.old outs.old parts.new outs.new) }
     ensures err { OnErr result (parts.new ≡ parts.old) }
     ensures same { OnErr result ((c : ℕ) → IsAsFull (queue_of outs.old c) (queue_of outs.new c)) }

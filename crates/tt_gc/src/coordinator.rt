@@ -127,6 +127,8 @@ impl Core for Coordinator {
         if self.count >= MOST_EVENTS || self.history.reserve().is_err() {
             return Err(CoreErr::Memory);
         }
+        // By this call the check knows that no code was drawn twice.
+        let _codes = self.parts.drawn_count();
         if advance(
             self.alloc,
             &self.rules,

@@ -3,6 +3,7 @@ ghost use Rattle.std.specs.Prelude.{◌≡◌, [], true, is_some, IfOk};
 ghost use Rattle.tt_gc_table.specs.Table.{connection_of};
 ghost use Rattle.tt_gc_table.specs.PacketRules.{on_message, on_failed, on_result, on_connected, on_listing, read_msg, heard};
 ghost use Rattle.tt_gc.specs.Changes.{IsPlanned, heard_change};
+ghost use Rattle.tt_gc.specs.Sound.{AreDrawn};
 
 use crate::change::Change;
 use crate::clients::plan_connect;
@@ -119,6 +120,7 @@ fn plan_message(
     message: &CoordMsg,
 ) -> Result<Change, OutOfMemory>
     requires there { is_some (connection_of parts.now seen.now.conn) ≡ true }
+    requires drawn { AreDrawn parts.now }
     ensures { IfOk result (λ change. IsPlanned rules.now (on_message rules.now seen.now message.now parts.now) parts.now
         out.old out.new change) }
 {
@@ -170,6 +172,7 @@ pub(crate) fn plan_packet(
     body: &[u8],
 ) -> Result<Change, OutOfMemory>
     requires there { is_some (connection_of parts.now seen.now.conn) ≡ true }
+    requires drawn { AreDrawn parts.now }
     ensures { IfOk result (λ change. IsPlanned rules.now (heard rules.now seen.now (read_msg kind body.now) parts.now)
         parts.now out.old out.new change) }
 {

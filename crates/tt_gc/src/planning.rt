@@ -5,6 +5,7 @@ ghost use Rattle.tt_gc_table.specs.Deed.{becomes};
 ghost use Rattle.tt_gc_table.specs.Table.{connection_of};
 ghost use Rattle.tt_gc_table.specs.Events.{opened, on_packet, on_broken, on_shut, by_event, counted};
 ghost use Rattle.tt_gc.specs.Changes.{IsPlanned, IsDone};
+ghost use Rattle.tt_gc.specs.Sound.{AreDrawn};
 
 use crate::change::Change;
 use crate::desk::plan_desk;
@@ -65,6 +66,7 @@ fn plan_body(
     body: &[u8],
 ) -> Result<Change, OutOfMemory>
     requires there { is_some (connection_of parts.now seen.conn) ≡ true }
+    requires drawn { AreDrawn parts.now }
     ensures { IfOk result (λ change. IsPlanned rules.now (on_packet rules.now kind body.now seen parts.now) parts.now
         out.old out.new change) }
 {
@@ -138,6 +140,7 @@ pub(crate) fn plan_event(
     parts: &Parts,
     event: &Event,
 ) -> Result<Change, OutOfMemory>
+    requires drawn { AreDrawn parts.now }
     ensures { IfOk result (λ change. IsPlanned rules.now (by_event rules.now event.now (counted event.now parts.now)) parts.now
         out.old out.new change) }
 {

@@ -9,6 +9,7 @@ ghost use Rattle.tt_gc_table.specs.Codes.{new_code, new_secret, behind_code};
 ghost use Rattle.tt_gc_table.specs.Ending.{ends, leaves};
 ghost use Rattle.tt_gc_table.specs.PacketRules.{registers, registers_new, is_empty, may_return, may_register, on_register, on_update};
 ghost use Rattle.tt_gc.specs.Changes.{IsPlanned};
+ghost use Rattle.tt_gc.specs.Sound.{AreDrawn};
 
 use crate::change::Change;
 use crate::rules::Rules;
@@ -21,6 +22,9 @@ use tt_world::Random;
 
 /// At most so many servers are registered at a time.
 const MOST_SERVERS: usize = 4096;
+
+/// So many codes there are: six characters, each one of thirty-two.
+const ALL_CODES: usize = 1_073_741_824;
 
 /// A text of no bytes.
 pub(crate) fn no_text() -> Text<31>
@@ -145,14 +149,6 @@ fn drawn_next(parts: &Parts) -> (InviteCode, Secret, Random)
     (undrawn(parts, first), secret, random)
 }
 
-/// Whether a code was drawn, or a server has it.
-fn is_taken(parts: &Parts, code: &InviteCode) -> bool
-    ensures { result ≡ is_some (drawn_by parts.now code.now) || is_some (server_by parts.now code.now) }
-{
-    let text = code.text();
-    parts.is_drawn(code) || parts.server_by(text.as_slice()).is_some()
-}
-
 /// Whether a text has no bytes.
 fn is_empty(text: &Text<31>) -> bool
     ensures { result ≡ is_empty text.now }
@@ -172,14 +168,14 @@ fn plan_new(
 ) -> Result<Change, OutOfMemory>
     requires there { is_some (connection_of parts.now conn) ≡ true }
     requires unregistered { is_some (server_on parts.now conn) ≡ false }
+    requires drawn { AreDrawn parts.now }
     ensures { IfOk result (λ change. IsPlanned rules.now (registers_new conn kind port parts.now) parts.now out.old out.new change) }
 {
     let _rules = rules;
-    let (code, secret, random) = drawn_next(parts);
-    // A code that was not drawn has no server.
-    if is_taken(parts, &code) {
+    if parts.drawn_count() >= ALL_CODES {
         return Err(OutOfMemory);
     }
+    let (code, secret, random) = drawn_next(parts);
     tell_registered(alloc, out, parts, conn, code_text(&code), secret.text())?;
     Ok(Change::Draw {
         conn,
@@ -231,6 +227,7 @@ fn plan_asked(
     secret: &Text<32>,
 ) -> Result<Change, OutOfMemory>
     requires there { is_some (connection_of parts.now conn) ≡ true }
+    requires drawn { AreDrawn parts.now }
     ensures { IfOk result (λ change. IsPlanned rules.now (either (may_register parts.now conn kind code.now secret.now)
         (either (is_empty code.now) (registers_new conn kind port) (registers conn kind port
         (record { code = code.now; secret = secret.now }))) (ends rules.now conn 1 []) parts.now) parts.now out.old out.new change) }
@@ -260,6 +257,7 @@ pub(crate) fn plan_register(
     secret: &Text<32>,
 ) -> Result<Change, OutOfMemory>
     requires there { is_some (connection_of parts.now conn) ≡ true }
+    requires drawn { AreDrawn parts.now }
     ensures { IfOk result (λ change. IsPlanned rules.now (on_register rules.now conn kind port code.now secret.now parts.now)
         parts.now out.old out.new change) }
 {

@@ -1,12 +1,25 @@
-use Rattle.std.proofs.Common.{◌≡◌, List, [], ◌∷◌, ◌++◌, length, length-append, sym, ap, ◌∙◌, arith}
+use Rattle.std.proofs.Common.{◌≡◌, List, [], ◌∷◌, ◌++◌, length, length-append, rules, sym, subst, ap, ◌∙◌, arith}
 use Rattle.tt_edge.specs.declared.event.Event.{Event}
 use Rattle.tt_edge.specs.Event.{opens, conn_of}
-use Rattle.tt_gc_table.specs.Table.{Table}
+use Rattle.std.specs.Prelude.{is_some}
+use Rattle.tt_gc_table.specs.Table.{Table, NoneTwice, drawn_by, server_by}
+use Rattle.tt_gc_table.proofs.CodesLaws.{none_undrawn}
 use Rattle.tt_gc_table.specs.Events.{table_of}
 use Rattle.tt_gc.specs.Queues.{queue_of}
 use Rattle.tt_gc.specs.Running.{CoordinatorState, IsRunning, IsStepped, about}
 use Rattle.tt_gc.proofs.RunningLaws.{running_after, about_of, fresh, on_ok}
 use Rattle.tt_gc.proofs.coordinator.CoordinatorCore.event.Goals as goal
+
+pub advance-requires : goal.advance-requires
+advance-requires c = record {
+  taken = search rules;
+  drawn = λ code none.
+      let gc = c.self.inside in
+      let is : gc.parts ≡ table_of gc.rules gc.history.events = c.self.invariant.0.table_is in
+      ap (λ (t : Table). is_some (server_by t code)) is
+      ∙ none_undrawn gc.rules gc.history.events code (subst (λ (t : Table). NoneTwice t.drawn) is c.drawn_count.ensures.none_twice)
+      (sym (ap (λ (t : Table). is_some (drawn_by t code)) is) ∙ none);
+}
 
 pub invariant_of-self-2 : goal.invariant_of-self-2
 invariant_of-self-2 c =
