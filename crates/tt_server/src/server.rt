@@ -1,8 +1,6 @@
 //! The server's top call: words, a saved map, doors and a sink in, a status out.
-ghost use Rattle.std.specs.Prelude.{◌≡◌, ◌⊎◌, ◌+◌, ◌<◌, ◌≤◌, ◌↔◌, ℕ, IsSome, vec_len};
+ghost use Rattle.std.specs.Prelude.{◌≡◌, ◌⊎◌, ◌+◌, ◌<◌, ◌≤◌, IsSome, vec_len};
 ghost use Rattle.tt_edge.specs.Count.{Rose};
-ghost use Rattle.tt_words.specs.Forms.{IsServerForm};
-ghost use Rattle.tt_words.specs.declared.server.ServerWords.{ServerWords};
 ghost use Rattle.tt_workers.specs.Telling.{link_now};
 ghost use Rattle.tt_workers.specs.Working.{door_view, tick_view};
 ghost use Rattle.tt_serving.specs.Told.{AListenerFailed, TickerFailed, NothingFailed, sink_now};
@@ -52,8 +50,8 @@ fn status_of(bad: NoGame) -> u8
 
 /// Serves a game over its doors, as the words ask, until it is over; then writes its summary to the sink, and answers the status.
 ///
-/// Where a saved map is handed in, it is read to its end first, and the game starts from it; the words have `--map` then, and only
-/// then. The ticker and at least one game handle are there, and there are at most 1,023 handles. At every answer the handles stand
+/// Where a saved map is handed in, it is read to its end first, and the game starts from it; that is where the words have `--map`, whose
+/// value names no part of the setup. The ticker and at least one game handle are there, and there are at most 1,023 handles. At every answer the handles stand
 /// in the doors again, in their order, and so does the ticker. It waits.
 pub fn serve_main<
     R: Threads + Wait + Clock + Sync,
@@ -73,7 +71,6 @@ pub fn serve_main<
 where
     L::Link: Send,
     A::Link: Send,
-    requires map { (words : ServerWords) → IsServerForm args.now words → (IsSome saved.old ↔ IsSome words.map) }
     requires ticker { IsSome doors.old.ticker }
     requires game { 0 < vec_len doors.old.game }
     requires few { vec_len doors.old.game + vec_len doors.old.admin ≤ 1023 }

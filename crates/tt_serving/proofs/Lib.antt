@@ -1,2 +1,4 @@
 pub mod Pages
+pub mod Parts
 pub mod Statuses
+pub mod Served

@@ -42,7 +42,7 @@ where
         return Err(NO_DOOR);
     };
     let mut handles = Vec::new(alloc);
-    for _ in 0..count {
+    for number in 0..count {
         let Ok(handle) = door.another() else {
             return Err(NO_DOOR);
         };

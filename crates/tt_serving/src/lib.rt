@@ -12,9 +12,9 @@
 mod doors;
 mod figures;
 mod page;
-mod run;
+mod serving;
 
 pub use doors::{SocketDoors, doors_at};
 pub use figures::Figures;
 pub use page::{Label, Page, Part};
-pub use run::run;
+pub use serving::run;
