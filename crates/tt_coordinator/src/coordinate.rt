@@ -73,13 +73,7 @@ pub fn coordinate_main<
     A: Listener + Send,
     T: Ticker + Send,
     K: Sink,
->(
-    rt: &R,
-    alloc: Global,
-    args: &[Line],
-    doors: &mut Doors<L, A, T>,
-    sink: &mut K,
-) -> u8
+>(rt: &R, alloc: Global, args: &[Line], doors: &mut Doors<L, A, T>, sink: &mut K) -> u8
 where
     L::Link: Send,
     A::Link: Send,

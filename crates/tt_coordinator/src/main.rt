@@ -4,10 +4,8 @@
 //! status comes when and what is written. docs/PROTOCOL.md tells what servers and clients say.
 #![tactic(auto)]
 
-
 mod coordinate;
 mod figures;
-
 
 use crate::coordinate::coordinate_main;
 use std::alloc::Global;

@@ -38,7 +38,7 @@ Refuses args left faults saved saved' status =
     ⊎ (((status ≡ 4) × OfBoth saved saved' (λ source source'. Rose (faults source) (faults source')))
     -- more was read than the most that a map has
     ⊎ (((status ≡ 7) × OfBoth saved saved' (λ source source'. ConsumesCount (most_saved + 1) (left source) (left source')
-        × IfSome (left source) (λ bytes. most_saved < length bytes)))
+    × IfSome (left source) (λ bytes. most_saved < length bytes)))
     -- memory ran out
     ⊎ (status ≡ 6))))
 

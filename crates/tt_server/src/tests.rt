@@ -28,6 +28,7 @@ const HOME: Peer = Peer {
 const LOOKS: u64 = 1_000_000_000;
 
 /// What links tell one another.
+#[derive(Drop)]
 struct Board {
     /// How many were written their whole welcome.
     welcomed: AtomicU64,
@@ -178,7 +179,11 @@ struct Trial {
 }
 
 /// What the links of a game handle were written, behind those before.
-fn collect(alloc: Global, door: &MemListener, written: &mut Vec<Vec<u8>>) -> Result<(), OutOfMemory> {
+fn collect(
+    alloc: Global,
+    door: &MemListener,
+    written: &mut Vec<Vec<u8>>,
+) -> Result<(), OutOfMemory> {
     for (_, link) in door.served().iter() {
         written.push(link.written().to_vec(alloc)?)?;
     }
@@ -187,6 +192,7 @@ fn collect(alloc: Global, door: &MemListener, written: &mut Vec<Vec<u8>>) -> Res
 
 /// How a run is made: whether the first accept of the first handle fails, how many handles with one link each there are, how many ticks
 /// the ticker tells, and whether it fails behind them.
+#[derive(Drop)]
 struct Plan {
     failing: bool,
     handles: u32,
@@ -245,7 +251,11 @@ fn serve<R: Threads + Wait + Clock + Sync>(
     }
     let ticker = Patient {
         board: &board,
-        wanted: if plan.failing { 0 } else { u64::from(plan.handles) },
+        wanted: if plan.failing {
+            0
+        } else {
+            u64::from(plan.handles)
+        },
         ticks: plan.ticks,
         failing: plan.ticker_fails,
         faults: 0,
@@ -347,8 +357,17 @@ fn one_link_comes_late_and_in_pieces(rt: HostRuntime) -> Result<(), Fail> {
     };
     let trial = serve(&rt, rt.alloc(), &plan, &[], None)?;
     assert_eq!(rt; trial.status, 0);
-    assert!(rt; trial.text.starts_with(b"connections 1\nframe 3\nentries 0\nwords "));
-    assert!(rt; trial.written.first().is_some_and(|bytes| is_welcome(bytes, 2)));
+    assert!(rt;
+        trial
+            .text
+            .starts_with(b"connections 1\nframe 3\nentries 0\nwords ")
+    );
+    assert!(rt;
+        trial
+            .written
+            .first()
+            .is_some_and(|bytes| is_welcome(bytes, 2))
+    );
     Ok(())
 }
 
@@ -365,8 +384,14 @@ fn each_fault_has_its_status(rt: HostRuntime) -> Result<(), Fail> {
     plan.failing = false;
     plan.ticker_fails = true;
     assert_eq!(rt; serve(&rt, alloc, &plan, &[], None)?.status, 9);
-    assert_eq!(rt; serve(&rt, alloc, &plan, &words(alloc, &[b"--seed"])?, None)?.status, 2);
-    assert_eq!(rt; serve(&rt, alloc, &plan, &words(alloc, &[b"--seed", b"07"])?, None)?.status, 2);
+    assert_eq!(rt;
+        serve(&rt, alloc, &plan, &words(alloc, &[b"--seed"])?, None)?.status,
+        2
+    );
+    assert_eq!(rt;
+        serve(&rt, alloc, &plan, &words(alloc, &[b"--seed", b"07"])?, None)?.status,
+        2
+    );
     let map = words(alloc, &[b"--map", b"a"])?;
     let short = MemSource::new(b"OTTN".to_vec(alloc)?, Vec::new(alloc));
     assert_eq!(rt; serve(&rt, alloc, &plan, &map, Some(short))?.status, 3);

@@ -87,8 +87,7 @@ told-whole a b c w w' t e p q =
 -- a page that was empty, whose text waited and was not written whole
 pub told-in_part : (a b c : Option (List ℕ)) (w w' t : List ℕ) → w ≡ [] → Puts a b w w' t → AppendsPart b c w' → AppendsPart a c t
 told-in_part a b c w w' t e p q =
-    let all : p.out ++ w' ≡ t = p.all ∙ ap (λ (x : List ℕ). x ++ t) e in
-    (
+    let all : p.out ++ w' ≡ t = p.all ∙ ap (λ (x : List ℕ). x ++ t) e in (
       q.0,
       q.1,
       (

@@ -1,5 +1,5 @@
 -- What a status of a run says of its causes.
-use Rattle.std.proofs.Common.{◌≡◌, ℕ, Bool, true, false, refl, ap, ◌∙◌, inl, inr, absurd, arith}
+use Rattle.std.proofs.Common.{◌≡◌, ℕ, Bool, true, false, refl, ap, ◌∙◌, inl, inr, arith}
 use Rattle.tt_workers.specs.declared.ends.Ends.{Ends}
 use Rattle.tt_workers.specs.Running.{all_well}
 use Rattle.tt_serving.specs.Statuses.{status_of, IsRunStatus}

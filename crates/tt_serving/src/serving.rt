@@ -58,14 +58,7 @@ pub fn run<
     T: Ticker + Send,
     F: Figures<C>,
     K: Sink,
->(
-    rt: &R,
-    alloc: Global,
-    core: C,
-    figures: &F,
-    doors: &mut Doors<L, A, T>,
-    sink: &mut K,
-) -> u8
+>(rt: &R, alloc: Global, core: C, figures: &F, doors: &mut Doors<L, A, T>, sink: &mut K) -> u8
 where
     L::Link: Send,
     A::Link: Send,
