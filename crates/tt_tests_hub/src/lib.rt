@@ -9,3 +9,5 @@ mod games;
 mod packets;
 #[cfg(test)]
 mod rooms;
+#[cfg(test)]
+mod statuses;

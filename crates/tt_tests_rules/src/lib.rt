@@ -9,6 +9,8 @@ mod attempts;
 #[cfg(test)]
 mod desk;
 #[cfg(test)]
+mod desk_words;
+#[cfg(test)]
 mod log;
 #[cfg(test)]
 mod map;

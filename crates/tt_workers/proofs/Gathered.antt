@@ -12,7 +12,7 @@ use Rattle.tt_workers.specs.Working.{CoreView, DoorView, TickView, Gathers}
 use Rattle.tt_workers.specs.Gathered.{Gathering}
 use Rattle.tt_workers.specs.declared.working.Worker.{Worker}
 
-total_map : {A B : Type 0} (f : B → ℕ) (g : A → B) (xs : List A) → total f (map g xs) ≡ total (λ x. f (g x)) xs
+pub total_map : {A B : Type 0} (f : B → ℕ) (g : A → B) (xs : List A) → total f (map g xs) ≡ total (λ x. f (g x)) xs
 total_map f g [] = refl
 total_map f g (x ∷ xs) = ap (λ n. f (g x) + n) (total_map f g xs)
 

@@ -131,6 +131,7 @@ module _ {C L : Type 0} (now : L → LinkNow) (told : List Event → ℕ → Lis
         shut = o.shut;
         events = refl;
         number = o.conn_is ∙ ap (λ (es : List Event). opens es + 1) (sym (front_is o.list (event.Open door row.peer ∷ []) history whole));
+        named = o.named;
         bytes = o.bytes;
         read = o.link;
         read_is = o.read_is;

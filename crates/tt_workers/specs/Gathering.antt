@@ -19,7 +19,7 @@ use Rattle.tt_edge.specs.Told.{Adds}
 use Rattle.tt_edge.specs.Link.{LinkCounts, Rises}
 use Rattle.tt_edge.specs.Listener.{DoorCounts, TickCounts, told_by}
 use Rattle.tt_workers.specs.Telling.{LinkNow, capped}
-use Rattle.tt_workers.specs.Hearing.{events_of, stream_events}
+use Rattle.tt_workers.specs.Hearing.{AreOn, events_of, stream_events}
 use Rattle.tt_workers.specs.Serving.{HasCause}
 use Rattle.tt_workers.specs.Ticking.{TicksEndSo}
 use Rattle.tt_workers.specs.Attending.{Row, IsFreshLink, AttendsEndSo}
@@ -54,6 +54,8 @@ module _ {L : Type 0} (now : L → LinkNow) (told : List Event → ℕ → List 
     pub events : own ≡ ((place, event.Open door row.peer) ∷ heard) ++ shut
     -- its number is the one that the history answers at that place, so it is 1 or more
     pub number : row.served.conn ≡ opens (take place history) + 1
+    -- each event behind the opening names this connection
+    pub named : AreOn row.served.conn heard
     -- the bytes that were read from the link: what was handed over are the first of their packets, and the bad size behind them
     pub bytes : List ℕ
     pub read : Appends (now row.came).read (now row.gone).read bytes

@@ -7,8 +7,8 @@ ghost use Rattle.tt_workers.specs.Delivering.{GoesOn};
 ghost use Rattle.tt_workers.specs.Attending.{is_memory, Asks, Attended};
 
 use crate::gate::Gate;
-use crate::rest::Rest;
 use crate::one_link::serve_link;
+use crate::rest::Rest;
 use std::alloc::Global;
 use std::sync::Wait;
 use std::time::Clock;

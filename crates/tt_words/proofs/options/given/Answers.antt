@@ -1,0 +1,9 @@
+use Rattle.std.proofs.Common.{◌∙◌}
+use Rattle.clap.proofs.WalkLemmas.{first_value-rows}
+use Rattle.clap.specs.Words.{found_of}
+use Rattle.tt_words.specs.Options.{given_for}
+use Rattle.tt_words.proofs.options.given.Goals as goal
+
+pub returns : goal.returns
+unfolding given_for
+returns c = c.get_str.ensures ∙ first_value-rows (found_of c.args.matches.now) c.args.name.now

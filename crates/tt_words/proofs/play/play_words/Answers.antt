@@ -1,0 +1,32 @@
+use Rattle.std.proofs.Common.{◌≡◌, ap, map, Err, rules}
+use Rattle.std.proofs.lemmas.Result.{IfOk-weaker}
+use Rattle.tt_words.specs.declared.command.WordsError.TheVariants.{Bad}
+use Rattle.tt_words.specs.declared.program.Program.TheVariants.{Play}
+use Rattle.tt_words.specs.Forms.{PlayMeans}
+use Rattle.tt_words.proofs.FormLaws.{play_fits}
+use Rattle.tt_words.proofs.FoundLaws.{found_bad, found_form, taken_bad}
+use Rattle.tt_words.proofs.play.play_words.Goals as goal
+
+pub returns-in-Err-clause-bad : goal.returns-in-Err-clause-bad
+returns-in-Err-clause-bad c e =
+    let bad : c.in-Err.error ≡ Bad = cc in
+    let same : map (λ word. word.now) c.as_slice.result.now ≡ c.args.args.now = search rules in
+    taken_bad Play PlayMeans c.args.args.now _ same (c.in-Err.ensures.bad (ap (λ x. Err x) bad))
+
+pub returns-clause-ok : goal.returns-clause-ok
+returns-clause-ok c =
+    let same : map (λ word. word.now) c.as_slice.result.now ≡ c.args.args.now = search rules in
+    found_form Play PlayMeans c.args.args.now _ _ c.play_of.result c.found.result same c.in-Ok-parsed.ensures.taken
+    c.in-Ok-parsed.ensures.rows c.play_of.ensures c.found.ensures
+
+pub returns-clause-fits : goal.returns-clause-fits
+returns-clause-fits c =
+    let same : map (λ word. word.now) c.as_slice.result.now ≡ c.args.args.now = search rules in
+    IfOk-weaker c.found.result _ _ (play_fits c.args.args.now) (found_form Play PlayMeans c.args.args.now _ _ c.play_of.result
+    c.found.result same c.in-Ok-parsed.ensures.taken c.in-Ok-parsed.ensures.rows c.play_of.ensures c.found.ensures)
+
+pub returns-clause-bad : goal.returns-clause-bad
+returns-clause-bad c =
+    let same : map (λ word. word.now) c.as_slice.result.now ≡ c.args.args.now = search rules in
+    found_bad Play PlayMeans c.args.args.now _ _ c.play_of.result c.found.result same c.in-Ok-parsed.ensures.rows
+    c.play_of.ensures c.found.ensures
