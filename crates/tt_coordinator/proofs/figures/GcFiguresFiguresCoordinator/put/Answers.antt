@@ -1,7 +1,7 @@
 use Rattle.std.proofs.Common.{ℕ, subst}
 use Rattle.tt_edge.specs.Count.{Rose}
 use Rattle.tt_serving.proofs.Pages.{puts-then, loses-then, loses-more}
-use Rattle.tt_server.proofs.figures.GameFiguresFigures.put.Goals as goal
+use Rattle.tt_coordinator.proofs.figures.GcFiguresFiguresCoordinator.put.Goals as goal
 
 pub returns-in-Ok-put_connections-clause-puts : goal.returns-in-Ok-put_connections-clause-puts
 returns-in-Ok-put_connections-clause-puts g c =
