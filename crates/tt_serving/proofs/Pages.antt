@@ -69,7 +69,8 @@ lost-behind a b c w t p q = record {
 }
 
 -- all that waited was written, and the text behind it
-pub put-behind : (a b c : Option (List ℕ)) (w w1 w2 w3 t : List ℕ) → w1 ≡ w → Appends a b w1 → w2 ≡ [] → w3 ≡ w2 → Appends b c t → Puts a c w w3 t
+pub put-behind : (a b c : Option (List ℕ)) (w w1 w2 w3 t : List ℕ) → w1 ≡ w → Appends a b w1 → w2 ≡ [] → w3 ≡ w2
+    → Appends b c t → Puts a c w w3 t
 put-behind a b c w w1 w2 w3 t e p n f q =
     let whole : Puts a c w [] t = flushed-then a b c w t (subst (λ (x : List ℕ). Appends a b x) e p) q in
     subst (λ (x : List ℕ). Puts a c w x t) (sym (f ∙ n)) whole

@@ -49,8 +49,8 @@ abbrev pub TickerFailed : {L A T : Type 0} → TickView T → Doors L A T → Do
 TickerFailed ticker before after = OfBoth before.ticker after.ticker (λ t t'. Rises (ticker.counts t).faults (ticker.counts t').faults)
 
 -- nothing failed: no count of faults is another than before
-pub record NothingFailed {L K A B T : Type 0} (game : DoorView L K) (admin : DoorView A B) (ticker : TickView T) (before after : Doors L A T)
-    (sink sink' : SinkNow) : Type 0 where
+pub record NothingFailed {L K A B T : Type 0} (game : DoorView L K) (admin : DoorView A B) (ticker : TickView T)
+    (before after : Doors L A T) (sink sink' : SinkNow) : Type 0 where
   pub game_doors : NoneFailed game before.game.items after.game.items
   pub admin_doors : NoneFailed admin before.admin.items after.admin.items
   pub clock : OfBoth before.ticker after.ticker (λ t t'. (ticker.counts t').faults ≡ (ticker.counts t).faults)
