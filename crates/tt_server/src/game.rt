@@ -55,7 +55,9 @@ fn world_in(alloc: Global, bytes: &[u8]) -> Result<World, NoGame>
             Ok(world)
         }
         Err(MapBad::Memory) => Err(NoGame::Memory),
-        Err(_) => Err(NoGame::BadMap),
+        Err(MapBad::Tag(_)) => Err(NoGame::BadMap),
+        Err(MapBad::Version(_)) => Err(NoGame::BadMap),
+        Err(MapBad::Chunk { .. }) => Err(NoGame::BadMap),
     }
 }
 

@@ -18,4 +18,4 @@ returns-in-Err-clause-loses g c =
     let held = g.K.Sink.held in
     lines-lost (held c.args.sink.now) (held c.loop-before.sink) (held c.put_count.new.sink) c.args.page.now c.loop-before.page
     (λ (conn : ℕ). length (sent (made_of c.args.hub.now) c.args.hub.now.events conn)) c.loop-before.before _ _ _ _ refl c.sent_len.ensures.count c.loop-before-test.true
-    c.connections.ensures.connections c.loop-before.invariant.puts c.in-Err.ensures.loses
+    c.connections-before-end.ensures.connections c.loop-before.invariant.puts c.in-Err.ensures.loses

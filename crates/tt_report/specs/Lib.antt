@@ -1,0 +1,4 @@
+pub mod Worlds
+pub mod Entries
+pub mod Clients
+pub mod Summary
