@@ -7,6 +7,7 @@ use Rattle.std.proofs.lemmas.Bool.{eqb-true, eq-eqb, ne_eqb, true≢false}
 use Rattle.std.proofs.lemmas.Option.{slice_get_within, slice_get-get_or, get_or_from_slice_get}
 use Rattle.tt_client.specs.Calls.{Call, Feed, Advance, Submit, Take}
 use Rattle.tt_client.specs.Held.{Held, held, held_after, held_first, with_call}
+use Rattle.tt_client.specs.declared.login.Login.{Login}
 use Rattle.tt_edge.specs.declared.event.Event.{Event}
 use Rattle.tt_edge.specs.Event.{opens}
 use Rattle.tt_frame.specs.Stream.{rest_of}
@@ -59,7 +60,7 @@ pub record IsPlaced (play : Play) (conn : ℕ) : Type 0 where
   pub is : place + 1 ≡ conn
   pub low : place < length play.connections.items
 
-nothing_there : ◌≡◌ {A = Bool} (is_some {A = Held} None) true → ⊥
+nothing_there : ◌≡◌ {A = Bool} (is_some {T = Held} None) true → ⊥
 nothing_there e = true≢false (sym e)
 
 placed_by : (play : Play) (place : ℕ) (x : Option Connection) → slice_get play.connections.items place ≡ x → is_some (client_on x) ≡ true
@@ -323,6 +324,22 @@ pub done_so : (o : Origin) (play : Play) (p : Played) (line : Line1) (b : Bool) 
 done_so o play p line b at is =
     ap (λ (c : Bool). if c then one_refused p else did o p line) (sym (refused_is o play p at line) ∙ is)
 
+-- ---- what a client joins with
+
+abbrev pub login : ℕ → List ℕ → List ℕ → List ℕ → List ℕ → Login
+login company revision name password own = record {
+  revision = revision;
+  grf = 13;
+  name = name;
+  company = company;
+  password = password;
+  company_password = own;
+}
+
+pub login_is : (company : ℕ) (r s n m p q a b : List ℕ) → r ≡ s → n ≡ m → p ≡ q → a ≡ b → login company r n p a ≡ login company s m q b
+login_is company r s n m p q a b one two three four =
+    ap₂ (λ (x y : List ℕ). login company x y p a) one two ∙ ap₂ (λ (x y : List ℕ). login company s m x y) three four
+
 -- ---- a client that runs
 
 some_by : (x : Option Held) → runs_with x ≡ true → is_some x ≡ true
@@ -352,3 +369,18 @@ pub sayings_there : (o : Origin) (play : Play) (p : Played) (conn place : ℕ) (
     → place < length play.connections.items → c ≡ slice_index_or play.connections.items place c → AreSayings c.client
 sayings_there o play p conn place c at is low read =
     subst AreSayings (sym (client_is o play p conn at) ∙ client_there play conn place c is low read) (sayings_fit (p.clients conn))
+
+-- ---- one line behind another
+
+-- a client whose calls go on is still there
+pub still_some : (o : Origin) (play next : Play) (p : Played) (conn : ℕ) (change : Attached → Attached) → IsAt o play p
+    → is_some (client_at play conn) ≡ true → IsAt o next (on_client conn change p) → is_some (client_at next conn) ≡ true
+still_some o play next p conn change at some behind =
+    let with = attached_is o play p conn at some in
+    ap (λ (x : Option Held). is_some x) (client_is o next (on_client conn change p) conn behind
+    ∙ ap client_in (with_here conn (changed change (p.clients conn)) p.clients ∙ ap (changed change) with.is))
+
+pub gone_live : (a b : Bool) → a || not b ≡ false → b ≡ true
+gone_live true b is = absurd (true≢false is)
+gone_live false true is = refl
+gone_live false false is = absurd (true≢false is)

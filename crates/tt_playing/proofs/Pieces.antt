@@ -2,11 +2,14 @@
 use Rattle.std.proofs.Common.{◌≡◌, ℕ, zero, suc, ◌+◌, ◌-◌, ◌≤◌, ◌<◌, List, [], ◌∷◌, ◌++◌, length, take, drop, refl, sym, ap, ap₂, ◌∙◌, arith}
 use Rattle.std.proofs.lemmas.List.{append-nil, drop-drop, length-append, length-drop, length-take}
 
+take-none : (n : ℕ) → take {A = ℕ} n [] ≡ []
+take-none zero = refl
+take-none (suc n) = refl
+
 -- a front, and the front of what is behind it
 pub take-more : (n k : ℕ) (xs : List ℕ) → take n xs ++ take k (drop n xs) ≡ take (n + k) xs
 take-more zero k xs = let same : 0 + k ≡ k = omega arith in ap (λ m. take m xs) (sym same)
-take-more (suc n) zero [] = refl
-take-more (suc n) (suc k) [] = refl
+take-more (suc n) k [] = take-none k ∙ sym (take-none (suc n + k))
 take-more (suc n) k (x ∷ xs) =
     let one : suc n + k ≡ suc (n + k) = omega arith in
     ap (λ (ys : List ℕ). x ∷ ys) (take-more n k xs) ∙ ap (λ (m : ℕ). take m (x ∷ xs)) (sym one)
@@ -34,13 +37,13 @@ take-self (suc n) (x ∷ xs) ys within = ap (λ (zs : List ℕ). x ∷ zs) (take
 
 pub record IsTaken (whole bytes : List ℕ) (before now : ℕ) : Type 0 where
   pub front : bytes ≡ take (length bytes) (drop before whole)
-  pub now : now ≡ before + length bytes
+  pub until : now ≡ before + length bytes
 
 -- a piece more
 pub taken_on : (whole bytes next : List ℕ) (before now later count : ℕ) → IsTaken whole bytes before now → count ≤ length whole - now
     → next ≡ bytes ++ take count (drop now whole) → later ≡ now + count → IsTaken whole next before later × (length next ≡ length bytes + count)
 taken_on whole bytes next before now later count is fits more then =
-    let behind : drop now whole ≡ drop (length bytes) (drop before whole) = ap (λ (n : ℕ). drop n whole) is.now
+    let behind : drop now whole ≡ drop (length bytes) (drop before whole) = ap (λ (n : ℕ). drop n whole) is.until
     ∙ sym (drop-drop (length bytes) before whole) in
     let size : length (take count (drop now whole)) ≡ count = omega (arith, length-take count (drop now whole), length-drop now whole, fits) in
     let long : length next ≡ length bytes + count = ap length more ∙ length-append bytes (take count (drop now whole))
@@ -48,7 +51,7 @@ taken_on whole bytes next before now later count is fits more then =
       record {
         front = more ∙ ap₂ (λ (xs ys : List ℕ). xs ++ take count ys) is.front behind ∙ take-more (length bytes) count (drop before whole)
             ∙ ap (λ (n : ℕ). take n (drop before whole)) (sym long);
-        now = omega (arith, then, is.now, long);
+        until = omega (arith, then, is.until, long);
       },
       long,
     )
@@ -57,7 +60,7 @@ taken_on whole bytes next before now later count is fits more then =
 pub taken_all : (whole bytes : List ℕ) (before now n : ℕ) → IsTaken whole bytes before now → length whole ≤ now → length bytes ≤ n
     → bytes ≡ take n (drop before whole)
 taken_all whole bytes before now n is end within =
-    let few : length (drop before whole) ≤ length bytes = omega (arith, length-drop before whole, end, is.now) in
+    let few : length (drop before whole) ≤ length bytes = omega (arith, length-drop before whole, end, is.until) in
     is.front ∙ take-all (length bytes) (drop before whole) few
     ∙ sym (take-all n (drop before whole) (omega (arith, few, within)))
 

@@ -6,7 +6,7 @@ use Rattle.tt_lockstep.specs.Runner.{Runner}
 use Rattle.tt_world.specs.declared.command.Command.{Command}
 use Rattle.tt_world.specs.declared.command.Entry.{Entry}
 use Rattle.tt_world.specs.World.{WorldState}
-use Rattle.tt_log.specs.Shown.{Item, Place, goes_on}
+use Rattle.tt_log.specs.Shown.{Item, goes_on, item_told}
 use Rattle.tt_client.specs.declared.login.Login.{Login}
 use Rattle.tt_client.specs.declared.waiting.Ack.{Ack}
 use Rattle.tt_client.specs.Answers.{answer, command_bytes}
@@ -78,7 +78,9 @@ by_choice true p q one other = one
 by_choice false p q one other = other
 
 heard_fits : (login : Login) (i : Item) (p : P) → IsSaying p.saying → IsSaying (heard running login i p).saying
-heard_fits login i p fits = by_choice (is_on running login p) _ p (heard_as_fits login i _ _ p fits) fits
+heard_fits login i p fits =
+    let runs = running.hears p.runs (item_told p.place i.msg) in
+    by_choice (is_on running login p) (heard_as login i (running.mark runs) runs p) p (heard_as_fits login i (running.mark runs) runs p fits) fits
 
 all_heard_fit : (login : Login) (items : List Item) (p : P) → IsSaying p.saying → IsSaying (heard_all running login items p).saying
 all_heard_fit login [] p fits = fits
@@ -89,13 +91,20 @@ acks_fit true frame p fits = ack_fits frame p.saying
 acks_fit false frame p fits = fits
 
 advanced_fits : (login : Login) (n : ℕ) (p : P) → IsSaying p.saying → IsSaying (advanced running login n p).saying
-advanced_fits login n p fits = by_choice (is_on running login p) _ p (acks_fit _ _ _ fits) fits
+advanced_fits login n p fits =
+    let runs = running.advanced n p.runs in
+    let old = running.frame p.runs in
+    let frame = running.frame runs in
+    let permitted = running.permitted runs in
+    by_choice (is_on running login p) (run_as old frame permitted runs p) p
+    (acks_fit (nat_lt old frame && is_due p.acked permitted frame) frame (record p { runs = runs }) fits) fits
 
 stepped_fits : (login : Login) (s : Step) (p : P) → IsSaying p.saying → IsSaying (stepped running login p s).saying
 stepped_fits login (Hear i) p fits = heard_fits login i p fits
 stepped_fits login (Run n) p fits = advanced_fits login n p fits
 stepped_fits login (Say company command) p fits =
-    by_choice (is_on running login p && plays (running.mark p.runs)) _ p (bytes_fit (command_bytes company command) p.saying fits) fits
+    by_choice (is_on running login p && plays (running.mark p.runs)) (record p { saying = with_bytes (command_bytes company command) p.saying })
+    p (bytes_fit (command_bytes company command) p.saying fits) fits
 stepped_fits login (Give room) p fits = taken_fits room p.saying fits
 
 by_choice_held : (b : Bool) (g h : Held) → IsSaying g.player.saying → IsSaying h.player.saying → IsSaying (if b then g else h).player.saying
@@ -104,7 +113,10 @@ by_choice_held false g h one other = other
 
 call_fits : (h : Held) (c : Call) → IsSaying h.player.saying → IsSaying (with_call h c).player.saying
 call_fits h (Feed piece) fits =
-    by_choice_held (is_on running h.login h.player) _ h (all_heard_fit h.login (cut_at h.at (h.rest ++ piece)).items h.player fits) fits
+    let cut = cut_at h.at (h.rest ++ piece) in
+    by_choice_held (is_on running h.login h.player)
+    (record h { player = heard_all running h.login cut.items h.player; rest = cut.rest; at = cut.at }) h
+    (all_heard_fit h.login cut.items h.player fits) fits
 call_fits h (Advance n) fits = stepped_fits h.login (Run n) h.player fits
 call_fits h (Submit company command) fits = stepped_fits h.login (Say company command) h.player fits
 call_fits h (Take room) fits = stepped_fits h.login (Give room) h.player fits

@@ -2,7 +2,7 @@
 //!
 //! However many bytes a line asks for, no more room is taken than there are bytes.
 ghost use Rattle.std.specs.Prelude.{◌≡◌, ◌≢◌, ◌+◌, ◌-◌, ◌≤◌, ◌++◌, ℕ, true, false, length, min, take, drop, is_some, IfOk, OnOk};
-ghost use Rattle.tt_client.specs.Calls.{Take};
+ghost use Rattle.tt_client.specs.Calls.{Feed, Take};
 ghost use Rattle.tt_client.specs.Held.{with_call};
 ghost use Rattle.tt_client.specs.Saying.{IsSaying, bytes_of};
 ghost use Rattle.tt_hub.specs.Hub.{origin, taken};
@@ -14,7 +14,7 @@ ghost use Rattle.tt_playing.specs.Playing.{IsAt, Stands, client_at};
 
 use crate::attached::{feed_client, place_with, run};
 use crate::events::{feed, is_gone};
-use crate::play::Play;
+use crate::play::{Connection, Play};
 use std::alloc::Global;
 use tt_client::Client;
 use tt_edge::Core;
@@ -52,15 +52,34 @@ pub(crate) fn bring_down(
 ) -> Result<(), OutOfMemory>
     requires client { is_some (client_at play.old conn) ≡ true }
     ensures at { (o : Origin) (p : Played) → IsAt o play.old p → OnOk result (IsAt o play.new (brought_down o conn n p)) }
-    ensures client { OnOk result (is_some (client_at play.new conn) ≡ true) }
     ensures keeps { play.new.keeps ≡ play.old.keeps }
 {
     let place = place_with(play, conn);
+    let keeps = play.keeps;
     let piece = take_sent(alloc, &mut play.hub, conn, n)?;
-    if play.keeps {
-        play.connections[place].told.extend_from_slice(&piece)?;
+    hand(&mut play.connections[place], &piece, keeps)?;
+    Ok(())
+}
+
+/// Hands a piece to the client of a connection, and keeps it where that is asked for.
+fn hand(connection: &mut Connection, piece: &[u8], keeps: bool) -> Result<(), OutOfMemory>
+    ensures client { OnOk result (connection.new.client ≡ after_call (Feed piece.now) connection.old.client) }
+    ensures told { keeps ≡ true → OnOk result (connection.new.told.items ≡ connection.old.told.items ++ piece.now) }
+    ensures door { connection.new.door ≡ connection.old.door }
+    ensures rest { connection.new.rest.items ≡ connection.old.rest.items }
+{
+    keep(&mut connection.told, piece, keeps)?;
+    feed_client(&mut connection.client, piece)?;
+    Ok(())
+}
+
+/// Keeps a piece where that is asked for.
+fn keep(told: &mut Vec<u8>, piece: &[u8], keeps: bool) -> Result<(), OutOfMemory>
+    ensures told { keeps ≡ true → OnOk result (told.new.items ≡ told.old.items ++ piece.now) }
+{
+    if keeps {
+        told.extend_from_slice(piece)?;
     }
-    feed_client(&mut play.connections[place].client, &piece)?;
     Ok(())
 }
 

@@ -164,31 +164,84 @@ fn bad_scripts() -> [(&'static [u8], u8); 30] {
     ]
 }
 
-/// Scripts with a line of an attached client, and its number, as a digit.
-fn unplayed_scripts() -> [(&'static [u8], u8); 9] {
+/// Scripts with lines that are refused, and the reports.
+fn refused_lines() -> [(&'static [u8], &'static [u8]); 6] {
     [
-        (b"join 61 255 - -\n", b'1'),
-        (b"open\nup 1 1\n", b'2'),
-        (b"down 1 1", b'1'),
-        (b"= a\nrun 1 1\n", b'2'),
-        (b"side\nstop\npump 1\n", b'3'),
-        (b"do 1 loan 10000\n", b'1'),
-        (b"open\nshut 1\nforge 1 00\n", b'3'),
-        (b"set cost 64\nset pw 7077\njoin 61 255 - -\n", b'3'),
-        (b"tick 1000000\ndo 1 repay 10000\n", b'2'),
+        (
+            b"up 1 1\ndown 0 1\n",
+            b"server 0 0 00000000 00000000 0 0 0\nrefused 2\n",
+        ),
+        (
+            b"open\nup 1 1\ndown 1 1\nrun 1 1\npump 1\ndo 1 loan 10000\nforge 1 00\n",
+            b"conn 1 game live -\nserver 0 0 00000000 00000000 0 0 0\nrefused 6\n",
+        ),
+        (
+            b"stop\njoin 61 255 - -\npump 1\n",
+            b"server 0 0 00000000 00000000 0 0 0\nrefused 2\n",
+        ),
+        // Behind the end a client is still told what its connection was, and has nobody to say anything to.
+        (
+            b"join 61 255 - -\nstop\npump 1\ndown 1 5\nup 1 5\n",
+            b"conn 1 game ended 030025\nclient 1 shutdown\nserver 0 0 00000000 00000000 0 0 0\nrefused 1\n",
+        ),
+        (
+            b"join 61 255 - -\ndo 1 loan 10000\nup 1 0\ndown 1 0\nrun 1 5\n",
+            b"conn 1 game live -\nclient 1 joining\nserver 0 0 00000000 00000000 0 0 0\nrefused 1\n",
+        ),
+        // Bytes that no server sends.
+        (
+            b"join 61 255 - -\nforge 1 0000\n",
+            b"conn 1 game live -\nclient 1 wrong 0\nserver 0 0 00000000 00000000 0 0 0\n",
+        ),
     ]
 }
 
 #[test]
-fn a_line_that_is_not_played_is_told(rt: HostRuntime) -> Result<(), Fail> {
+fn lines_of_clients_are_refused(rt: HostRuntime) -> Result<(), Fail> {
     let alloc = rt.alloc();
-    for (input, line) in unplayed_scripts() {
-        let trial = run(alloc, input)?;
-        let mut told = b"script: line ".to_vec(alloc)?;
-        told.push(line)?;
-        told.push(b'\n')?;
-        assert_eq!(rt; trial.status, 3);
-        assert_eq!(rt; trial.written.as_slice(), told.as_slice());
+    for (script, report) in refused_lines() {
+        let trial = run(alloc, script)?;
+        assert_eq!(rt; trial.written.as_slice(), report);
+    }
+    Ok(())
+}
+
+/// Scripts with attached clients, and how their reports end.
+fn client_games() -> [(&'static [u8], &'static [u8]); 3] {
+    [
+        // Two clients, one of whom joins while the other one founds a company.
+        (
+            b"set frame_freq 3\njoin 416e6e 254 - -\npump 1\npump 1\ntick 1\npump 1\npump 1\ntick 1\njoin 426f62 254 - -\n\
+                pump 2\npump 2\ntick 1\npump 2\npump 2\ntick 2\ndown 1 4294967295\nrun 1 1\ndown 2 4294967295\nrun 2 1\n",
+            b"\nentry 5 1 255 8 2 0 -\nentry 5 1 255 8 3 0 -\nclient 1 running 5 69893761 9aeeef20 0 5 0\n\
+                company 0 100000 100000 436f6d70616e792031 507265736964656e74\n\
+                company 1 100000 100000 436f6d70616e792032 507265736964656e74\n\
+                client 2 running 5 69893761 9aeeef20 0 5 0\n\
+                company 0 100000 100000 436f6d70616e792031 507265736964656e74\n\
+                company 1 100000 100000 436f6d70616e792032 507265736964656e74\n\
+                server 5 8 69893761 9aeeef20 0 5 0\n\
+                company 0 100000 100000 436f6d70616e792031 507265736964656e74\n\
+                company 1 100000 100000 436f6d70616e792032 507265736964656e74\n",
+        ),
+        // A join that has come half way.
+        (
+            b"join 416e6e 255 - -\npump 1\npump 1\ntick 1\ndown 1 40\n",
+            b"\nclient 1 joining\nserver 1 1 fe2468ad ffffffff 0 1 0\n",
+        ),
+        // A client that is told another word than its own.
+        (
+            b"join 416e6e 255 - -\npump 1\npump 1\ntick 1\npump 1\npump 1\nforge 1 0b00160100000000000000\n",
+            b"\nclient 1 desync 1 fe2468ad 00000000\nserver 1 1 fe2468ad ffffffff 0 1 0\n",
+        ),
+    ]
+}
+
+#[test]
+fn clients_run_with_the_game(rt: HostRuntime) -> Result<(), Fail> {
+    let alloc = rt.alloc();
+    for (script, end) in client_games() {
+        let trial = run(alloc, script)?;
+        assert!(rt; trial.written.ends_with(end));
     }
     Ok(())
 }

@@ -1,5 +1,6 @@
 //! The text of a summary: its lines, one by one.
-ghost use Rattle.std.specs.Prelude.{◌≡◌, ◌++◌, OnOk};
+ghost use Rattle.std.specs.Prelude.{◌≡◌, ◌++◌, OnOk, codes};
+ghost use Rattle.std.specs.Fmt.{decimal};
 ghost use Rattle.tt_report.specs.Summary.{connections_line, frame_line, entries_line, words_line, count_line, refused_line, running_line};
 
 use crate::worlds::put_words;
@@ -11,8 +12,15 @@ use tt_world::Random;
 pub fn put_connections(text: &mut Vec<u8>, connections: u32) -> Result<(), OutOfMemory>
     ensures text { OnOk result (text.new.items ≡ text.old.items ++ connections_line connections) }
 {
-    put(text, b"connections ")?;
-    put_number(text, connections)?;
+    put_named(text, b"connections ", connections)
+}
+
+/// Appends a line of a name and a number.
+fn put_named(text: &mut Vec<u8>, name: &[u8], number: u32) -> Result<(), OutOfMemory>
+    ensures text { OnOk result (text.new.items ≡ text.old.items ++ (name.now ++ decimal number ++ codes "\n")) }
+{
+    put(text, name)?;
+    put_number(text, number)?;
     put(text, b"\n")?;
     Ok(())
 }

@@ -9,7 +9,7 @@ use Rattle.tt_playing.specs.Played.{joined, opened}
 use Rattle.tt_playing.specs.declared.play.Play.{Play}
 use Rattle.tt_playing.specs.declared.play.Connection.{Connection}
 use Rattle.tt_playing.proofs.Histories.{opened_one}
-use Rattle.tt_playing.proofs.Lines.{with_elsewhere, with_new}
+use Rattle.tt_playing.proofs.Lines.{login_is, with_elsewhere, with_new}
 use Rattle.tt_playing.proofs.Plays.{at_opening}
 use Rattle.tt_playing.proofs.attached.attach.Goals as goal
 
@@ -17,9 +17,9 @@ pub new-requires : goal.new-requires
 new-requires c =
     let words = c.requires.line.0 in
     record {
-      name = length_of_text 24 c.args.name.now words.1.text;
-      password = length_of_text 32 c.args.password.now words.3.text;
-      company_password = length_of_text 32 c.args.own.now words.4.text;
+      name = length_of_text 24 c.args.name.now words.1.0.text;
+      password = length_of_text 32 c.args.password.now words.1.1.1.0.text;
+      company_password = length_of_text 32 c.args.own.now words.1.1.1.1.0.text;
     }
 
 pub returns-clause-at : goal.returns-clause-at
@@ -33,7 +33,8 @@ returns-clause-at c o p at =
     let same = opened_one p.events Main in
     let here : q.clients number ≡ Some (fresh login) = with_new (opens (opened Main p).events) number (Some (fresh login)) p.clients (sym same) in
     let first : Some c.in_ok-client.client ≡ client_in (Some (fresh login)) = ap Some (c.in_ok-client.ensures.first
-    ∙ ap (λ (r : List ℕ). held_first (record login { revision = r })) at.revision) in
+    ∙ ap held_first (login_is c.args.company _ o.setup.revision _ c.args.name.now _ c.args.password.now _ c.args.own.now
+    (c.copy.ensures ∙ at.revision) c.copy-2.ensures c.copy-3.ensures c.copy-4.ensures)) in
     at_opening o play next p Main new q.clients at c.in_ok-put_opening.ensures.origin c.in_ok-put_opening.ensures.events
     c.in_ok-put_opening.ensures.taken refl refl refl c.in_ok-push.ensures.items refl c.new-2.ensures.items c.new-3.ensures.items
     (λ conn apart. with_elsewhere (opens (opened Main p).events) conn (Some (fresh login)) p.clients (λ e. apart (e ∙ same)))

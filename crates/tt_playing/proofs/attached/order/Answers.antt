@@ -7,13 +7,15 @@ use Rattle.tt_playing.specs.declared.play.Connection.{Connection}
 use Rattle.tt_playing.proofs.Lines.{at_call, client_called, runs_some, running_there}
 use Rattle.tt_playing.proofs.attached.order.Goals as goal
 
-pub place_with-requires : goal.place_with-requires
-place_with-requires c = record { client = runs_some _ c.requires.running }
+pub place_with-place-requires : goal.place_with-place-requires
+place_with-place-requires c = record { client = runs_some _ c.requires.running }
 
 pub submit-requires : goal.submit-requires
 submit-requires c =
-    record { running = running_there c.args.play.now c.args.conn _ c.index_mut.result.now c.place_with-place.ensures.place
-        c.place_with-place.ensures.within c.index_mut.ensures.value c.requires.running }
+    record {
+      running = running_there c.args.play.now c.args.conn _ c.index_mut.result.now c.place_with-place.ensures.place
+          c.place_with-place.ensures.within c.index_mut.ensures.value c.requires.running;
+    }
 
 pub returns-clause-at : goal.returns-clause-at
 returns-clause-at c o p at =

@@ -1,4 +1,4 @@
-use Rattle.std.proofs.Common.{◌≡◌, ◌-◌, ◌≤◌, ◌∙◌, ℕ, List, length, ap₂, arith}
+use Rattle.std.proofs.Common.{◌≡◌, ◌-◌, ◌≤◌, ◌<◌, ◌∙◌, ℕ, List, length, ap₂, arith}
 use Rattle.tt_edge.specs.declared.event.Event.{Event}
 use Rattle.tt_hub.specs.Hub.{origin, taken}
 use Rattle.tt_log.specs.Origin.{Origin}
@@ -6,8 +6,8 @@ use Rattle.tt_log.specs.Told.{sent}
 use Rattle.tt_playing.proofs.Pieces.{taken_on, taken_all, taken_so}
 use Rattle.tt_playing.proofs.bringing.take_sent.Goals as goal
 
-pub loop-pieces-preserved : goal.loop-pieces-preserved
-loop-pieces-preserved c =
+pub pieces-preserved : goal.pieces-preserved
+pieces-preserved c =
     let so_far = c.pieces.invariant in
     let put = c.in_ok-count.ensures in
     let hub = c.pieces.hub in

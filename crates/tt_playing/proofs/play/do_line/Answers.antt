@@ -10,3 +10,9 @@ returns-then-is_refused-clause-at c o p at =
     subst (λ (q : Played). OnOk c.refuse.result (IsAt o c.refuse.new.play q))
     (sym (done_so o c.args.play.now p c.args.line.now _ at (sym c.is_refused.ensures.refused ∙ c.if-is_refused.true)))
     (c.refuse.ensures.at o p at)
+
+pub returns-else-is_refused-clause-at : goal.returns-else-is_refused-clause-at
+returns-else-is_refused-clause-at c o p at =
+    subst (λ (q : Played). OnOk c.do_accepted.result (IsAt o c.do_accepted.new.play q))
+    (sym (done_so o c.args.play.now p c.args.line.now _ at (sym c.is_refused.ensures.refused ∙ c.if-is_refused.false)))
+    (c.do_accepted.ensures.at o p at)

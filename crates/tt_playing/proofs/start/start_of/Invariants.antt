@@ -5,9 +5,9 @@ use Rattle.tt_log.specs.declared.script.step.Step.{Step}
 use Rattle.tt_playing.proofs.start.start_of.Given as goal
 
 -- the reader stands behind some steps, and the start is what they say
-abbrev pub invariant-loop-start : goal.invariant-loop-start
-invariant-loop-start l = (steps : List Step) × (IsAt l.reader l.bytes steps × (l.start.setup ≡ setup_of steps)
+abbrev pub invariant-loop-step : goal.invariant-loop-step
+invariant-loop-step l = (steps : List Step) × (IsAt l.reader l.bytes steps × (l.start.setup ≡ setup_of steps)
     × (l.start.saved.items ≡ saved_in steps))
 
-abbrev pub decreases-loop-start : goal.decreases-loop-start
-decreases-loop-start l = length l.reader.rest
+abbrev pub decreases-loop-step : goal.decreases-loop-step
+decreases-loop-step l = length l.reader.rest

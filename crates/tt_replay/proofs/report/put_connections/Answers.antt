@@ -1,7 +1,10 @@
 use Rattle.std.proofs.Common.{◌∙◌, arith}
 use Rattle.tt_hub.specs.Hub.{origin}
-use Rattle.tt_replay.proofs.Reports.{next_line}
+use Rattle.tt_replay.proofs.Reports.{next_line, still_to_be_told}
 use Rattle.tt_replay.proofs.report.put_connections.Goals as goal
+
+pub put_connection-requires : goal.put_connection-requires
+put_connection-requires c = ?
 
 pub loop-connection-preserved : goal.loop-connection-preserved
 loop-connection-preserved c =
