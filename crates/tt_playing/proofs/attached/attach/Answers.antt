@@ -1,4 +1,4 @@
-use Rattle.std.proofs.Common.{◌≡◌, ◌≢◌, ◌+◌, ℕ, arith, refl, ap, sym, ◌∙◌, Some, Option, subst, List}
+use Rattle.std.proofs.Common.{◌≡◌, ◌≢◌, ◌≤◌, ◌+◌, length, ℕ, arith, refl, ap, sym, ◌∙◌, Some, Option, subst, List}
 use Rattle.tt_edge.specs.Event.{opens}
 use Rattle.tt_edge.specs.declared.event.Door.TheVariants.{Main}
 use Rattle.tt_frame.proofs.TextLaws.{length_of_text}
@@ -17,9 +17,10 @@ pub new-requires : goal.new-requires
 new-requires c =
     let words = c.requires.line.0 in
     record {
-      name = length_of_text 24 c.args.name.now words.1.0.text;
-      password = length_of_text 32 c.args.password.now words.1.1.1.0.text;
-      company_password = length_of_text 32 c.args.own.now words.1.1.1.1.0.text;
+      name = subst (λ (xs : List ℕ). length xs ≤ 24) (sym c.copy-2.ensures) (length_of_text 24 c.args.name.now words.1.0.text);
+      password = subst (λ (xs : List ℕ). length xs ≤ 32) (sym c.copy-3.ensures) (length_of_text 32 c.args.password.now words.1.1.1.0.text);
+      company_password = subst (λ (xs : List ℕ). length xs ≤ 32) (sym c.copy-4.ensures) (length_of_text 32 c.args.own.now
+          words.1.1.1.1.0.text);
     }
 
 pub returns-clause-at : goal.returns-clause-at

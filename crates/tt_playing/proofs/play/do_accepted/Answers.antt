@@ -1,7 +1,8 @@
-use Rattle.std.proofs.Common.{sym, subst}
+use Rattle.std.proofs.Common.{sym, subst, List, ℕ}
 use Rattle.std.specs.Prelude.{OnOk}
 use Rattle.tt_log.specs.declared.script.line.Line1.{Line1}
-use Rattle.tt_playing.specs.Played.{did}
+use Rattle.tt_playing.specs.Attached.{misled}
+use Rattle.tt_playing.specs.Played.{did, on_client}
 use Rattle.tt_playing.specs.Playing.{IsAt}
 use Rattle.tt_playing.proofs.play.do_accepted.Goals as goal
 
@@ -23,4 +24,6 @@ returns-in-Do-clause-at c o p at =
 
 pub returns-in-Forge-clause-at : goal.returns-in-Forge-clause-at
 returns-in-Forge-clause-at c o p at =
-    subst (λ (l : Line1). OnOk c.forge.result (IsAt o c.forge.new.play (did o p l))) (sym c.in-Forge.is) (c.forge.ensures.at o p at)
+    subst (λ (l : Line1). OnOk c.forge.result (IsAt o c.forge.new.play (did o p l))) (sym c.in-Forge.is)
+    (subst (λ (xs : List ℕ). OnOk c.forge.result (IsAt o c.forge.new.play (on_client c.in-Forge.conn (misled xs) p)))
+    c.bytes-in-Forge.ensures.bytes (c.forge.ensures.at o p at))
