@@ -1,5 +1,6 @@
 -- Lines of attached clients, and which lines are refused.
-use Rattle.std.proofs.Common.{◌≡◌, ◌≢◌, ℕ, zero, suc, ◌+◌, ◌-◌, ◌≤◌, ◌<◌, Bool, true, false, not, ◌||◌, List, [], ◌∷◌, ◌++◌, length, take, drop}
+use Rattle.std.proofs.Common.{◌≡◌, ◌≢◌, ℕ, zero, suc, ◌+◌, ◌-◌, ◌≤◌, ◌<◌, Bool, true}
+use Rattle.std.proofs.Common.{false, not, ◌||◌, List, [], ◌∷◌, ◌++◌, length, take, drop}
 use Rattle.std.proofs.Common.{refl, sym, ap, ap₂, subst, ◌∙◌, arith, Option, Some, None}
 use Rattle.std.specs.Prelude.{◌==◌, slice_get, slice_index_or, slice_set, if◌then◌else◌, is_some}
 use Rattle.std.proofs.lemmas.List.{append-nil, length-drop, length-take, length-set, get_or-set_same, get_or-set_other}
@@ -21,7 +22,8 @@ use Rattle.tt_log.specs.declared.script.line.Line1.TheVariants.{Expect}
 use Rattle.tt_world.specs.declared.command.Command.{Command}
 use Rattle.tt_playing.specs.declared.play.Play.{Play}
 use Rattle.tt_playing.specs.declared.play.Connection.{Connection}
-use Rattle.tt_playing.specs.Attached.{Attached, AreSayings, after_call, after_order, called, changed, client_in, client_of, given_in, handed, misled}
+use Rattle.tt_playing.specs.Attached.{Attached, AreSayings, after_call, after_order, called, changed}
+use Rattle.tt_playing.specs.Attached.{client_in, client_of, given_in, handed, misled}
 use Rattle.tt_playing.specs.Attached.{next_of, runs_with, with_client}
 use Rattle.tt_playing.specs.Played.{Played, did, done, is_gone, is_over, is_refused, on_client, one_refused, refuses}
 use Rattle.tt_playing.specs.Playing.{IsKept, IsAt, client_at, client_on, refused_by}

@@ -1,5 +1,6 @@
 -- Pieces that are taken one behind the other.
-use Rattle.std.proofs.Common.{◌≡◌, ℕ, zero, suc, ◌+◌, ◌-◌, ◌≤◌, ◌<◌, List, [], ◌∷◌, ◌++◌, length, take, drop, refl, sym, ap, ap₂, ◌∙◌, arith}
+use Rattle.std.proofs.Common.{◌≡◌, ℕ, zero, suc, ◌+◌, ◌-◌, ◌≤◌, ◌<◌, List, [], ◌∷◌}
+use Rattle.std.proofs.Common.{◌++◌, length, take, drop, refl, sym, ap, ap₂, ◌∙◌, arith}
 use Rattle.std.proofs.lemmas.List.{append-nil, drop-drop, length-append, length-drop, length-take}
 
 take-none : (n : ℕ) → take {A = ℕ} n [] ≡ []
@@ -41,11 +42,18 @@ pub record IsTaken (whole bytes : List ℕ) (before now : ℕ) : Type 0 where
 
 -- a piece more
 pub taken_on : (whole bytes next : List ℕ) (before now later count : ℕ) → IsTaken whole bytes before now → count ≤ length whole - now
-    → next ≡ bytes ++ take count (drop now whole) → later ≡ now + count → IsTaken whole next before later × (length next ≡ length bytes + count)
+    → next ≡ bytes ++ take count (drop now whole) → later ≡ now + count → IsTaken whole next before later ×
+    (length next ≡ length bytes + count)
 taken_on whole bytes next before now later count is fits more then =
     let behind : drop now whole ≡ drop (length bytes) (drop before whole) = ap (λ (n : ℕ). drop n whole) is.until
     ∙ sym (drop-drop (length bytes) before whole) in
-    let size : length (take count (drop now whole)) ≡ count = omega (arith, length-take count (drop now whole), length-drop now whole, fits) in
+    let size : length (take count (drop now whole)) ≡ count = omega (
+      arith,
+      length-take count
+          (drop now whole),
+      length-drop now whole,
+      fits,
+    ) in
     let long : length next ≡ length bytes + count = ap length more ∙ length-append bytes (take count (drop now whole))
     ∙ ap (λ (n : ℕ). length bytes + n) size in (
       record {
@@ -65,5 +73,6 @@ taken_all whole bytes before now n is end within =
     ∙ sym (take-all n (drop before whole) (omega (arith, few, within)))
 
 -- as many as were asked for
-pub taken_so : (whole bytes : List ℕ) (before now n : ℕ) → IsTaken whole bytes before now → length bytes ≡ n → bytes ≡ take n (drop before whole)
+pub taken_so : (whole bytes : List ℕ) (before now n : ℕ) → IsTaken whole bytes before now → length bytes ≡ n → bytes ≡ take n
+    (drop before whole)
 taken_so whole bytes before now n is same = is.front ∙ ap (λ (m : ℕ). take m (drop before whole)) same

@@ -348,7 +348,8 @@ at_piece o play next p conn place piece old new at is live number same now untak
     let elsewhere : (n : ℕ) (other : Connection) → n < length cs → n ≢ place → Kept n (slice_index_or next.connections.items n other) =
     λ n other within apart. subst (λ (k : Connection). Kept n k)
     (sym (ap (λ (ks : List Connection). slice_index_or ks n other) written ∙ get_or-set_other cs place n new other apart))
-    (kept_more o play.keeps p q more.0 (n + 1) _ more.1 (fed_elsewhere conn (n + 1) piece p.fed (λ e. apart (omega (arith, e, number)))) refl
+    (kept_more o play.keeps p q more.0 (n + 1) _ more.1 (fed_elsewhere conn (n + 1) piece p.fed (λ e. apart (omega
+    (arith, e, number)))) refl
     (omega arith) (omega (arith, within, at.count)) (at.each n other within)) in
     record {
       made = same ∙ at.made;

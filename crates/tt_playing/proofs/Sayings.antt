@@ -1,5 +1,6 @@
 -- What a client has to say, taken in parts.
-use Rattle.std.proofs.Common.{◌≡◌, ℕ, zero, suc, ◌+◌, Bool, true, false, List, [], ◌∷◌, ◌++◌, drop, refl, sym, ap, ◌∙◌, arith, Option, Some, None}
+use Rattle.std.proofs.Common.{◌≡◌, ℕ, zero, suc, ◌+◌, Bool, true, false, List, [], ◌∷◌}
+use Rattle.std.proofs.Common.{◌++◌, drop, refl, sym, ap, ◌∙◌, arith, Option, Some, None}
 use Rattle.std.specs.Prelude.{◌==◌, ◌&&◌, not, nat_lt, if◌then◌else◌}
 use Rattle.std.proofs.lemmas.List.{drop-drop}
 use Rattle.tt_lockstep.specs.Runner.{Runner}
@@ -16,7 +17,8 @@ use Rattle.tt_client.specs.Held.{Held, held, held_after, held_first, held_on, fe
 use Rattle.tt_client.specs.Player.{Player, Mark, acks, advanced, heard, heard_all, heard_as, is_due, is_off, is_on, phase_by, plays, run_as}
 use Rattle.tt_client.specs.Player.{said_behind, stepped, token_in}
 use Rattle.tt_client.specs.Runs.{running}
-use Rattle.tt_client.specs.Saying.{Saying, IsSaying, bytes_of, less_begun, less_one, made_before, taken, with_ack, with_bytes, with_bytes_at}
+use Rattle.tt_client.specs.Saying.{Saying, IsSaying, bytes_of, less_begun, less_one}
+use Rattle.tt_client.specs.Saying.{made_before, taken, with_ack, with_bytes, with_bytes_at}
 use Rattle.tt_client.specs.Saying.{with_token}
 use Rattle.tt_client.proofs.Less.{less_one_is}
 use Rattle.tt_playing.specs.Attached.{Attached, AreSayings, client_in, client_of}
@@ -80,7 +82,8 @@ by_choice false p q one other = other
 heard_fits : (login : Login) (i : Item) (p : P) → IsSaying p.saying → IsSaying (heard running login i p).saying
 heard_fits login i p fits =
     let runs = running.hears p.runs (item_told p.place i.msg) in
-    by_choice (is_on running login p) (heard_as login i (running.mark runs) runs p) p (heard_as_fits login i (running.mark runs) runs p fits) fits
+    by_choice (is_on running login p) (heard_as login i (running.mark runs) runs p) p (heard_as_fits login i
+    (running.mark runs) runs p fits) fits
 
 all_heard_fit : (login : Login) (items : List Item) (p : P) → IsSaying p.saying → IsSaying (heard_all running login items p).saying
 all_heard_fit login [] p fits = fits
@@ -103,7 +106,10 @@ stepped_fits : (login : Login) (s : Step) (p : P) → IsSaying p.saying → IsSa
 stepped_fits login (Hear i) p fits = heard_fits login i p fits
 stepped_fits login (Run n) p fits = advanced_fits login n p fits
 stepped_fits login (Say company command) p fits =
-    by_choice (is_on running login p && plays (running.mark p.runs)) (record p { saying = with_bytes (command_bytes company command) p.saying })
+    by_choice (is_on running login p && plays (running.mark p.runs)) (record p {
+      saying = with_bytes
+          (command_bytes company command) p.saying;
+    })
     p (bytes_fit (command_bytes company command) p.saying fits) fits
 stepped_fits login (Give room) p fits = taken_fits room p.saying fits
 

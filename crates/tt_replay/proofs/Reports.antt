@@ -1,5 +1,6 @@
 -- A report is its parts, one behind the other.
-use Rattle.std.proofs.Common.{◌≡◌, ◌≢◌, ℕ, zero, suc, ◌+◌, ◌<◌, true, List, [], ◌++◌, take, refl, sym, ap, ap₂, ◌∙◌, append_assoc, arith, Option}
+use Rattle.std.proofs.Common.{◌≡◌, ◌≢◌, ℕ, zero, suc, ◌+◌, ◌<◌, true, List, []}
+use Rattle.std.proofs.Common.{◌++◌, take, refl, sym, ap, ap₂, ◌∙◌, append_assoc, arith, Option}
 use Rattle.tt_client.specs.Held.{Held}
 use Rattle.tt_edge.specs.declared.event.Event.{Event}
 use Rattle.tt_edge.specs.Event.{opens}
@@ -51,7 +52,8 @@ pub report-joined : (o first then : Origin) (p : Played) (events later : List Ev
     → of_clients ≡ clients_upto (λ conn. client_in (p.clients conn)) (opens p.events)
     → world ≡ world_behind then later → refused ≡ p.refused
     → whole ≡ report_of o p
-report-joined o first then p events later connections entries of_clients world refused none conns journal clients server holdings whole begins
+report-joined o first then p events later connections entries of_clients world refused none conns journal clients server holdings
+    whole begins
     told stamped attached stands holds counts same goes_on of_p kept count entries_are clients_are world_is as_many =
     let own : then ≡ o = goes_on ∙ same in
     let now : later ≡ p.events = kept ∙ of_p in
@@ -109,5 +111,6 @@ pub still_to_be_told : (first hub : HubState) (conn next : ℕ) (c : Connection)
 still_to_be_told first hub conn next c is same own kept untaken = record {
   door = ap₂ (λ (es : List Event) (n : ℕ). door_of es n) kept same ∙ is.door;
   told = is.told ∙ ap (λ (n : ℕ). take (taken first n) (sent (origin first) first.events n)) (sym same)
-      ∙ ap₂ (λ (n : ℕ) (xs : List ℕ). take n xs) (sym untaken) (ap₂ (λ (g : Origin) (es : List Event). sent g es next) (sym own) (sym kept));
+      ∙ ap₂ (λ (n : ℕ) (xs : List ℕ). take n xs) (sym untaken) (ap₂ (λ (g : Origin) (es : List Event). sent g es next) (sym own)
+      (sym kept));
 }

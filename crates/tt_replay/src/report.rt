@@ -139,7 +139,7 @@ fn put_attached(
     conn: u32,
     client: Option<&Client>,
 ) -> Result<(), OutOfMemory>
-    ensures text { OnOk result (text.new.items ≡ text.old.items ++ lines_on conn (option_copied client)) }
+    ensures text { OnOk result (text.new.items ≡ text.old.items ++ lines_on conn (option_copied client.entry)) }
 {
     match client {
         None => Ok(()),

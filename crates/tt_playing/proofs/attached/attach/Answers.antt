@@ -32,7 +32,8 @@ returns-clause-at c o p at =
     let new : Connection = record { door = Main; rest = c.new-2.result; client = Some c.in_ok-client.client; told = c.new-3.result } in
     let next : Play = record play { hub = c.put_opening.new.hub; connections = c.push.new.self } in
     let same = opened_one p.events Main in
-    let here : q.clients number ≡ Some (fresh login) = with_new (opens (opened Main p).events) number (Some (fresh login)) p.clients (sym same) in
+    let here : q.clients number ≡ Some (fresh login) = with_new (opens (opened Main p).events) number (Some (fresh login)) p.clients
+    (sym same) in
     let first : Some c.in_ok-client.client ≡ client_in (Some (fresh login)) = ap Some (c.in_ok-client.ensures.first
     ∙ ap held_first (login_is c.args.company _ o.setup.revision _ c.args.name.now _ c.args.password.now _ c.args.own.now
     (c.copy.ensures ∙ at.revision) c.copy-2.ensures c.copy-3.ensures c.copy-4.ensures)) in

@@ -29,5 +29,6 @@ returns-clause-at c o p at =
     c.place_with-place.ensures.place c.place_with-place.ensures.within c.index_mut.ensures.value
     (record { made = refl; events = refl; others = λ other apart. refl; refused = refl; revision = refl; keeps = refl; written = refl })
     refl refl refl refl (λ a. refl)
-    (λ a is. c.in_ok-submit.ensures.client ∙ ap (after_order command) is ∙ ap Some (sym (client_called a (Submit (client_of a).player.company
+    (λ a is. c.in_ok-submit.ensures.client ∙ ap (after_order command) is ∙ ap Some (sym (client_called a (Submit
+    (client_of a).player.company
     command))))

@@ -18,7 +18,15 @@ returns-clause-at c o p at =
     let took = c.in_ok-piece.ensures in
     at_down o play p c.args.conn place c.args.n old new next c.in_ok-piece.piece.items at c.requires.client
     c.place_with-place.ensures.place c.place_with-place.ensures.within c.index_mut.ensures.value
-    (record { made = took.origin; events = took.events; others = took.others; refused = refl; revision = refl; keeps = refl; written = refl })
+    (record {
+      made = took.origin;
+      events = took.events;
+      others = took.others;
+      refused = refl;
+      revision = refl;
+      keeps = refl;
+      written = refl;
+    })
     took.bytes took.taken handed.door handed.rest
     (handed.client ∙ ap (λ (xs : List ℕ). after_call (Feed xs) old.client) c.deref.ensures.value)
     (λ keeps. handed.told keeps ∙ ap (λ (xs : List ℕ). old.told.items ++ xs) c.deref.ensures.value)

@@ -35,7 +35,15 @@ feed-requires c =
         on_client c.args.conn (called call) stands.1,
         at_call stands.0 play stands.1 c.args.conn place old new next (called call) stands.2 c.requires.client
             c.place_with-place.ensures.place c.place_with-place.ensures.within c.index_mut.ensures.value
-            (record { made = refl; events = refl; others = λ other apart. refl; refused = refl; revision = refl; keeps = refl; written = refl })
+            (record {
+              made = refl;
+              events = refl;
+              others = λ other apart. refl;
+              refused = refl;
+              revision = refl;
+              keeps = refl;
+              written = refl;
+            })
             refl refl refl refl (λ a. refl)
             (λ a is. c.in_ok-piece.ensures.client ∙ ap (after_call call) is ∙ ap Some (sym (client_called a call))),
       );
@@ -59,6 +67,7 @@ returns-clause-at c o p at =
     let is : bytes ≡ waiting_in c.args.n (client_in (p.clients conn)) = c.in_ok-piece.ensures.bytes
     ∙ ap (waiting_in c.args.n) (sym (client_there play conn place old c.place_with-place.ensures.place c.place_with-place.ensures.within
     c.index_mut.ensures.value) ∙ client_is o play p conn at) in
-    subst (λ (xs : List ℕ). OnOk c.feed.result (IsAt o c.feed.new.play (with_piece o conn xs (on_client conn (called (Take (length xs))) p)))) is
+    subst (λ (xs : List ℕ). OnOk c.feed.result (IsAt o c.feed.new.play (with_piece o conn xs (on_client conn (called (Take
+    (length xs))) p)))) is
     (subst (λ (xs : List ℕ). OnOk c.feed.result (IsAt o c.feed.new.play (with_piece o conn xs (on_client conn (called call) p))))
     c.deref.ensures.value (c.feed.ensures.at o (on_client conn (called call) p) mid))

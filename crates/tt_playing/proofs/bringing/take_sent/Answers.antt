@@ -14,10 +14,12 @@ pieces-preserved c =
     let first = c.args.hub.now in
     let conn = c.args.conn in
     let whole = sent (origin first) first.events conn in
-    let same : sent (origin hub) hub.events conn ≡ whole = ap₂ (λ (g : Origin) (es : List Event). sent g es conn) so_far.origin so_far.events in
+    let same : sent (origin hub) hub.events conn ≡ whole = ap₂ (λ (g : Origin) (es : List Event). sent g es conn) so_far.origin
+    so_far.events in
     let next = rw same at put.bytes in
     let count = rw same at put.count in
-    let on = taken_on whole c.pieces.bytes.items _ (taken first conn) (taken hub conn) _ c.in_ok-count.count so_far.bytes (omega (arith, count))
+    let on = taken_on whole c.pieces.bytes.items _ (taken first conn) (taken hub conn) _ c.in_ok-count.count so_far.bytes (omega
+    (arith, count))
     next put.taken in
     record {
       bytes = on.0;

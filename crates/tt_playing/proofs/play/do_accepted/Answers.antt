@@ -8,7 +8,8 @@ use Rattle.tt_playing.proofs.play.do_accepted.Goals as goal
 
 pub returns-in-Down-clause-at : goal.returns-in-Down-clause-at
 returns-in-Down-clause-at c o p at =
-    subst (λ (l : Line1). OnOk c.bring_down.result (IsAt o c.bring_down.new.play (did o p l))) (sym c.in-Down.is) (c.bring_down.ensures.at o p at)
+    subst (λ (l : Line1). OnOk c.bring_down.result (IsAt o c.bring_down.new.play (did o p l))) (sym c.in-Down.is)
+    (c.bring_down.ensures.at o p at)
 
 pub returns-in-Run-clause-at : goal.returns-in-Run-clause-at
 returns-in-Run-clause-at c o p at =
