@@ -126,8 +126,14 @@ fn the_server_is_told(rt: HostRuntime) {
     );
     assert!(rt; all.setup.seed == 7 && all.setup.frame_freq == 64 && all.setup.sync_freq == 1);
     assert!(rt; all.setup.max_clients == 255 && all.setup.cost == 64);
-    assert!(rt; all.setup.password.bytes() == b"a" && all.setup.admin_password.bytes() == b"b");
-    assert!(rt; all.map.is_some_and(|map| map.bytes() == b"m.ottn"));
+    assert!(rt;
+        all.setup.password.bytes() == b"a".as_slice()
+            && all.setup.admin_password.bytes() == b"b".as_slice()
+    );
+    assert!(rt;
+        all.map
+            .is_some_and(|map| map.bytes() == b"m.ottn".as_slice())
+    );
     assert!(rt;
         served(&rt, alloc, b"--password=")
             .setup
@@ -154,8 +160,10 @@ fn the_player_is_told(rt: HostRuntime) {
         alloc,
         b"--company 0 --name=-x --password p --company-password q",
     );
-    assert!(rt; all.name.bytes() == b"-x" && all.company == 0);
-    assert!(rt; all.password.bytes() == b"p" && all.company_password.bytes() == b"q");
+    assert!(rt; all.name.bytes() == b"-x".as_slice() && all.company == 0);
+    assert!(rt;
+        all.password.bytes() == b"p".as_slice() && all.company_password.bytes() == b"q".as_slice()
+    );
     for text in &BAD_FOR_THE_PLAYER {
         assert!(rt;
             play_words(alloc, lines_of(&rt, alloc, text).as_slice()).is_err_and(|error| error
@@ -168,12 +176,14 @@ fn the_player_is_told(rt: HostRuntime) {
 fn the_admin_is_told(rt: HostRuntime) {
     let alloc = rt.alloc();
     let plain = administered(&rt, alloc, b"--password pw");
-    assert!(rt; plain.password.bytes() == b"pw" && plain.name.bytes() == b"tt");
+    assert!(rt;
+        plain.password.bytes() == b"pw".as_slice() && plain.name.bytes() == b"tt".as_slice()
+    );
     assert!(rt;
         administered(&rt, alloc, b"--name cli --password=")
             .name
             .bytes()
-            == b"cli"
+            == b"cli".as_slice()
     );
     for text in &BAD_FOR_THE_ADMIN {
         assert!(rt;
