@@ -9,8 +9,6 @@ mod attempts;
 #[cfg(test)]
 mod desk;
 #[cfg(test)]
-mod desk_words;
-#[cfg(test)]
 mod log;
 #[cfg(test)]
 mod map;

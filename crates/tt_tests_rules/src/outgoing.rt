@@ -1,34 +1,21 @@
 //! Packets are staged, and a download goes on.
 
-use std::alloc::Global;
-use std::process::Abort;
-use std::test::*;
+use std::test::Fail;
 use tt_game::GameMsg;
 use tt_outgoing::{Download, Outs, Staged};
 use tt_world::{Setup, World};
 
-/// A message is staged for these connections.
-fn stage<R: Abort>(rt: &R, staged: &mut Staged, conns: &[u32], message: &GameMsg) {
-    if staged.tell_game(conns, message).is_err() {
-        panic!(rt; "memory ran out")
-    }
-}
-
-/// What is staged wants so many bytes and parts.
-fn wants<R: Abort>(rt: &R, staged: &Staged, bytes: usize, parts: usize) {
-    assert_eq!(rt; staged.wanted(), (bytes, parts));
-}
-
 #[test]
-fn a_message_is_spelled_once(rt: HostRuntime) {
+fn a_message_is_spelled_once(rt: HostRuntime) -> Result<(), Fail> {
     let mut staged = Staged::new(rt.alloc());
-    stage(&rt, &mut staged, &[], &GameMsg::ServerFull);
-    wants(&rt, &staged, 0, 0);
-    stage(&rt, &mut staged, &[1, 2], &GameMsg::ServerFull);
-    stage(&rt, &mut staged, &[2], &GameMsg::ServerMapDone);
-    wants(&rt, &staged, 6, 3);
+    staged.tell_game(&[], &GameMsg::ServerFull)?;
+    assert_eq!(rt; staged.wanted(), (0, 0));
+    staged.tell_game(&[1, 2], &GameMsg::ServerFull)?;
+    staged.tell_game(&[2], &GameMsg::ServerMapDone)?;
+    assert_eq!(rt; staged.wanted(), (6, 3));
     staged.clear();
-    wants(&rt, &staged, 0, 0);
+    assert_eq!(rt; staged.wanted(), (0, 0));
+    Ok(())
 }
 
 #[test]
@@ -45,22 +32,13 @@ fn each_is_told_its_packets(rt: HostRuntime) -> Result<(), Fail> {
     Ok(())
 }
 
-/// A download of the world of a new game.
-fn download<R: Abort>(rt: &R, alloc: Global) -> Download {
-    let Ok(world) = World::start(alloc, &Setup::plain()) else {
-        panic!(rt; "memory ran out")
-    };
-    let Ok(download) = Download::new(alloc, world) else {
-        panic!(rt; "memory ran out")
-    };
-    download
-}
-
 #[test]
-fn a_small_map_is_told_in_one_tick(rt: HostRuntime) {
-    let mut download = download(&rt, rt.alloc());
+fn a_small_map_is_told_in_one_tick(rt: HostRuntime) -> Result<(), Fail> {
+    let world = World::start(rt.alloc(), &Setup::plain())?;
+    let mut download = Download::new(rt.alloc(), world)?;
     assert_eq!(rt; download.left() as usize, download.next().len());
     assert_eq!(rt; download.more(), false);
     download.go_on();
     assert_eq!(rt; download.left(), 0);
+    Ok(())
 }
