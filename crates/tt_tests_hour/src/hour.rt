@@ -5,6 +5,10 @@ use std::test::*;
 use tt_hour::{HourLines, hour_setup, put_hour};
 use tt_log::{Line1, parse_script};
 
+/// No hour script has so many lines.
+const MOST_LINES: u32 = 10_000_000;
+
+/// The text of the hour script of a number.
 fn script_text<R: AllocGlobal>(rt: &R, number: u32) -> Result<Vec<u8>, Fail> {
     let mut text = Vec::new(rt.alloc());
     match put_hour(rt.alloc(), &mut text, number) {
@@ -52,7 +56,10 @@ fn another_one_begins_with_its_seed(rt: HostRuntime) -> Result<(), Fail> {
 fn counts(number: u32) -> (u32, u32, u32) {
     let mut lines = HourLines::new(number);
     let (mut frames, mut joins, mut orders) = (0u32, 0u32, 0u32);
-    while let Some(line) = lines.next() {
+    for _ in 0..MOST_LINES {
+        let Some(line) = lines.next() else {
+            break;
+        };
         match line {
             Line1::Tick(n) => frames = frames.wrapping_add(n),
             Line1::Join(_, _, _, _) => joins = joins.wrapping_add(1),
@@ -79,7 +86,10 @@ fn its_text_is_a_script(rt: HostRuntime) -> Result<(), Fail> {
     assert_eq!(rt; hour_setup(7).seed, 7);
     let mut lines = HourLines::new(7);
     let mut count = 0usize;
-    while let Some(_line) = lines.next() {
+    for _ in 0..MOST_LINES {
+        let Some(_line) = lines.next() else {
+            break;
+        };
         count = count.wrapping_add(1);
     }
     assert_eq!(rt; script.lines.len(), count);
