@@ -93,7 +93,7 @@ const BODIES: [&[u8]; 39] = [
 ];
 
 /// What the rules say of a message in a status. What is not permitted, and each message of a server, ends with code 7.
-fn fate(number: u8, status: Status) -> Fate {
+fn by_the_rules(number: u8, status: Status) -> Fate {
     match (number, status) {
         (2 | 4, Status::Inactive) => Fate::Stays,
         (9, Status::AuthGame) | (11, Status::AuthCompany) => Fate::Ends(10),
@@ -209,7 +209,7 @@ fn row<R: Abort>(rt: &R, alloc: Global, number: u8, status: Status) {
     let told = taken(rt, alloc, &mut hub, 1);
     assert_eq!(rt;
         became(&hub, 1, told.as_slice()),
-        fate(number, status),
+        by_the_rules(number, status),
         "packet {number} in {status:?}"
     );
     assert!(rt; hub.live(2), "packet {number} in {status:?}");
