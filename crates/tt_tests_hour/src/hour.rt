@@ -19,13 +19,13 @@ fn script_text<R: AllocGlobal>(rt: &R, number: u32) -> Result<Vec<u8>, Fail> {
 
 /// The line of a text with this number, counted from 1.
 fn is_line<R: Abort>(rt: &R, text: &[u8], number: usize, wanted: &[u8]) {
-    let mut count = 1;
+    let mut count = 1usize;
     let mut line: &[u8] = &[];
     for piece in text.split(|byte| *byte == b'\n') {
         if count == number {
             line = piece;
         }
-        count += 1;
+        count = count.wrapping_add(1);
     }
     assert_eq!(rt; line, wanted, "line {number}");
 }
