@@ -9,5 +9,3 @@ mod games;
 mod packets;
 #[cfg(test)]
 mod rooms;
-#[cfg(test)]
-mod statuses;
