@@ -132,7 +132,7 @@ fn invite<R: Eprint>(rt: &R, game: &Peer, admin: &Peer) -> io::Result<()> {
     let [a, b, c, d] = game.host;
     let [e, f, g, h] = admin.host;
     eprintln!(rt;
-        "tt_server: players join by tt_play {a}.{b}.{c}.{d}:{} COMMANDS --name NAME, admins at {e}.{f}.{g}.{h}:{}; an admin's quit ends it",
+        "tt_server: players join at {a}.{b}.{c}.{d}:{}, admins at {e}.{f}.{g}.{h}:{}; an admin's quit ends it",
         game.port, admin.port
     )
 }

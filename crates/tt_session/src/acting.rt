@@ -81,7 +81,8 @@ fn do_next<K: Sink>(
     sink: &mut K,
 ) -> Acted
     requires { IsFirstDue left.old.items player.old }
-    ensures { DoesNext left.old.items left.new.items player.old player.new (sink_now K.held K.faults sink.old) (sink_now K.held K.faults sink.new) result }
+    ensures { DoesNext left.old.items left.new.items player.old player.new (sink_now K.held K.faults sink.old)
+        (sink_now K.held K.faults sink.new) result }
 {
     match left.pop_front() {
         Some(line) => do_line(alloc, player, line, sink),

@@ -16,7 +16,8 @@ use tt_client::clients_are_in_step;
 /// printed of its client is of the world of the server's journal at its own frame, and the client is neither out of step nor told
 /// what is not permitted.
 pub fn prints_in_step()
-    ensures sent { (o : Origin) (events : List Event) (conn : ℕ) (login : Login) (lines : List TimedLine) (l l2 : LinkNow) (t t2 : TickerNow)
+    ensures sent { (o : Origin) (events : List Event) (conn : ℕ) (login : Login) (lines : List TimedLine)
+        (l l2 : LinkNow) (t t2 : TickerNow)
         (k k2 : SinkNow) (e : PlayEnd) (run : Session (held_first login) lines l l2 t t2 k k2 e)
         → RunsInStep o events conn run.actions run.lost run.last e }
 {

@@ -113,7 +113,8 @@ impl Say for Player {
 
     ghost due = { λ p. bytes_of p.player.saying };
 
-    ghost says = { λ old bytes new. (bytes ≡ take (length bytes) (bytes_of old.player.saying)) × (new ≡ with_call old (Take (length bytes))) };
+    ghost says = { λ old bytes new. (bytes ≡ take (length bytes) (bytes_of old.player.saying))
+        × (new ≡ with_call old (Take (length bytes))) };
 
     fn say(&mut self, out: &mut [u8]) -> usize {
         self.client.take(out)

@@ -40,7 +40,8 @@ pub fn play_rounds<R: Wait, L: Link, T: Ticker, K: Sink>(
     sink: &mut K,
 ) -> PlayEnd
     requires { GoesOn (state_of player.old.player) }
-    ensures { Session player.old left.old.items (link_now L.counts L.left L.was_read L.held link.old) (link_now L.counts L.left L.was_read L.held link.new)
+    ensures { Session player.old left.old.items (link_now L.counts L.left L.was_read L.held link.old)
+        (link_now L.counts L.left L.was_read L.held link.new)
         (ticker_now T.counts T.beats ticker.old) (ticker_now T.counts T.beats ticker.new) (sink_now K.held K.faults sink.old)
         (sink_now K.held K.faults sink.new) result }
 {
