@@ -17,7 +17,7 @@ die() { echo "$0: $*" >&2; exit 1; }
 # A program by its name: beside the examples, as `./tt dist` leaves it, or where it was built.
 program() {
   local place
-  for place in "$top/$1" "$top/crates/$1/out/$1"; do
+  for place in "$top/$1" "$top/crates/$1/out/$1" "$top/crates/${1}_cli/out/${1}_cli"; do
     if [ -f "$place" ] && [ -x "$place" ]; then echo "$place"; return; fi
   done
   die "$1 is not there; ./tt ${1#tt_} --help builds it"
@@ -44,3 +44,6 @@ await() {
   done
   die "nothing listens at port $1"
 }
+
+# A text in hexadecimal digits, as the files of commands have it.
+hex() { printf '%s' "$1" | od -An -v -tx1 | tr -d ' \n'; }

@@ -5,6 +5,7 @@ layers.svg  the crates as crates.txt lists them, each on what it stands on, with
 time.svg    frames, stamps and the permitted frame on a line of time
 join.svg    a join as arrows between a client and the server
 bench.svg   the figures of docs/pictures/bench.txt as bars
+load.svg    the figures of docs/pictures/load.txt, a server under load, as bars
 
 Only Python's standard library is used. A picture changes only where what it shows has changed.
 """
@@ -141,7 +142,25 @@ def bench():
     picture.save("bench.svg")
 
 
+def load():
+    """load.txt: lines `what | here | OpenTTD 13's dedicated server | unit`, two bars each, drawn to the larger one."""
+    if not (HERE / "load.txt").exists():
+        return
+    rows = [line.split("|") for line in (HERE / "load.txt").read_text(encoding="utf-8").splitlines() if line.strip() and not line.startswith("#")]
+    picture = Picture(860, 60 + 46 * len(rows))
+    picture.text(20, 24, "A server under load, beside OpenTTD 13's dedicated server (grey): shorter is better", weight="bold")
+    for row, (what, here, there, unit) in enumerate(rows):
+        y, most = 44 + 46 * row, max(float(here), float(there))
+        picture.text(330, y + 20, what.strip(), "end")
+        for place, (value, fill) in enumerate(((here, "#3b6ea8"), (there, "#aaa"))):
+            width = 360 * float(value) / most
+            picture.box(340, y + 17 * place, max(width, 1), 14, fill)
+            picture.text(346 + width, y + 12 + 17 * place, f"{float(value):g} {unit.strip()}")
+    picture.save("load.svg")
+
+
 layers()
 time()
 join()
 bench()
+load()

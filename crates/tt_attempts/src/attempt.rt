@@ -1,6 +1,7 @@
 //! The attempt to connect a client with a server, way by way.
 ghost use Rattle.std.specs.Prelude.{◌≡◌};
-ghost use Rattle.tt_attempts.specs.Attempts.{HasBegun, from_direct, from_stun, from_turn, failed, agreed, answered, resulted, server_gone, stepped};
+ghost use Rattle.tt_attempts.specs.Attempts.{HasBegun, from_direct, from_stun, from_turn, failed, agreed, answered, resulted};
+ghost use Rattle.tt_attempts.specs.Attempts.{server_gone, stepped};
 ghost use Rattle.tt_attempts.specs.declared.attempt.Stage.TheVariants.{Fresh};
 
 use std::marker::Model;

@@ -1,7 +1,8 @@
 //! What holds of every run of an attempt. These functions do nothing: their contracts are the laws.
 ghost use Rattle.std.specs.Prelude.{◌≡◌, ℕ, ◌⊎◌, true, List, [], ◌∷◌, ◌++◌, length, replicate};
 ghost use Rattle.std.specs.List.{Contains};
-ghost use Rattle.tt_attempts.specs.Runs.{told_in, ways_in, applying, last_word, fails, IsNewWay, next_way, is_foreign, ChangesNothing, BothOk};
+ghost use Rattle.tt_attempts.specs.Runs.{told_in, ways_in, applying, last_word, fails, IsNewWay, next_way, is_foreign};
+ghost use Rattle.tt_attempts.specs.Runs.{ChangesNothing, BothOk};
 ghost use Rattle.tt_attempts.specs.declared.attempt.Ways.{Ways};
 ghost use Rattle.tt_attempts.specs.declared.attempt.Heard.{Heard};
 ghost use Rattle.tt_attempts.specs.declared.attempt.Heard.TheVariants.{StunResult, Connected, ServerGone};

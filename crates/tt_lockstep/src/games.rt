@@ -6,7 +6,11 @@ ghost use Rattle.tt_lockstep.specs.Server.{Server, Step, initial, stepped, strea
 ghost use Rattle.tt_lockstep.specs.Client.{Call};
 ghost use Rattle.tt_lockstep.specs.Runner.{Runner, runner_run};
 ghost use Rattle.tt_lockstep.specs.Example.{OutOfStep, Ran, ToldWrong, ending, small, small_steps, small_stream};
-ghost use Rattle.tt_lockstep.specs.Wrong.{applies_at_once, drops_stamped, ending_under, ending_with, keeps_test_runs, misses_stamped, ruled_run, ruled_stepped, ruled_told, runs_past_permitted, small_by_one, stamps_next_frame, stamps_permitted_frame, tells_above_own_frame, tells_later_map, tells_whole_journal, tells_word_before, tick_steps, true_client_rules, true_rules};
+ghost use Rattle.tt_lockstep.specs.Wrong.{applies_at_once, drops_stamped, ending_under, ending_with, keeps_test_runs};
+ghost use Rattle.tt_lockstep.specs.Wrong.{misses_stamped, ruled_run, ruled_stepped, ruled_told, runs_past_permitted};
+ghost use Rattle.tt_lockstep.specs.Wrong.{small_by_one, stamps_next_frame, stamps_permitted_frame, tells_above_own_frame};
+ghost use Rattle.tt_lockstep.specs.Wrong.{tells_later_map, tells_whole_journal, tells_word_before, tick_steps};
+ghost use Rattle.tt_lockstep.specs.Wrong.{true_client_rules, true_rules};
 
 /// The theorem is not empty: a small game with one connection, computed to its end.
 pub fn small_game()

@@ -49,7 +49,8 @@ pub fn stream_facts<W, E>()
         → stream game initial steps ≡ front ++ later
         → Agrees game (after game initial steps).journal (after game initial steps).permitted (shown game Joining front) }
     // No word comes too late to be compared: its frame is still to be run, or is not above the map frame, or was run recently.
-    ensures compared { (game : Game W E) (steps : List (Step E)) (calls : List (Call W E)) (later : List (Told W E)) (v : View W E) (f g w : ℕ)
+    ensures compared { (game : Game W E) (steps : List (Step E)) (calls : List (Call W E)) (later : List (Told W E))
+        (v : View W E) (f g w : ℕ)
         → game.lead < 128
         → stream game initial steps ≡ fed calls ++ Sync g w ∷ later
         → run game unfed calls ≡ Following (Running v) f

@@ -15,7 +15,8 @@ ghost use Rattle.tt_lockstep.specs.Wire.{IsReadBack, PieceCall, Wire, calls_of, 
 pub fn ways<W, E>()
     // Nothing is a way; a step is one; and one way goes on behind another.
     ensures none { (game : Game W E) (server : Server E) → Leads game server [] server }
-    ensures step { (game : Game W E) (server : Server E) (step : Step E) → Leads game server (told game server step) (stepped game server step) }
+    ensures step { (game : Game W E) (server : Server E) (step : Step E)
+        → Leads game server (told game server step) (stepped game server step) }
     ensures on { (game : Game W E) (a b c : Server E) (xs ys : List (Told W E))
         → Leads game a xs b → Leads game b ys c → Leads game a (xs ++ ys) c }
     // All the stamps of a tick at once.

@@ -47,7 +47,8 @@ front_by b bytes true e rec = ((λ i lt. absurd (omega (arith, lt))), eqb-true b
 front_by b bytes false e rec =
     (has_no-cons 32 b (front_word bytes) (λ is. let yes = eq-eqb b 32 is in absurd cc) rec.0, rec.1, ap (λ (t : List ℕ). b ∷ t) rec.2)
 
-pub front_facts : (bytes : List ℕ) → HasNo 32 (front_word bytes) × IsLeft (behind_word bytes) × (bytes ≡ front_word bytes ++ behind_word bytes)
+pub front_facts : (bytes : List ℕ) → HasNo 32 (front_word bytes) × IsLeft (behind_word bytes)
+    × (bytes ≡ front_word bytes ++ behind_word bytes)
 front_facts [] = ((λ i lt. absurd (omega (arith, lt))), tt, refl)
 front_facts (b ∷ bytes) = front_by b bytes (b == 32) refl (front_facts bytes)
 

@@ -72,7 +72,8 @@ settings_read = (
   ),
 )
 
-pub orders_read : (conn : ℕ) → Fits any conn → Each (orders conn) (λ step after. IsRead step (32 ∷ codes "do" ++ (32 ∷ decimal conn ++ after)))
+pub orders_read : (conn : ℕ) → Fits any conn →
+    Each (orders conn) (λ step after. IsRead step (32 ∷ codes "do" ++ (32 ∷ decimal conn ++ after)))
 orders_read conn is = (
   (λ x0 f0. (((tt, (is, (tt, (f0, tt)))), (refl, refl)), refl)),
   (

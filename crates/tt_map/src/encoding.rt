@@ -3,7 +3,8 @@ ghost use Rattle.std.specs.Prelude.{◌≡◌, ◌≤◌, ◌<◌, ◌^◌, ◌+
 ghost use Rattle.std.specs.List.{flat_map};
 ghost use Rattle.tt_world.specs.Sound.{IsSound};
 ghost use Rattle.tt_map.specs.declared.version.Version.TheVariants.{Second};
-ghost use Rattle.tt_map.specs.Layout.{text_body, i64, live_from, company_bytes, sign_bytes, u32, GAME, RAND, CMPY, SIGN, ENDC, body_of, part_of, chunk, head, map_of};
+ghost use Rattle.tt_map.specs.Layout.{text_body, i64, live_from, company_bytes, sign_bytes, u32, GAME, RAND, CMPY, SIGN, ENDC};
+ghost use Rattle.tt_map.specs.Layout.{body_of, part_of, chunk, head, map_of};
 ghost use Rattle.tt_map.specs.Maps.{IsMap};
 
 use crate::version::{SECOND_NUMBER, TAG};
@@ -25,7 +26,8 @@ fn put_name(out: &mut Vec<u8>, name: &Name) -> Result<(), OutOfMemory>
 
 /// The number of a company, its money, its loan and the greatest one.
 fn put_sums(out: &mut Vec<u8>, number: u8, company: &Company) -> Result<(), OutOfMemory>
-    ensures { OnOk result (out.new.items ≡ out.old.items ++ (number ∷ i64 company.now.money ++ u32 company.now.loan ++ u32 company.now.most)) }
+    ensures { OnOk result (out.new.items ≡ out.old.items ++ (number ∷ i64 company.now.money ++ u32 company.now.loan
+        ++ u32 company.now.most)) }
 {
     Put::raw(out, &[number])?;
     Put::raw(out, &company.money.to_be_bytes())?;
@@ -45,7 +47,8 @@ fn put_company(out: &mut Vec<u8>, number: u8, company: &Company) -> Result<(), O
 
 /// The company at a place, where there is one.
 fn put_place(out: &mut Vec<u8>, number: u8, company: Option<&Company>) -> Result<(), OutOfMemory>
-    ensures { OnOk result (out.new.items ≡ out.old.items ++ flat_map (company_bytes Second) (live_from number (option_copied company.entry ∷ []))) }
+    ensures { OnOk result (out.new.items
+        ≡ out.old.items ++ flat_map (company_bytes Second) (live_from number (option_copied company.entry ∷ []))) }
 {
     match company {
         Some(company) => put_company(out, number, company),

@@ -5,3 +5,13 @@ pub mod Pieces
 pub mod Sayings
 pub mod Plays
 pub mod Lines
+pub mod Bytes
+pub mod Spellings
+pub mod MapBytes
+pub mod SentBytes
+pub mod SaidBytes
+pub mod PieceEvents
+pub mod Handing
+pub mod Scripts
+pub mod Agreeing
+pub mod InSteps

@@ -2,3 +2,4 @@ pub mod Begun
 pub mod Attached
 pub mod Played
 pub mod Playing
+pub mod InStep

@@ -13,7 +13,8 @@ use Rattle.tt_replay.specs.Statuses.{IsOther, bad_line_text, differs_text}
 use Rattle.tt_show.specs.ListLines.{ListLine}
 use Rattle.tt_show.specs.Lists as lists
 use Rattle.tt_show.specs.Lists.{IsList, line_text}
-use Rattle.tt_replay.proofs.Steps.{none_bad}
+use Rattle.tt_log.proofs.ScriptLaws.{first_of_script}
+use Rattle.tt_log.specs.Script.{IsScriptText}
 
 answers : (words : List (List ℕ)) (form : Form) (input bytes read answer : List ℕ) → form_of words ≡ Some form → bytes ≡ input
     → read ≡ bytes → length bytes ≤ input_limit → IsAnswer form (lines_of read) answer → Answers words input answer
@@ -101,6 +102,9 @@ list_none_bad texts line fits bad =
             ∙ take-map line_text line fits.0;
       },
     )
+
+none_bad : (texts : List (List ℕ)) (line : ℕ) → IsScriptText texts → IsFirstBad IsScriptText texts line → ⊥
+none_bad texts line is first = first.bad (first_of_script is.0 texts line is.1)
 
 -- an input of a form has no first bad line
 none_bad_of : (form : Form) (texts : List (List ℕ)) (line : ℕ) → IsOfForm form texts → IsFirstBad (IsOfForm form) texts line → ⊥

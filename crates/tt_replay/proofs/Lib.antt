@@ -1,7 +1,5 @@
-pub mod Steps
 pub mod Compared
-pub mod Streams
-pub mod Events
-pub mod Plays
 pub mod Answering
 pub mod Reports
+pub mod Words
+pub mod ReportLines

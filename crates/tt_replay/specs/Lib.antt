@@ -1,7 +1,5 @@
-pub mod Script
-pub mod Begun
-pub mod Played
 pub mod Report
-pub mod Playing
+pub mod Reporting
 pub mod Expected
 pub mod Statuses
+pub mod InStep

@@ -11,7 +11,7 @@ use Rattle.tt_show.specs.Lists.{IsList, list_shown}
 use Rattle.tt_replay.specs.declared.form.Form.{Form}
 use Rattle.tt_replay.specs.declared.form.Form.TheVariants.{Run, Check, Show}
 use Rattle.tt_log.specs.Contents.{Contents}
-use Rattle.tt_replay.specs.Script.{Plays, IsPlayed}
+use Rattle.tt_log.specs.Script.{Spells, IsScriptText}
 use Rattle.tt_replay.specs.Report.{report}
 use Rattle.tt_replay.specs.Expected.{expected_lines, DifferAt}
 
@@ -39,8 +39,8 @@ input_limit = 67108864
 
 -- the lines of an input of this form
 abbrev pub IsOfForm : Form → List (List ℕ) → Type 0
-IsOfForm Run texts = IsPlayed texts
-IsOfForm Check texts = IsPlayed texts
+IsOfForm Run texts = IsScriptText texts
+IsOfForm Check texts = IsScriptText texts
 IsOfForm Show texts = IsList texts
 
 -- the text for a report that is as its script expects it
@@ -57,8 +57,8 @@ DiffersAt script place = DifferAt place (lines_of (report script)) (expected_lin
 
 -- the text that answers an input of this form; a script that is checked has it where the report is as expected
 abbrev pub IsAnswer : Form → List (List ℕ) → List ℕ → Type 0
-IsAnswer Run texts answer = (script : Contents) × Plays script texts × (answer ≡ report script)
-IsAnswer Check texts answer = (script : Contents) × Plays script texts × Agrees script × (answer ≡ agrees_text)
+IsAnswer Run texts answer = (script : Contents) × Spells script texts × (answer ≡ report script)
+IsAnswer Check texts answer = (script : Contents) × Spells script texts × Agrees script × (answer ≡ agrees_text)
 IsAnswer Show texts answer = (lines : List ListLine) × lists.Spells lines texts × (answer ≡ list_shown lines)
 
 -- ---- what was written
@@ -102,7 +102,7 @@ differs_text place = codes "differs at line " ++ decimal place ++ codes "\n"
 
 -- an input whose report is not as it expects, first at this place
 abbrev pub IsOther : List (List ℕ) → ℕ → Type 0
-IsOther texts place = (script : Contents) × Plays script texts × DiffersAt script place
+IsOther texts place = (script : Contents) × Spells script texts × DiffersAt script place
 
 -- The input is a script that is checked, and its report is not as it expects. The first place was told, whole, or in part
 -- where the sink failed.

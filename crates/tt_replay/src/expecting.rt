@@ -14,7 +14,8 @@ use tt_log::{Line1, ScriptBad, ScriptReader, Step};
 /// if there is one. More places than can be counted in 32 bits are answered by want of memory.
 pub fn difference(alloc: Global, script: &[u8], report: &[u8]) -> Result<Option<u32>, OutOfMemory>
     requires script { IsScriptText (lines_of script.now) }
-    ensures found { (spelled : Contents) → Spells spelled (lines_of script.now) → IfOk result (λ place. IsDifference place (lines_of report.now) (expected_lines spelled.lines)) }
+    ensures found { (spelled : Contents) → Spells spelled (lines_of script.now)
+        → IfOk result (λ place. IsDifference place (lines_of report.now) (expected_lines spelled.lines)) }
 {
     let mut reader = ScriptReader::new(script);
     let mut rest = report;
@@ -77,7 +78,8 @@ fn expected_by(line: &Line1) -> u32
 /// another line than the report's next one, or where there is none.
 fn behind<'a>(step: Step, report: &'a [u8]) -> Option<&'a [u8]>
     ensures some { IfSome result (λ rest. lines_of report.now ≡ expected_in step ++ lines_of rest.now) }
-    ensures none { IfNone result ((line : List ℕ) × (expected_in step ≡ line ∷ []) × ((more : List (List ℕ)) → lines_of report.now ≢ line ∷ more)) }
+    ensures none { IfNone result ((line : List ℕ) × (expected_in step ≡ line ∷ [])
+        × ((more : List (List ℕ)) → lines_of report.now ≢ line ∷ more)) }
 {
     match step {
         Step::Set(_setting) => Some(report),
@@ -89,7 +91,8 @@ fn behind<'a>(step: Step, report: &'a [u8]) -> Option<&'a [u8]>
 /// What of the report is left behind what a line behind the settings expects.
 fn behind_line<'a>(line: &Line1, report: &'a [u8]) -> Option<&'a [u8]>
     ensures some { IfSome result (λ rest. lines_of report.now ≡ expected_by line.now ++ lines_of rest.now) }
-    ensures none { IfNone result ((text : List ℕ) × (expected_by line.now ≡ text ∷ []) × ((more : List (List ℕ)) → lines_of report.now ≢ text ∷ more)) }
+    ensures none { IfNone result ((text : List ℕ) × (expected_by line.now ≡ text ∷ [])
+        × ((more : List (List ℕ)) → lines_of report.now ≢ text ∷ more)) }
 {
     match line {
         Line1::Expect(text) => behind_text(text.bytes(), report),

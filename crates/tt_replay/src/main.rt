@@ -1,5 +1,6 @@
 //! The replay program: `tt_replay run` writes the report of the script on standard input, `check` whether its report is
-//! the one that it expects, and `show` packets in words.
+//! the one that it expects, `show` packets in words, `make N` the hour script of a number, and `hour N` what its game comes
+//! to in numbers.
 //!
 //! It does nothing but hand its words, standard input and standard output to `replay_main`, whose contract says which
 //! exit status comes when and what is written. docs/SCRIPTS.md tells scripts, lists, reports and statuses.
@@ -8,13 +9,13 @@
 mod expecting;
 mod form;
 mod help;
-mod play;
+mod laws;
+mod program;
 mod replay;
 mod report;
-mod script;
 
 use crate::help::answer_of;
-use crate::replay::replay_main;
+use crate::program::replay_main;
 use std::process::ExitCode;
 use std::rt::Env;
 use std::{env, io};

@@ -1,4 +1,4 @@
-//! The replay program's top call: words, a source and a sink in, a status out.
+//! What is answered to an input: words, a source and a sink in, a status out.
 ghost use Rattle.std.specs.Prelude.{◌≡◌, ◌⊎◌, ◌≢◌, ◌<◌, ◌≤◌, ◌↔◌, ◌+◌, List, ℕ, Some, None, Err, length, IfSome, IfOk};
 ghost use Rattle.std.specs.Io.KnownBytes.{Appends};
 ghost use Rattle.tt_lines.specs.Lines.{lines_of, IsFirstBad};
@@ -8,19 +8,20 @@ ghost use Rattle.tt_edge.specs.Source.{ConsumesAtMost, ConsumesCount};
 ghost use Rattle.tt_replay.specs.declared.form.Form.{Form};
 ghost use Rattle.tt_replay.specs.declared.form.Form.TheVariants.{Check};
 ghost use Rattle.tt_replay.specs.declared.replay.NoAnswer.TheVariants.{BadLine, Differs, Memory};
-ghost use Rattle.tt_replay.specs.Script.{IsPlayedWith};
-ghost use Rattle.tt_replay.specs.Statuses.{form_of, input_limit, IsOfForm, IsAnswer, IsWritten, IsPartlyWritten, IsRefused, IsDiffering, IsOther, agrees_text, bad_line_text, differs_text};
+ghost use Rattle.tt_playing.specs.Begun.{IsScriptOf};
+ghost use Rattle.tt_replay.specs.Statuses.{form_of, input_limit, IsOfForm, IsAnswer, IsWritten, IsPartlyWritten, IsRefused};
+ghost use Rattle.tt_replay.specs.Statuses.{IsDiffering, IsOther, agrees_text, bad_line_text, differs_text};
 
 use crate::expecting::difference;
 use crate::form::{Form, form_of};
-use crate::play::play_script;
 use crate::report::report_of;
-use crate::script::{ScriptError, Start, start_of};
 use std::alloc::Global;
 use thiserror::Error;
 use tt_edge::{ReadAllError, Sink, Source, read_all, write_all};
 use tt_frame::{Line, OutOfMemory};
 use tt_lines::{put, put_number};
+use tt_log::ScriptBad;
+use tt_playing::{Start, play_script, start_of};
 use tt_show::{ShowError, show};
 
 /// All was done as said.
@@ -78,7 +79,7 @@ impl From<OutOfMemory> for NoAnswer {
 ///
 /// It waits for nobody, and returns over every source that answers its calls: at most one byte past the limit is
 /// read, and each read takes at least one.
-pub fn replay_main<S: Source, K: Sink>(
+pub fn answer_input<S: Source, K: Sink>(
     alloc: Global,
     args: &[Line],
     source: &mut S,
@@ -103,12 +104,14 @@ pub fn replay_main<S: Source, K: Sink>(
 
     // The source was read to its end. Its bytes are not of the form, and the first bad line was told: whole, unless
     // the sink failed.
-    ensures refused { result ≡ 3 → IfSome (S.left source.old) (IsRefused args.now (Rose (K.faults sink.old) (K.faults sink.new)) (K.held sink.old) (K.held sink.new)) }
+    ensures refused { result ≡ 3 → IfSome (S.left source.old)
+        (IsRefused args.now (Rose (K.faults sink.old) (K.faults sink.new)) (K.held sink.old) (K.held sink.new)) }
     ensures ended { (result ≡ 0) ⊎ (result ≡ 1) ⊎ (result ≡ 3) ⊎ (result ≡ 5) → Rose (S.ends source.old) (S.ends source.new) }
 
     // The source was read to its end. Its report is not as it expects, and the first such place was told: whole, unless
     // the sink failed.
-    ensures differs { result ≡ 1 → IfSome (S.left source.old) (IsDiffering args.now (Rose (K.faults sink.old) (K.faults sink.new)) (K.held sink.old) (K.held sink.new)) }
+    ensures differs { result ≡ 1 → IfSome (S.left source.old)
+        (IsDiffering args.now (Rose (K.faults sink.old) (K.faults sink.new)) (K.held sink.old) (K.held sink.new)) }
 
     // The answer was written, whole or in part, and nothing else.
     ensures done { result ≡ 0 → IfSome (S.left source.old) (IsWritten args.now (K.held sink.old) (K.held sink.new)) }
@@ -116,8 +119,10 @@ pub fn replay_main<S: Source, K: Sink>(
     ensures unwritten { (result ≢ 0) × (result ≢ 1) × (result ≢ 3) × (result ≢ 5) → sink.new ≡ sink.old }
 
     // Where nothing fails and the input is of the form, it is done, unless memory runs out, or it is checked and differs.
-    ensures complete { (form : Form) (input : List ℕ) → form_of args.now ≡ Some form → S.left source.old ≡ Some input → length input ≤ input_limit → IsOfForm form (lines_of input)
-        → (Rose (S.faults source.old) (S.faults source.new) → ⊥) → (Rose (K.faults sink.old) (K.faults sink.new) → ⊥) → (result ≡ 0) ⊎ (result ≡ 6) ⊎ ((result ≡ 1) × (form ≡ Check)) }
+    ensures complete { (form : Form) (input : List ℕ) → form_of args.now ≡ Some form → S.left source.old ≡ Some input
+        → length input ≤ input_limit → IsOfForm form (lines_of input)
+        → (Rose (S.faults source.old) (S.faults source.new) → ⊥) → (Rose (K.faults sink.old) (K.faults sink.new) → ⊥) → (result ≡ 0)
+        ⊎ (result ≡ 6) ⊎ ((result ≡ 1) × (form ≡ Check)) }
 {
     let Some(form) = form_of(args) else {
         return BAD_WORDS;
@@ -161,8 +166,8 @@ fn run(alloc: Global, input: &[u8]) -> Result<Vec<u8>, NoAnswer>
 {
     let start = match start_of(alloc, input) {
         Ok(start) => start,
-        Err(ScriptError::BadLine(line)) => return Err(NoAnswer::BadLine(line)),
-        Err(ScriptError::Memory) => return Err(NoAnswer::Memory),
+        Err(ScriptBad::Line(line)) => return Err(NoAnswer::BadLine(line)),
+        Err(ScriptBad::Memory) => return Err(NoAnswer::Memory),
     };
     match report_of_script(alloc, &start, input) {
         Ok(report) => Ok(report),
@@ -214,10 +219,10 @@ fn show_list(alloc: Global, input: &[u8]) -> Result<Vec<u8>, NoAnswer>
 
 /// The report of the script that the bytes spell, in a game from its start.
 fn report_of_script(alloc: Global, start: &Start, input: &[u8]) -> Result<Vec<u8>, OutOfMemory>
-    requires script { IsPlayedWith start.now.setup start.now.saved.items (lines_of input.now) }
+    requires script { IsScriptOf start.now.setup start.now.saved.items (lines_of input.now) }
     ensures answer { IfOk result (λ report. IsAnswer Form.Run (lines_of input.now) report.items) }
 {
-    let mut play = play_script(alloc, start, input)?;
+    let mut play = play_script(alloc, start, input, true)?;
     let report = report_of(alloc, &mut play)?;
     Ok(report)
 }

@@ -1,6 +1,7 @@
 //! What those that play do, where the first games leave it out. This function does nothing: its contract is the games.
 ghost use Rattle.tt_rows.specs.Games.{ComesTo};
-ghost use Rattle.tt_rows.specs.PlayingGames.{moves_and_digests, sync_each_frame, stamps_in_order, stamped_as_accepted, sixteen_may_wait, no_company_to_lock, chats_of_companies, told_before_active};
+ghost use Rattle.tt_rows.specs.PlayingGames.{moves_and_digests, sync_each_frame, stamps_in_order, stamped_as_accepted};
+ghost use Rattle.tt_rows.specs.PlayingGames.{sixteen_may_wait, no_company_to_lock, chats_of_companies, told_before_active};
 
 /// What commands, moves, chats and stamps come to where several members meet.
 pub fn plays_come_to()

@@ -42,7 +42,8 @@ pub fn shows_a_spectator()
 pub fn shows_a_founder()
     ensures phase { (seen_in (sent company_and_loan.origin company_and_loan.events 1)).phase ≡ Loaded }
     ensures company { (seen_in (sent company_and_loan.origin company_and_loan.events 1)).company ≡ 0 }
-    ensures entries { entries_in (seen_in (sent company_and_loan.origin company_and_loan.events 1)).seen ≡ entry 2 1 255 NewCompany 2 0 [] ∷ entry 3 2 0 IncreaseLoan 10000 0 [] ∷ [] }
+    ensures entries { entries_in (seen_in (sent company_and_loan.origin company_and_loan.events 1)).seen
+        ≡ entry 2 1 255 NewCompany 2 0 [] ∷ entry 3 2 0 IncreaseLoan 10000 0 [] ∷ [] }
 {}
 
 /// Of two founders each is shown its own company, and not the other one's.

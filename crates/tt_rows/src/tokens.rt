@@ -1,6 +1,7 @@
 //! Tokens. This function does nothing: its contract is the games.
 ghost use Rattle.tt_rows.specs.Games.{ComesTo};
-ghost use Rattle.tt_rows.specs.TokensGames.{given_back, another_token, twice_given_back, none_given_back, late_given_back, wrong_frame_first, open_for_long, open_for_the_lag};
+ghost use Rattle.tt_rows.specs.TokensGames.{given_back, another_token, twice_given_back, none_given_back, late_given_back};
+ghost use Rattle.tt_rows.specs.TokensGames.{wrong_frame_first, open_for_long, open_for_the_lag};
 
 /// A token shows that its stream is read: it is given back once, in time, or its member ends.
 pub fn tokens_come_to()

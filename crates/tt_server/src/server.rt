@@ -4,7 +4,8 @@ ghost use Rattle.tt_edge.specs.Count.{Rose};
 ghost use Rattle.tt_workers.specs.Telling.{link_now};
 ghost use Rattle.tt_workers.specs.Working.{door_view, tick_view};
 ghost use Rattle.tt_serving.specs.Told.{AListenerFailed, TickerFailed, NothingFailed, sink_now};
-ghost use Rattle.tt_server.specs.Serving.{HasServed, HasRefused};
+ghost use Rattle.tt_workers.specs.Running.{OfBoth};
+ghost use Rattle.tt_server.specs.Serving.{HasServed, HasRefused, AreInForm, MayStart, IsDoneOrShort};
 
 use crate::figures::GameFigures;
 use crate::game::{NoGame, game_of};
@@ -94,6 +95,15 @@ where
         (door_view A.counts A.served A.peers (link_now A.Link.counts A.Link.left A.Link.was_read A.Link.held))
         (tick_view T.counts T.beats) doors.old doors.new
         (sink_now K.held K.faults sink.old) (sink_now K.held K.faults sink.new) }
+
+    // Where the words are in form, a saved map is one that a game may start from, and no count rises, all is done, or memory runs out.
+    ensures complete { AreInForm args.now → MayStart S.left saved.old
+        → (OfBoth saved.old saved.new (λ source source'. Rose (S.faults source) (S.faults source')) → ⊥)
+        → (AListenerFailed
+        (door_view L.counts L.served L.peers (link_now L.Link.counts L.Link.left L.Link.was_read L.Link.held))
+        (door_view A.counts A.served A.peers (link_now A.Link.counts A.Link.left A.Link.was_read A.Link.held)) doors.old doors.new → ⊥)
+        → (TickerFailed (tick_view T.counts T.beats) doors.old doors.new → ⊥)
+        → (Rose (K.faults sink.old) (K.faults sink.new) → ⊥) → IsDoneOrShort result }
 {
     let words = match server_words(alloc, args) {
         Ok(words) => words,

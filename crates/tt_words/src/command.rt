@@ -72,7 +72,8 @@ pub(crate) fn parsed<'a>(
     words: &'a [&'a str],
 ) -> Result<ArgMatches<'a>, WordsError>
     ensures taken { IfOk result (λ _. AreTaken program (map (λ word. word.now) words.entry.now)) }
-    ensures rows { IfOk result (λ matches. rows_of (found_of matches) ≡ rows_given (command_for program) (map (λ word. word.now) words.entry.now)) }
+    ensures rows { IfOk result (λ matches. rows_of (found_of matches)
+        ≡ rows_given (command_for program) (map (λ word. word.now) words.entry.now)) }
     ensures bad { result ≡ Err WordsError.Bad → AreTaken program (map (λ word. word.now) words.entry.now) → ⊥ }
 {
     if are_whole(words) {
@@ -89,7 +90,8 @@ fn matched<'a>(
     words: &'a [&'a str],
 ) -> Result<ArgMatches<'a>, WordsError>
     ensures taken { IfOk result (λ _. IsFaultless (command_for program) (map (λ word. word.now) words.entry.now)) }
-    ensures rows { IfOk result (λ matches. rows_of (found_of matches) ≡ rows_given (command_for program) (map (λ word. word.now) words.entry.now)) }
+    ensures rows { IfOk result (λ matches. rows_of (found_of matches)
+        ≡ rows_given (command_for program) (map (λ word. word.now) words.entry.now)) }
     ensures bad { result ≡ Err WordsError.Bad → IsFaultless (command_for program) (map (λ word. word.now) words.entry.now) → ⊥ }
 {
     let Ok(command) = command_for(alloc, program) else {

@@ -6,7 +6,9 @@ ghost use Rattle.tt_world.specs.declared.command.Code.TheVariants.{Pause, NewCom
 ghost use Rattle.tt_world.specs.World.{company_of};
 ghost use Rattle.tt_frame.specs.Text.{IsName, IsShort};
 ghost use Rattle.tt_world.specs.Sound.{IsCompany, most_money};
-ghost use Rattle.tt_world.specs.Commands.{applied, refusal, done, sign_renamed, founded, changed, of_live, increase_refusal, increased, decrease_refusal, decreased, president_renamed, gift_refusal, given, poorer, richer, is_name_of_another, renamed, placed, is_sign_of, without_sign, with_text};
+ghost use Rattle.tt_world.specs.Commands.{applied, refusal, done, sign_renamed, founded, changed, of_live, increase_refusal};
+ghost use Rattle.tt_world.specs.Commands.{increased, decrease_refusal, decreased, president_renamed, gift_refusal, given};
+ghost use Rattle.tt_world.specs.Commands.{poorer, richer, is_name_of_another, renamed, placed, is_sign_of, without_sign, with_text};
 
 use crate::command::{Code, Entry};
 use crate::company::Company;

@@ -1,7 +1,8 @@
 //! What each command does to the company that it is for, where it is not refused.
 ghost use Rattle.std.specs.Prelude.{◌≡◌, IfSome, option_map};
 ghost use Rattle.tt_world.specs.Sound.{IsCompany};
-ghost use Rattle.tt_world.specs.Commands.{of_live, increase_refusal, decrease_refusal, increased, decreased, richer, poorer, renamed, president_renamed};
+ghost use Rattle.tt_world.specs.Commands.{of_live, increase_refusal, decrease_refusal, increased, decreased, richer, poorer};
+ghost use Rattle.tt_world.specs.Commands.{renamed, president_renamed};
 
 use crate::company::Company;
 use tt_frame::Name;

@@ -4,7 +4,9 @@ ghost use Rattle.std.specs.List.{list_any};
 ghost use Rattle.tt_world.specs.Sound.{IsCompany};
 ghost use Rattle.tt_world.specs.Reasons.{◌⇒◌, ◌or_else◌};
 ghost use Rattle.tt_world.specs.declared.effect.Why.TheVariants.{Money};
-ghost use Rattle.tt_world.specs.Commands.{is_loan_sum, increase_refusal, decrease_refusal, gift_refusal, is_below, would_pass, place_refusal, is_sign_of, rename_sign_refusal, rename_refusal, president_refusal, pause_refusal, found_refusal};
+ghost use Rattle.tt_world.specs.Commands.{is_loan_sum, increase_refusal, decrease_refusal, gift_refusal, is_below, would_pass};
+ghost use Rattle.tt_world.specs.Commands.{place_refusal, is_sign_of, rename_sign_refusal, rename_refusal, president_refusal};
+ghost use Rattle.tt_world.specs.Commands.{pause_refusal, found_refusal};
 
 use crate::company::Company;
 use crate::effect::Why;
@@ -81,7 +83,8 @@ pub(crate) fn give(
 fn give_money(number: u32, receiver: &Company, giver: &Company) -> Option<Why>
     requires giver { IsCompany giver.now }
     requires receiver { IsCompany receiver.now }
-    ensures { result ≡ (is_below (giver.now.money -ℤ pos giver.now.loan) number ⇒ Money or_else would_pass receiver.now.money number ⇒ Money) }
+    ensures { result ≡ (is_below (giver.now.money -ℤ pos giver.now.loan) number ⇒ Money
+        or_else would_pass receiver.now.money number ⇒ Money) }
 {
     if giver.money - i64::from(giver.loan) < i64::from(number) {
         return Some(Why::Money);

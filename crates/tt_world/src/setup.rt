@@ -78,7 +78,8 @@ impl Setup {
 
     /// Whether what is counted in frames, clients and bytes is in its range.
     fn has_rates(&self) -> bool
-        ensures { IsTrue result ↔ (IsFrom 0 64 self.now.frame_freq × IsFrom 1 1000 self.now.sync_freq × IsFrom 1 255 self.now.max_clients × IsFrom 64 1073741824 self.now.cost) }
+        ensures { IsTrue result ↔ (IsFrom 0 64 self.now.frame_freq × IsFrom 1 1000 self.now.sync_freq × IsFrom 1 255 self.now.max_clients
+            × IsFrom 64 1073741824 self.now.cost) }
     {
         self.frame_freq <= 64
             && (1..=1_000).contains(&self.sync_freq)
@@ -88,7 +89,8 @@ impl Setup {
 
     /// Whether each time limit is at least one tick.
     fn has_limits(&self) -> bool
-        ensures { IsTrue result ↔ (IsFrom 1 65535 self.now.init × IsFrom 1 65535 self.now.pass_limit × IsFrom 1 65535 self.now.download × IsFrom 1 65535 self.now.join × IsFrom 1 65535 self.now.lag) }
+        ensures { IsTrue result ↔ (IsFrom 1 65535 self.now.init × IsFrom 1 65535 self.now.pass_limit × IsFrom 1 65535 self.now.download
+            × IsFrom 1 65535 self.now.join × IsFrom 1 65535 self.now.lag) }
     {
         self.init >= 1
             && self.pass_limit >= 1

@@ -37,5 +37,6 @@ pub fn one_first_bad_line()
 
 /// A reader that has nothing left has read the one script that the bytes spell.
 pub fn reader_reads_all()
-    ensures { (r : Standing) (bytes : List ℕ) (steps : List Said) → IsAt r bytes steps → r.rest ≡ [] → Spells (contents_of steps) (lines_of bytes) }
+    ensures { (r : Standing) (bytes : List ℕ) (steps : List Said) → IsAt r bytes steps → r.rest ≡ []
+        → Spells (contents_of steps) (lines_of bytes) }
 {}

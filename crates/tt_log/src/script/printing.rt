@@ -180,7 +180,8 @@ fn put_piece(
     conn: u32,
     piece: &Bytes,
 ) -> Result<(), OutOfMemory>
-    ensures ok { OnOk result (out.new.items ≡ out.old.items ++ (parted (named verb.now ∷ word any conn ∷ word hex piece.now ∷ []) ++ 10 ∷ [])) }
+    ensures ok { OnOk result (out.new.items ≡ out.old.items ++ (parted (named verb.now ∷ word any conn ∷ word hex piece.now ∷ []) ++ 10
+        ∷ [])) }
 {
     let parts = [Part::Number(conn as u64), Part::Hex(piece.bytes())];
     put_line(alloc, out, verb, &parts)
@@ -237,7 +238,8 @@ fn put_sum(
     verb: &[u8],
     sum: u32,
 ) -> Result<(), OutOfMemory>
-    ensures ok { OnOk result (out.new.items ≡ out.old.items ++ (parted (named (codes "do") ∷ word any conn ∷ named verb.now ∷ word any sum ∷ []) ++ 10 ∷ [])) }
+    ensures ok { OnOk result (out.new.items ≡ out.old.items ++ (parted (named (codes "do") ∷ word any conn ∷ named verb.now
+        ∷ word any sum ∷ []) ++ 10 ∷ [])) }
 {
     let parts = [
         Part::Number(conn as u64),
@@ -255,7 +257,8 @@ fn put_gift(
     sum: u32,
     to: u8,
 ) -> Result<(), OutOfMemory>
-    ensures ok { OnOk result (out.new.items ≡ out.old.items ++ (parted (named (codes "do") ∷ word any conn ∷ named (codes "give") ∷ word any sum ∷ word (number 0 255) to ∷ []) ++ 10 ∷ [])) }
+    ensures ok { OnOk result (out.new.items ≡ out.old.items ++ (parted (named (codes "do") ∷ word any conn ∷ named (codes "give")
+        ∷ word any sum ∷ word (number 0 255) to ∷ []) ++ 10 ∷ [])) }
 {
     let parts = [
         Part::Number(conn as u64),
@@ -275,7 +278,8 @@ fn put_sign<'a>(
     place: u32,
     says: &'a Short,
 ) -> Result<(), OutOfMemory>
-    ensures ok { OnOk result (out.new.items ≡ out.old.items ++ (parted (named (codes "do") ∷ word any conn ∷ named verb.now ∷ word any place ∷ word (text 0 31) says.now ∷ []) ++ 10 ∷ [])) }
+    ensures ok { OnOk result (out.new.items ≡ out.old.items ++ (parted (named (codes "do") ∷ word any conn ∷ named verb.now
+        ∷ word any place ∷ word (text 0 31) says.now ∷ []) ++ 10 ∷ [])) }
 {
     let parts = [
         Part::Number(conn as u64),
@@ -294,7 +298,8 @@ fn put_naming<'a>(
     verb: &'a [u8],
     name: &'a Short,
 ) -> Result<(), OutOfMemory>
-    ensures ok { OnOk result (out.new.items ≡ out.old.items ++ (parted (named (codes "do") ∷ word any conn ∷ named verb.now ∷ word (text 0 31) name.now ∷ []) ++ 10 ∷ [])) }
+    ensures ok { OnOk result (out.new.items ≡ out.old.items ++ (parted (named (codes "do") ∷ word any conn ∷ named verb.now
+        ∷ word (text 0 31) name.now ∷ []) ++ 10 ∷ [])) }
 {
     let parts = [
         Part::Number(conn as u64),

@@ -3,7 +3,8 @@
 //! It keeps no line: only what is left of the bytes, and what decides whether a line may stand there. `next` gives the
 //! next line, `None` behind the last one, or the number of the line that is no script line in its place. After an error
 //! the reader stands as before, so the same line gives the same answer.
-ghost use Rattle.std.specs.Prelude.{◌≡◌, ◌<◌, ◌≤◌, ◌+◌, ◌∷◌, ◌++◌, [], suc, ℕ, List, length, IfOk, IfSome, IfNone, OnErr, MatchOption, Err, codes};
+ghost use Rattle.std.specs.Prelude.{◌≡◌, ◌<◌, ◌≤◌, ◌+◌, ◌∷◌, ◌++◌, [], suc, ℕ, List, length, IfOk, IfSome, IfNone, OnErr};
+ghost use Rattle.std.specs.Prelude.{MatchOption, Err, codes};
 ghost use Rattle.tt_lines.specs.Lines.{IsFirstBad, lines_of};
 ghost use Rattle.tt_log.specs.Steps.{step_place, opens};
 ghost use Rattle.tt_log.specs.Script.{IsScriptText};
@@ -68,14 +69,16 @@ impl<'a> ScriptReader<'a> {
     /// The next line, or `None` behind the last one.
     pub fn next(&mut self, alloc: Global) -> Result<Option<Step>, ScriptBad>
         // A line was read, and what stands so far is a script.
-        ensures step { (bytes : List ℕ) (steps : List Said) → IsAt self.old bytes steps → IfOk result (λ found. IfSome found (λ step. IsAt self.new bytes (steps ++ step ∷ []))) }
+        ensures step { (bytes : List ℕ) (steps : List Said) → IsAt self.old bytes steps
+            → IfOk result (λ found. IfSome found (λ step. IsAt self.new bytes (steps ++ step ∷ []))) }
         ensures shorter { IfOk result (λ found. IfSome found (λ step. length self.new.rest < length self.old.rest)) }
 
         // Nothing is left.
         ensures end { IfOk result (λ found. IfNone found ((self.old.rest ≡ []) × (self.new ≡ self.old))) }
 
         // The line, which is the next one, is the first with which what stands so far is no script.
-        ensures bad { (bytes : List ℕ) (steps : List Said) (l : ℕ) → IsAt self.old bytes steps → result ≡ Err (bad.Line l) → IsFirstBad IsScriptText (lines_of bytes) l }
+        ensures bad { (bytes : List ℕ) (steps : List Said) (l : ℕ) → IsAt self.old bytes steps → result ≡ Err (bad.Line l)
+            → IsFirstBad IsScriptText (lines_of bytes) l }
         ensures here { (l : ℕ) → result ≡ Err (bad.Line l) → l ≡ self.old.count + 1 }
         ensures err { OnErr result (self.new ≡ self.old) }
     {

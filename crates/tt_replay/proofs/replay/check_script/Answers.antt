@@ -5,7 +5,7 @@ use Rattle.tt_replay.specs.declared.replay.NoAnswer.TheVariants.{BadLine, Differ
 use Rattle.tt_replay.proofs.replay.check_script.Goals as goal
 
 pub difference-requires : goal.difference-requires
-difference-requires c = let run = c.in-Ok.ensures.answer in record { script = (run.0, run.1.spelled) }
+difference-requires c = let run = c.in-Ok.ensures.answer in record { script = (run.0, run.1) }
 
 pub returns-in-Err-clause-bad : goal.returns-in-Err-clause-bad
 returns-in-Err-clause-bad c line is =
@@ -24,5 +24,5 @@ returns-in-Some-clause-differs c place is =
     let found : c.in_ok-found.found ≡ Some place = c.in-Some.is ∙ ap Some told in
     let report = c.deref.ensures.value ∙ run.2 in
     let other = subst (λ (f : Option ℕ). IsDifference f (lines_of c.deref.result.now) (expected_lines run.0.lines)) found
-    (c.in_ok-found.ensures.found run.0 run.1.spelled) in
+    (c.in_ok-found.ensures.found run.0 run.1) in
     (run.0, run.1, subst (λ (xs : List ℕ). IsDifference (Some place) (lines_of xs) (expected_lines run.0.lines)) report other)

@@ -1,9 +1,0 @@
-use Rattle.std.proofs.Common.{◌≡◌, ◌++◌}
-use Rattle.tt_replay.specs.Report.{company_lines}
-use Rattle.tt_replay.proofs.report.put_companies.Given as goal
-
--- the lines of the companies so far
-abbrev pub invariant-loop-number : goal.invariant-loop-number
-invariant-loop-number l = record {
-  text : l.text.items ≡ l.fn.text.items ++ company_lines l.world l.number;
-}
