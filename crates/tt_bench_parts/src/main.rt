@@ -2,19 +2,22 @@
 //! also how long each took.
 //!
 //! `tt_bench_parts N` tells a packet of chat N times to 255 connections at once, and N times to each of them alone; each
-//! time they take it whole. Then it feeds a client a game of N frames, once in pieces of 1,400 bytes and once byte by byte,
+//! time they take it whole. What comes to the members of a game is planned and put in force N times, without bytes: the
+//! acknowledgements of 25, chats among 255, and ticks of 25 and of 255. Then it feeds a client a game of N frames, once in pieces of 1,400 bytes and once byte by byte,
 //! and runs the same frames on a bare world beside; all three come to the same frame and random word. The same bytes are cut
 //! and decoded alone, which a client can't do without. Last, a client is told the words of N frames, the last frame first,
 //! before it may run them: it keeps them all. What it prints is the same at each run; `tt_bench_parts N time` adds the times,
 //! which are not: nanoseconds of one packet for all, with its taking, and of one frame.
 #![tactic(auto)]
 
+mod crowd;
 mod decoding;
 mod fault;
 mod game;
 mod outgoing;
 mod playing;
 
+use crate::crowd::{Course, crowd_of, gone_on};
 use crate::decoding::decoded;
 use crate::fault::{Fault, Reached};
 use crate::game::{bare, stream, words_backward};
@@ -106,6 +109,7 @@ fn say<R: Print>(rt: &R, text: &str) -> Result<(), Fault> {
 /// Does all of the work and prints a line for each.
 fn all_measured<R: Clock + Print>(rt: &R, alloc: Global, words: &Words) -> Result<(), Fault> {
     outgoing_measured(rt, alloc, words)?;
+    members_measured(rt, alloc, words)?;
     client_measured(rt, alloc, words)?;
     decoding_measured(rt, alloc, words)?;
     backward_measured(rt, alloc, words)
@@ -127,6 +131,28 @@ fn outgoing_measured<R: Clock + Print>(rt: &R, alloc: Global, words: &Words) -> 
     ];
     for (what, sum, time) in lines {
         tell(rt, words.timed, (what, words.count), ("bytes", sum), time)?;
+    }
+    Ok(())
+}
+
+/// What comes to the members of a game, planned and put in force by itself.
+fn members_measured<R: Clock + Print>(rt: &R, alloc: Global, words: &Words) -> Result<(), Fault> {
+    let works = [
+        (
+            "acknowledgements of 25 members",
+            25,
+            Course::Acknowledgements,
+        ),
+        ("chats among 255 members", 255, Course::Chats),
+        ("ticks of 25 members", 25, Course::Ticks),
+        ("ticks of 255 members", 255, Course::Ticks),
+    ];
+    for (what, size, course) in works {
+        let mut crowd = crowd_of(alloc, size)?;
+        let before = Instant::now(rt)?;
+        let steps = gone_on(alloc, &mut crowd, course, words.count)?;
+        let time = Instant::now(rt)?.duration_since(before);
+        tell(rt, words.timed, (what, words.count), ("steps", steps), time)?;
     }
     Ok(())
 }
