@@ -135,12 +135,7 @@ fn open(crowd: &mut Crowd, conn: u32) -> Result<u64, Fault> {
 fn is_above(members: &[Member], conn: u32) -> bool
     ensures above { result ≡ true → IsAbove members.now (Open conn) }
 {
-    for member in members {
-        if member.conn() >= conn {
-            return false;
-        }
-    }
-    conn > 0
+    conn > 0 && members.iter().all(|member| member.conn() < conn)
 }
 
 /// A member says a message.
