@@ -18,7 +18,7 @@ use Rattle.tt_play_file.specs.declared.line.TimedLine.{TimedLine}
 use Rattle.tt_session.specs.declared.acting.Acted.TheVariants as acted
 use Rattle.tt_session.specs.Acting.{Action, Feeds, Runs, Does, Takes, Standing, Acts}
 use Rattle.tt_session.specs.Acting.{pieces, client_by, text_by, IsIdle, IsLater, IsNotPast}
-use Rattle.tt_session.specs.Acting.{EndsNone, IsOther, IsRunningAt}
+use Rattle.tt_session.specs.Acting.{EndsNone, IsRunningAt}
 use Rattle.tt_session.specs.Doing.{ActsRound, DoesLine, IsDue, IsFirstDue, goal_at}
 use Rattle.tt_session.specs.Running.{RunsAt}
 use Rattle.tt_session.specs.Session.{SinkNow}
