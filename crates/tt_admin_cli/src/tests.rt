@@ -1,9 +1,10 @@
 //! The program's top call over links, tickers, files and sinks in memory.
 use crate::admin::admin_main;
 use std::alloc::Global;
+use std::process::Abort;
 use std::sync::Wait;
 use std::test::*;
-use tt_edge::{LinkPlan, MemLink, MemSink, MemSource, MemTicker};
+use tt_edge::{Link, LinkGot, LinkPlan, LinkWrote, MemLink, MemSink, MemSource, MemTicker};
 use tt_frame::{Line, OutOfMemory};
 
 /// What a server says to an admin that it lets in: what may be asked for, and the welcome.
@@ -213,34 +214,143 @@ fn the_end_of_the_link_is_told(rt: HostRuntime) -> Result<(), Fail> {
     Ok(())
 }
 
-#[test]
-fn faults_of_the_link_are_told(rt: HostRuntime) -> Result<(), Fail> {
-    let alloc = rt.alloc();
-    let said: [&[u8]; 1] = [WELCOME];
-    let mut read = around(alloc, &said, FILE)?;
+/// Which call fails: the one of that number, counted from 0.
+#[derive(Clone, Copy)]
+enum Failing {
+    Read(u64),
+    Write(u64),
+    Beat(u64),
+    Show(u64),
+}
+
+/// A run in pieces of eight bytes, where one call fails.
+fn outside_with_a_fault(alloc: Global, failing: Failing) -> Result<Outside, OutOfMemory> {
     let mut plan = LinkPlan::working(alloc);
-    plan.failing_reads = numbers(alloc, 0, 1)?;
-    read.link = MemLink::new(alloc, WELCOME.to_vec(alloc)?, 200, plan)?;
-    assert_eq!(rt; call(&rt, alloc, &WORDS, read)?.status, 14);
-    let mut write = around(alloc, &said, FILE)?;
-    let mut plan = LinkPlan::working(alloc);
-    plan.idle_reads = numbers(alloc, 1, 40)?;
-    plan.failing_writes = numbers(alloc, 0, 1)?;
-    write.link = MemLink::new(alloc, WELCOME.to_vec(alloc)?, 200, plan)?;
-    assert_eq!(rt; call(&rt, alloc, &WORDS, write)?.status, 14);
+    plan.idle_reads = numbers(alloc, 12, 60)?;
+    let mut beats = Vec::new(alloc);
+    let mut shows = Vec::new(alloc);
+    match failing {
+        Failing::Read(call) => plan.failing_reads.push(call)?,
+        Failing::Write(call) => plan.failing_writes.push(call)?,
+        Failing::Beat(call) => beats.push(call)?,
+        Failing::Show(call) => shows.push(call)?,
+    }
+    let bytes = joined(alloc, &[WELCOME, PONG])?;
+    Ok(Outside {
+        link: MemLink::new(alloc, bytes, 200, plan)?.at_most(8),
+        ticker: MemTicker::new(5, beats, numbers(alloc, 4, 5)?),
+        file: MemSource::new(b"ping 305419896\nwait 9".to_vec(alloc)?, Vec::new(alloc)),
+        sink: MemSink::new(alloc, 400, shows)?,
+    })
+}
+
+/// Such a run ends with this status.
+fn ends_with<R: Wait + Abort>(
+    rt: &R,
+    alloc: Global,
+    failing: Failing,
+    call_number: u64,
+    wanted: u8,
+) -> Result<(), OutOfMemory> {
+    let trial = call(rt, alloc, &WORDS, outside_with_a_fault(alloc, failing)?)?;
+    assert_eq!(rt; (call_number, trial.status), (call_number, wanted));
     Ok(())
 }
 
 #[test]
-fn faults_of_the_clock_and_of_the_sink_are_told(rt: HostRuntime) -> Result<(), Fail> {
+fn each_call_fails_in_turn(rt: HostRuntime) -> Result<(), Fail> {
     let alloc = rt.alloc();
-    let said: [&[u8]; 1] = [WELCOME];
-    let mut beat = around(alloc, &said, b"wait 9")?;
-    beat.ticker = MemTicker::new(4, numbers(alloc, 3, 4)?, Vec::new(alloc));
-    assert_eq!(rt; call(&rt, alloc, &WORDS, beat)?.status, 9);
-    let mut sink = around(alloc, &said, FILE)?;
-    sink.sink = MemSink::new(alloc, 400, numbers(alloc, 0, 1)?)?;
-    assert_eq!(rt; call(&rt, alloc, &WORDS, sink)?.status, 5);
+    for number in 0..16u64 {
+        ends_with(&rt, alloc, Failing::Read(number), number, 14)?;
+    }
+    for number in 0..3u64 {
+        ends_with(&rt, alloc, Failing::Write(number), number, 14)?;
+    }
+    for number in 0..5u64 {
+        ends_with(&rt, alloc, Failing::Beat(number), number, 9)?;
+    }
+    ends_with(&rt, alloc, Failing::Show(0), 0, 5)?;
+    Ok(())
+}
+
+/// What the server says: each part only once it was told so many bytes.
+const ANSWERS: &[(usize, &[u8])] = &[(12, WELCOME), (12, PONG)];
+
+/// A link that gives each of its parts only once it was written so many bytes.
+#[derive(Drop)]
+struct Dialogue {
+    parts: &'static [(usize, &'static [u8])],
+    given: usize,
+    written: Vec<u8>,
+    faults: u64,
+    idle: u64,
+}
+
+impl Link for Dialogue {
+    ghost use Rattle.std.specs.Prelude.{None};
+
+    ghost counts = { λ l. record { faults = l.faults; ends = 0; idle_reads = l.idle; idle_writes = 0; stalled = 0 } };
+
+    ghost left = { λ _. None };
+
+    ghost was_read = { λ _. None };
+
+    ghost held = { λ _. None };
+
+    fn read(&mut self, out: &mut [u8]) -> LinkGot {
+        if let Some((after, bytes)) = self.parts.get(self.given) {
+            let n = bytes.len().min(out.len());
+            if n > 0 && self.written.len() >= *after {
+                out[..n].copy_from_slice(&bytes[..n]);
+                self.given = self.given.saturating_add(1);
+                return LinkGot::Bytes(n);
+            }
+        }
+        self.idle = self.idle.saturating_add(1);
+        LinkGot::Nothing
+    }
+
+    fn write(&mut self, bytes: &[u8]) -> LinkWrote {
+        match self.written.extend_from_slice(bytes) {
+            Ok(()) => LinkWrote::Count(bytes.len()),
+            Err(_) => {
+                self.faults = self.faults.saturating_add(1);
+                LinkWrote::Failed
+            }
+        }
+    }
+}
+
+#[test]
+fn it_is_answered_once_it_has_joined(rt: HostRuntime) -> Result<(), Fail> {
+    let alloc = rt.alloc();
+    let mut link = Dialogue {
+        parts: ANSWERS,
+        given: 0,
+        written: Vec::new(alloc),
+        faults: 0,
+        idle: 0,
+    };
+    let mut outside = around(alloc, &[], FILE)?;
+    let mut args = Vec::new(alloc);
+    for word in WORDS {
+        if let Some(word) = Line::new(word) {
+            args.push(word)?;
+        }
+    }
+    let status = admin_main(
+        &rt,
+        alloc,
+        &args,
+        &mut link,
+        &mut outside.ticker,
+        &mut outside.file,
+        &mut outside.sink,
+    );
+    let all = joined(alloc, &[JOIN, PING, QUIT])?;
+    assert_eq!(rt; status, 0);
+    assert_eq!(rt; outside.sink.bytes(), TEXT);
+    assert_eq!(rt; link.written.as_slice(), all.as_slice());
     Ok(())
 }
 

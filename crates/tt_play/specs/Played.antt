@@ -1,11 +1,16 @@
 -- What the player has done at its end.
-use Rattle.std.specs.Prelude.{◌≡◌, ℕ, ◌⊎◌, List, codes}
+use Rattle.std.specs.Prelude.{◌≡◌, ℕ, ◌≤◌, ◌⊎◌, List, Some, codes, length}
+use Rattle.tt_edge.specs.Count.{Rose}
+use Rattle.tt_edge.specs.Link.{Rises}
+use Rattle.tt_lines.specs.Lines.{lines_of}
 use Rattle.tt_client.specs.declared.login.Login.{Login}
 use Rattle.tt_client.specs.Held.{held_first}
+use Rattle.tt_rounds.specs.Commands.{commands_limit}
 use Rattle.tt_rounds.specs.Links.{LinkNow}
 use Rattle.tt_words.specs.Forms.{IsPlayForm}
 use Rattle.tt_words.specs.declared.play.PlayWords.{PlayWords}
 use Rattle.tt_play_file.specs.declared.line.TimedLine.{TimedLine}
+use Rattle.tt_play_file.specs.File.{IsFileText}
 use Rattle.tt_session.specs.declared.end.PlayEnd.{PlayEnd}
 use Rattle.tt_session.specs.Ending.{status_of}
 use Rattle.tt_session.specs.Session.{Session, TickerNow, SinkNow}
@@ -58,3 +63,19 @@ pub record HasRefused {S L T K : Type 0} (args : List (List ℕ)) (source : S �
   pub why : Refuses args source sink s s' k k' status
   pub kept_link : link' ≡ link
   pub kept_ticker : ticker' ≡ ticker
+
+-- The words are in the form, the source holds the bytes of a file, no more than a file may have, and no count of faults rose.
+pub record GoesWell (args : List (List ℕ)) (f f' : SourceNow) (l l' : LinkNow) (t t' : TickerNow) (k k' : SinkNow) : Type 0 where
+  pub form : AreInForm args
+  pub input : List ℕ
+  pub known : f.left ≡ Some input
+  pub file : IsFileText (lines_of input)
+  pub within : length input ≤ commands_limit
+  pub source : Rises f.faults f'.faults → ⊥
+  pub link : Rises l.counts.faults l'.counts.faults → ⊥
+  pub ticker : Rises t.counts.faults t'.counts.faults → ⊥
+  pub sink : Rose k.faults k'.faults → ⊥
+
+-- Done as said; or memory ran out; or the client or the link came to its end, each told by its own status, 10 to 13.
+abbrev pub IsDone : ℕ → Type 0
+IsDone status = (status ≡ 0) ⊎ ((status ≡ 6) ⊎ ((10 ≤ status) × (status ≤ 13)))

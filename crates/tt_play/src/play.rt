@@ -7,7 +7,7 @@ ghost use Rattle.tt_words.specs.Forms.{PlayFits};
 ghost use Rattle.tt_session.specs.Session.{sink_now, ticker_now};
 ghost use Rattle.tt_play.specs.Commands.{source_now};
 ghost use Rattle.tt_play.specs.InStep.{PlaysInStep};
-ghost use Rattle.tt_play.specs.Played.{HasPlayed, HasRefused, login_of, Plays};
+ghost use Rattle.tt_play.specs.Played.{GoesWell, HasPlayed, HasRefused, IsDone, login_of, Plays};
 
 use crate::commands::lines_from;
 use std::alloc::Global;
@@ -118,6 +118,13 @@ pub fn play_main<R: Wait, L: Link, T: Ticker, S: Source, K: Sink>(
     ensures link_fault { result ≡ 14 → Rises (L.counts link.old).faults (L.counts link.new).faults }
     ensures done { result ≡ 0 → (K.faults sink.new ≡ K.faults sink.old)
         × ((T.counts ticker.new).faults ≡ (T.counts ticker.old).faults) }
+
+    // Where all is in form and nothing fails, it is done, or the client or the link came to its end, unless memory ran out.
+    ensures complete { GoesWell args.now (source_now S.left S.faults S.ends commands.old)
+        (source_now S.left S.faults S.ends commands.new) (link_now L.counts L.left L.was_read L.held link.old)
+        (link_now L.counts L.left L.was_read L.held link.new) (ticker_now T.counts T.beats ticker.old)
+        (ticker_now T.counts T.beats ticker.new) (sink_now K.held K.faults sink.old) (sink_now K.held K.faults sink.new)
+        → IsDone result }
 
     // The lockstep promise: a player that is given what a server sent prints the worlds of that server's journal.
     ensures in_step { result ≢ 3 → PlaysInStep (L.was_read link.old) (L.was_read link.new)

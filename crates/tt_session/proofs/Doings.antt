@@ -1,6 +1,7 @@
 -- Lines that are done and frames that are run, one after another.
 use Rattle.std.proofs.Common.{◌≡◌, ℕ, ◌≤◌, List, [], ◌∷◌, ◌++◌, Option, Some, None, refl, sym, ap, ◌∙◌, subst, append_assoc, arith}
 use Rattle.std.specs.Prelude.{IfSome, min}
+use Rattle.std.specs.List.{AllByRecursion}
 use Rattle.std.proofs.lemmas.List.{append-nil}
 use Rattle.std.specs.Io.KnownBytes.{Appends}
 use Rattle.std.proofs.KnownBytes.{Appends-nil, Appends-trans}
@@ -17,7 +18,7 @@ use Rattle.tt_play_file.specs.declared.line.TimedLine.{TimedLine}
 use Rattle.tt_session.specs.declared.acting.Acted.TheVariants as acted
 use Rattle.tt_session.specs.Acting.{Action, Feeds, Runs, Does, Takes, Standing, Acts}
 use Rattle.tt_session.specs.Acting.{pieces, client_by, text_by, IsIdle, IsLater, IsNotPast}
-use Rattle.tt_session.specs.Acting.{IsRunningAt}
+use Rattle.tt_session.specs.Acting.{EndsNone, IsRunningAt}
 use Rattle.tt_session.specs.Doing.{ActsRound, DoesLine, IsDue, IsFirstDue, goal_at}
 use Rattle.tt_session.specs.Running.{RunsAt}
 use Rattle.tt_session.specs.Session.{SinkNow}
@@ -27,6 +28,7 @@ pub record SoFar (s : Standing) (left : List TimedLine) (client : Held) (k k' : 
   pub actions : List Action
   pub last : Standing
   pub acts : Each Acts s actions last
+  pub none_ends : AllByRecursion EndsNone actions
   pub fed : pieces actions ≡ []
   pub said : last.said ≡ s.said
   pub client_is : last.client ≡ client
@@ -35,6 +37,11 @@ pub record SoFar (s : Standing) (left : List TimedLine) (client : Held) (k k' : 
   pub printed : last.printed ≡ s.printed ++ text
   pub written : Appends k.held k'.held text
   pub faults : k'.faults ≡ k.faults
+
+-- actions that end no run, one behind the other
+pub none_append : (xs ys : List Action) → AllByRecursion EndsNone xs → AllByRecursion EndsNone ys → AllByRecursion EndsNone (xs ++ ys)
+none_append [] ys none more = more
+none_append (x ∷ xs) ys none more = (none.0, none_append xs ys none.1 more)
 
 pub pieces_append : (xs ys : List Action) → pieces (xs ++ ys) ≡ pieces xs ++ pieces ys
 pieces_append [] ys = refl
@@ -50,6 +57,7 @@ so_first s left client k left_is client_is = record {
   actions = [];
   last = s;
   acts = refl;
+  none_ends = tt;
   fed = refl;
   said = refl;
   client_is = client_is;
@@ -93,6 +101,7 @@ so_line s left left' client client' k k' k'' line so is due does = record {
   actions = so.actions ++ Does line ∷ [];
   last = behind_line so.last left' line.act;
   acts = line_acts s left left' client k k' line so is due;
+  none_ends = none_append so.actions (Does line ∷ []) so.none_ends (does.3, tt);
   fed = fed_more so.actions line so.fed;
   said = so.said;
   client_is = ap (client_by line.act) so.client_is ∙ sym does.0;
@@ -124,7 +133,7 @@ line_quits s left left' client client' k k' k'' line so is due does =
         ap (λ (v : SinkNow). v.faults) does.2 ∙ so.faults,
       );
       stands = (
-        (so.actions, line, refl, does.0),
+        (so.actions, line, refl, does.0, so.none_ends),
         subst (λ (h : Held). state_of h.player ≡ state.Running) (sym same) due.running,
       );
     }
@@ -157,7 +166,10 @@ line_fails s left left' client client' k k' k'' line so is due does running = re
     part_more k.held k'.held k''.held so.text (text_by line.act client) so.written does.1,
     subst (λ (n : ℕ). Rose n k''.faults) so.faults does.2,
   );
-  stands = subst (λ (h : Held). state_of h.player ≡ state.Running) (does.0 ∙ sym (ap (client_by line.act) so.client_is)) running;
+  stands = (
+    subst (λ (h : Held). state_of h.player ≡ state.Running) (does.0 ∙ sym (ap (client_by line.act) so.client_is)) running,
+    none_append so.actions (Does line ∷ []) so.none_ends (does.3, tt),
+  );
 }
 
 -- a line for which memory ran out
@@ -176,7 +188,7 @@ line_lost s left left' client client' k k' k'' line so does = record {
     subst (λ (v : SinkNow). Appends k.held v.held so.text) (sym does.1) so.written,
     ap (λ (v : SinkNow). v.faults) does.1 ∙ so.faults,
   );
-  stands = tt;
+  stands = so.none_ends;
 }
 
 -- frames were run
@@ -194,6 +206,7 @@ so_runs s left client client' k k' frames so is past =
         subst (λ (h : Held). IsNotPast so.last.left h) (sym same) (subst (λ (ls : List TimedLine). IsNotPast ls client')
             (sym so.left_is) past),
       );
+      none_ends = none_append so.actions (Runs frames ∷ []) so.none_ends (tt, tt);
       fed = pieces_append so.actions (Runs frames ∷ []) ∙ append-nil (pieces so.actions) ∙ so.fed;
       said = so.said;
       client_is = same;
@@ -221,6 +234,7 @@ so_idle s left client k k' so idle = record {
     so.left_is,
     subst (λ (h : Held). IsIdle so.last.left h) (sym so.client_is) (subst (λ (ls : List TimedLine). IsIdle ls client)
         (sym so.left_is) idle),
+    so.none_ends,
   );
 }
 

@@ -3,6 +3,7 @@ use Rattle.std.proofs.Common.{◌≡◌, ℕ, zero, suc, ◌+◌, ◌≤◌, inl
 use Rattle.std.proofs.Common.{◌++◌, length, Option, Some, None, refl, sym, ap, ◌∙◌, subst, append_assoc}
 use Rattle.std.proofs.Common.{length-append, arith}
 use Rattle.std.specs.Prelude.{replicate}
+use Rattle.std.specs.List.{AllByRecursion}
 use Rattle.std.proofs.lemmas.List.{append-nil}
 use Rattle.std.specs.Io.KnownBytes.{Appends}
 use Rattle.tt_edge.specs.declared.ticker.Beat.{Beat}
@@ -28,10 +29,11 @@ use Rattle.tt_session.specs.declared.acting.Acted.{Acted}
 use Rattle.tt_session.specs.declared.acting.Acted.TheVariants as acted
 use Rattle.tt_session.specs.declared.end.PlayEnd.{PlayEnd}
 use Rattle.tt_session.specs.declared.end.PlayEnd.TheVariants as end
-use Rattle.tt_session.specs.Acting.{Action, Standing, pieces}
+use Rattle.tt_session.specs.Acting.{Action, Standing, pieces, EndsNone}
 use Rattle.tt_session.specs.Doing.{ActsRound, IsWritten, StandsSo}
-use Rattle.tt_session.specs.Session.{Session, TickerNow, SinkNow, IsLost, IsPrinted, IsTold, EndsSo, last_beat}
-use Rattle.tt_session.proofs.Sessions.{Core, hears, core_heard, core_acted, fed_by, with_client, heard_length, pieces_same}
+use Rattle.tt_session.specs.Session.{Session, TickerNow, SinkNow, IsLost, IsPrinted, IsTold, EndsSo, QuitsSo, last_beat}
+use Rattle.tt_session.proofs.Doings.{none_append}
+use Rattle.tt_session.proofs.Sessions.{Core, hears, core_heard, core_acted, fed_by, feeding_ends, with_client, heard_length, pieces_same}
 
 -- a link's faults and ends are as before
 pub record Sameness (c c' : LinkCounts) : Type 0 where
@@ -151,14 +153,15 @@ written_whole acted.Memory k k' text whole is = is
 
 pub session_of : (client : Held) (lines : List TimedLine) (l l' : LinkNow) (t t' : TickerNow) (k k' : SinkNow) (now : Held)
     (waits lost : List ℕ) (e : PlayEnd) (actions : List Action) (last : Standing)
-    → Core client lines l l' k k' now waits lost actions last → IsLost e lost
+    → Core client lines l l' k k' now waits lost actions last → QuitsSo e actions → IsLost e lost
     → IsPrinted e k k' last.printed → (ticks : ℕ) → Adds t.beats t'.beats (replicate ticks beat.Tick ++ last_beat e)
     → IsTold e t.counts t'.counts → IsPaced (ticks + length (last_beat e)) (length (pieces actions ++ lost)) l.counts l'.counts
     → EndsSo l.counts l'.counts t.counts t'.counts actions waits last e → Session client lines l l' t t' k k' e
-session_of client lines l l' t t' k k' now waits lost e actions last c none printed ticks told ticker paced ended = record {
+session_of client lines l l' t t' k k' now waits lost e actions last c quits none printed ticks told ticker paced ended = record {
   actions = actions;
   last = last;
   acts = c.acts;
+  quits = quits;
   lost = lost;
   none_lost = none;
   read = c.read;
@@ -197,13 +200,14 @@ lost_none heard.Memory lost other is = absurd (other refl)
 -- memory ran out as a piece was heard
 pub lost_session : (client : Held) (lines : List TimedLine) (l l1 l2 : LinkNow) (t t' : TickerNow) (k k' : SinkNow) (now now' : Held)
     (waits : List ℕ) (actions : List Action) (last : Standing) → Core client lines l l1 k k' now waits [] actions last
-    → Clock t t' l.counts l1.counts (length (pieces actions)) → HearsRound hears now now' l1 l2 heard.Memory
-    → Session client lines l l2 t t' k k' end.Memory
-lost_session client lines l l1 l2 t t' k k' now now' waits actions last c clock round =
+    → AllByRecursion EndsNone actions → Clock t t' l.counts l1.counts (length (pieces actions))
+    → HearsRound hears now now' l1 l2 heard.Memory → Session client lines l l2 t t' k k' end.Memory
+lost_session client lines l l1 l2 t t' k k' now now' waits actions last c none_ends clock round =
     let core = core_heard client lines l l1 l2 k k' now now' waits heard.Memory actions last c round in
     let more : length (pieces actions) ≤ length (pieces (actions ++ fed_by round.pieces) ++ round.lost) =
     omega (arith, heard_length actions round.pieces, length-append (pieces (actions ++ fed_by round.pieces)) round.lost) in
-    session_of client lines l l2 t t' k k' now' waits round.lost end.Memory (actions ++ fed_by round.pieces) (with_client last now') core tt
+    session_of client lines l l2 t t' k k' now' waits round.lost end.Memory (actions ++ fed_by round.pieces) (with_client last now') core
+    (none_append actions (fed_by round.pieces) none_ends (feeding_ends round.pieces)) tt
     (core.printed, core.faults) clock.ticks (clock_told t t' l.counts l1.counts (length (pieces actions)) clock)
     (ticker_same t t' clock.counts)
     (paced_up clock.ticks (length (pieces actions)) (length (pieces (actions ++ fed_by round.pieces) ++ round.lost)) l.counts l1.counts
@@ -219,6 +223,7 @@ pub record Turned (client : Held) (lines : List TimedLine) (l l1 l2 : LinkNow) (
   pub done : List Action
   pub last : Standing
   pub actions_is : actions ≡ before ++ done
+  pub none_ends : AllByRecursion EndsNone before
   pub core : Core client lines l l2 k k' now waits [] actions last
   pub stands : StandsSo done last left a
   -- the clock before it, and what was read since
@@ -230,11 +235,11 @@ pub record Turned (client : Held) (lines : List TimedLine) (l l1 l2 : LinkNow) (
 
 pub turned : (client : Held) (lines left left' : List TimedLine) (l l1 l2 : LinkNow) (t t' : TickerNow) (k k' k'' : SinkNow)
     (now now' now'' : Held) (waits : List ℕ) (r : Heard) (a : Acted) (actions : List Action) (last : Standing)
-    → Core client lines l l1 k k' now waits [] actions last → last.left ≡ left
+    → Core client lines l l1 k k' now waits [] actions last → AllByRecursion EndsNone actions → last.left ≡ left
     → Clock t t' l.counts l1.counts (length (pieces actions)) → HearsRound hears now now' l1 l2 r → (r ≡ heard.Memory → ⊥)
     → ((s : Standing) → s.left ≡ left → s.client ≡ now' → ActsRound s left' now'' k' k'' a) → (a ≡ acted.SinkFault → ⊥)
     → Turned client lines l l1 l2 t t' k k'' now'' waits r a left'
-turned client lines left left' l l1 l2 t t' k k' k'' now now' now'' waits r a actions last c left_is clock round some acts whole =
+turned client lines left left' l l1 l2 t t' k k' k'' now now' now'' waits r a actions last c none_ends left_is clock round some acts whole =
     let heard_core = core_heard client lines l l1 l2 k k' now now' waits r actions last c round in
     let none : round.lost ≡ [] = lost_none r round.lost some round.none_lost in
     let fed = actions ++ fed_by round.pieces in
@@ -249,6 +254,7 @@ turned client lines left left' l l1 l2 t t' k k' k'' now now' now'' waits r a ac
       done = acted_round.actions;
       last = acted_round.last;
       actions_is = refl;
+      none_ends = none_append actions (fed_by round.pieces) none_ends (feeding_ends round.pieces);
       core = core_acted client lines left' l l2 k k' k'' now' now'' waits a fed start core1 acted_round w.0 w.1;
       stands = acted_round.stands;
       bytes = length (pieces actions);
@@ -262,16 +268,24 @@ turned client lines left left' l l1 l2 t t' k k' k'' now now' now'' waits r a ac
 -- an end behind a turn, before anything is said
 pub turn_ends : (client : Held) (lines left : List TimedLine) (l l1 l2 : LinkNow) (t t' : TickerNow) (k k' : SinkNow) (now : Held)
     (waits : List ℕ) (r : Heard) (a : Acted) (e : PlayEnd) → (turn : Turned client lines l l1 l2 t t' k k' now waits r a left)
-    → IsLost e [] → (Appends k.held k'.held turn.last.printed × (k'.faults ≡ k.faults) → IsPrinted e k k' turn.last.printed)
+    → QuitsSo e turn.actions → IsLost e []
+    → (Appends k.held k'.held turn.last.printed × (k'.faults ≡ k.faults) → IsPrinted e k k' turn.last.printed)
     → last_beat e ≡ [] → (t'.counts.faults ≡ t.counts.faults → IsTold e t.counts t'.counts)
     → EndsSo l.counts l2.counts t.counts t'.counts turn.actions waits turn.last e → Session client lines l l2 t t' k k' e
-turn_ends client lines left l l1 l2 t t' k k' now waits r a e turn none printed no_beat told ended =
+turn_ends client lines left l l1 l2 t t' k k' now waits r a e turn quits none printed no_beat told ended =
     let n = length (pieces turn.actions ++ []) in
     let more : turn.bytes ≤ n = omega (arith, turn.length_is, length-append (pieces turn.actions) []) in
     let paced = paced_up turn.clock.ticks turn.bytes n l.counts l1.counts l2.counts (later_heard l1.counts l2.counts turn.more r
     turn.heard).idle_reads more turn.clock.paced in
-    session_of client lines l l2 t t' k k' now waits [] e turn.actions turn.last turn.core none
+    session_of client lines l l2 t t' k k' now waits [] e turn.actions turn.last turn.core quits none
     (printed (turn.core.printed, turn.core.faults)) turn.clock.ticks
     (subst (λ (xs : List Beat). Adds t.beats t'.beats (replicate turn.clock.ticks beat.Tick ++ xs)) (sym no_beat)
     (clock_told t t' l.counts l1.counts turn.bytes turn.clock)) (told (ticker_same t t' turn.clock.counts))
     (subst (λ (xs : List Beat). IsPaced (turn.clock.ticks + length xs) n l.counts l2.counts) (sym no_beat) paced) ended
+
+-- no action of a turn ends the run, where none of those done in it does
+pub turn_on : (client : Held) (lines left : List TimedLine) (l l1 l2 : LinkNow) (t t' : TickerNow) (k k' : SinkNow) (now : Held)
+    (waits : List ℕ) (r : Heard) (a : Acted) (turn : Turned client lines l l1 l2 t t' k k' now waits r a left)
+    → AllByRecursion EndsNone turn.done → AllByRecursion EndsNone turn.actions
+turn_on client lines left l l1 l2 t t' k k' now waits r a turn none =
+    subst (λ (xs : List Action). AllByRecursion EndsNone xs) (sym turn.actions_is) (none_append turn.before turn.done turn.none_ends none)

@@ -1,6 +1,7 @@
 -- Rounds, one after another.
 use Rattle.std.proofs.Common.{◌≡◌, ℕ, ◌+◌, List, [], ◌∷◌, ◌++◌, length, take, map, refl, sym, ap, ◌∙◌, subst}
 use Rattle.std.proofs.Common.{append_assoc, length-append}
+use Rattle.std.specs.List.{AllByRecursion}
 use Rattle.std.proofs.lemmas.List.{append-nil}
 use Rattle.std.specs.Io.KnownBytes.{Appends}
 use Rattle.std.proofs.KnownBytes.{Appends-nil, Appends-trans, Appends-kept}
@@ -16,7 +17,7 @@ use Rattle.tt_client.specs.Held.{Held, with_call}
 use Rattle.tt_client.specs.Saying.{bytes_of}
 use Rattle.tt_play_file.specs.declared.line.TimedLine.{TimedLine}
 use Rattle.tt_session.specs.declared.acting.Acted.{Acted}
-use Rattle.tt_session.specs.Acting.{Action, Feeds, Takes, Standing, begun, Acts, pieces}
+use Rattle.tt_session.specs.Acting.{Action, Feeds, Takes, Standing, begun, Acts, pieces, EndsNone}
 use Rattle.tt_session.specs.Doing.{ActsRound}
 use Rattle.tt_session.specs.Session.{SinkNow}
 use Rattle.tt_session.proofs.Doings.{pieces_append}
@@ -104,6 +105,15 @@ fed_by ps = map (λ p. Feeds p) ps
 
 abbrev pub taken_by : List (List ℕ) → List Action
 taken_by ps = map (λ p. Takes p) ps
+
+-- they end no run
+pub feeding_ends : (ps : List (List ℕ)) → AllByRecursion EndsNone (fed_by ps)
+feeding_ends [] = tt
+feeding_ends (p ∷ ps) = (tt, feeding_ends ps)
+
+pub taking_ends : (ps : List (List ℕ)) → AllByRecursion EndsNone (taken_by ps)
+taking_ends [] = tt
+taking_ends (p ∷ ps) = (tt, taking_ends ps)
 
 pub core_heard : (client : Held) (lines : List TimedLine) (l l1 l2 : LinkNow) (k k' : SinkNow) (now now' : Held) (waits : List ℕ)
     (r : Heard)

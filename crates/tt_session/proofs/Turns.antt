@@ -2,6 +2,7 @@
 use Rattle.std.proofs.Common.{◌≡◌, ℕ, ◌+◌, ◌≤◌, inl, inr, List, [], ◌∷◌, ◌++◌, length, Some, refl, sym, ap, ◌∙◌, subst, append_assoc}
 use Rattle.std.proofs.Common.{length-append, arith}
 use Rattle.std.specs.Prelude.{replicate, IfSome}
+use Rattle.std.specs.List.{AllByRecursion}
 use Rattle.std.proofs.lemmas.List.{append-nil}
 use Rattle.std.specs.Io.KnownBytes.{Appends}
 use Rattle.tt_lockstep.specs.Runner.{Runner}
@@ -32,15 +33,15 @@ use Rattle.tt_play_file.specs.declared.line.TimedLine.{TimedLine}
 use Rattle.tt_session.specs.declared.acting.Acted.TheVariants as acted
 use Rattle.tt_session.specs.declared.end.PlayEnd.{PlayEnd}
 use Rattle.tt_session.specs.declared.end.PlayEnd.TheVariants as end
-use Rattle.tt_session.specs.Acting.{Action, Does, Standing, Acts, begun, pieces, IsIdle, IsLater}
+use Rattle.tt_session.specs.Acting.{Action, Does, Standing, Acts, begun, pieces, EndsNone, IsIdle, IsLater}
 use Rattle.tt_rounds.proofs.Chains.{each_append}
 use Rattle.tt_session.specs.Doing.{ActsRound}
 use Rattle.tt_session.specs.Session.{Session, TickerNow, SinkNow, GoesOn, IsQuit, IsEndOf, AllSaid}
-use Rattle.tt_session.proofs.Doings.{part_more}
+use Rattle.tt_session.proofs.Doings.{none_append, part_more}
 use Rattle.tt_session.proofs.Sessions.{Core, hears, due, says, core_heard, core_said}
 use Rattle.tt_session.proofs.Sessions.{fed_by, taken_by, with_client, with_said, pieces_same, none_fed}
-use Rattle.tt_session.proofs.Sessions.{heard_length}
-use Rattle.tt_session.proofs.Ends.{Clock, Beaten, Turned, turn_ends, session_of, lost_none, beaten, adds_then}
+use Rattle.tt_session.proofs.Sessions.{heard_length, feeding_ends, taking_ends}
+use Rattle.tt_session.proofs.Ends.{Clock, Beaten, Turned, turn_ends, turn_on, session_of, lost_none, beaten, adds_then}
 use Rattle.tt_session.proofs.Ends.{clock_told, paced_up, ticker_same, same_heard, same_then}
 
 -- ---- ends within a turn
@@ -48,39 +49,49 @@ use Rattle.tt_session.proofs.Ends.{clock_told, paced_up, ticker_same, same_heard
 goes_running : (h : Held) → state_of h.player ≡ state.Running → GoesOn (state_of h.player)
 goes_running h is = subst GoesOn (sym is) tt
 
-quit_more : (before done actions : List Action) → actions ≡ before ++ done → IsQuit done → IsQuit actions
-quit_more before done actions is quit = (
+quit_more : (before done actions : List Action) → actions ≡ before ++ done → AllByRecursion EndsNone before → IsQuit done
+    → IsQuit actions
+quit_more before done actions is none quit = (
   before ++ quit.0,
   quit.1,
   is ∙ ap (λ (t : List Action). before ++ t) quit.2 ∙ sym (append_assoc before quit.0 (Does quit.1 ∷ [])),
   quit.3,
+  none_append before quit.0 none quit.4,
 )
 
 pub quit_session : (client : Held) (lines left : List TimedLine) (l l1 l2 : LinkNow) (t t' : TickerNow) (k k' : SinkNow) (now : Held)
     (waits : List ℕ) (r : Heard) → Turned client lines l l1 l2 t t' k k' now waits r acted.Quit left
     → Session client lines l l2 t t' k k' end.Quit
 quit_session client lines left l l1 l2 t t' k k' now waits r turn =
-    turn_ends client lines left l l1 l2 t t' k k' now waits r acted.Quit end.Quit turn refl (λ p. p) refl (λ is. is)
-    (quit_more turn.before turn.done turn.actions turn.actions_is turn.stands.0, goes_running turn.last.client turn.stands.1)
+    let quit = quit_more turn.before turn.done turn.actions turn.actions_is turn.none_ends turn.stands.0 in
+    turn_ends client lines left l l1 l2 t t' k k' now waits r acted.Quit end.Quit turn quit refl (λ p. p) refl (λ is. is)
+    (quit, goes_running turn.last.client turn.stands.1)
 
 pub memory_session : (client : Held) (lines left : List TimedLine) (l l1 l2 : LinkNow) (t t' : TickerNow) (k k' : SinkNow) (now : Held)
     (waits : List ℕ) (r : Heard) → Turned client lines l l1 l2 t t' k k' now waits r acted.Memory left
     → Session client lines l l2 t t' k k' end.Memory
 memory_session client lines left l l1 l2 t t' k k' now waits r turn =
-    turn_ends client lines left l l1 l2 t t' k k' now waits r acted.Memory end.Memory turn tt (λ p. p) refl (λ is. is) tt
+    turn_ends client lines left l l1 l2 t t' k k' now waits r acted.Memory end.Memory turn
+    (turn_on client lines left l l1 l2 t t' k k' now waits r acted.Memory turn turn.stands) tt (λ p. p) refl (λ is. is) tt
+
+going_on : (client : Held) (lines left : List TimedLine) (l l1 l2 : LinkNow) (t t' : TickerNow) (k k' : SinkNow) (now : Held)
+    (waits : List ℕ) (r : Heard) (turn : Turned client lines l l1 l2 t t' k k' now waits r acted.Going left)
+    → AllByRecursion EndsNone turn.actions
+going_on client lines left l l1 l2 t t' k k' now waits r turn =
+    turn_on client lines left l l1 l2 t t' k k' now waits r acted.Going turn turn.stands.2
 
 -- the client came to its own end
 end_by : (client : Held) (lines left : List TimedLine) (l l1 l2 : LinkNow) (t t' : TickerNow) (k k' : SinkNow) (now : Held)
     (waits : List ℕ) (r : Heard) (e : PlayEnd) → (turn : Turned client lines l l1 l2 t t' k k' now waits r acted.Going left)
     → IsEndOf (state_of turn.last.client.player) (Some e) → Session client lines l l2 t t' k k' e
 end_by client lines left l l1 l2 t t' k k' now waits r end.Shutdown turn is = turn_ends client lines left l l1 l2 t t' k k' now
-    waits r acted.Going end.Shutdown turn refl (λ p. p) refl (λ x. x) is
+    waits r acted.Going end.Shutdown turn (going_on client lines left l l1 l2 t t' k k' now waits r turn) refl (λ p. p) refl (λ x. x) is
 end_by client lines left l l1 l2 t t' k k' now waits r end.Desync turn is = turn_ends client lines left l l1 l2 t t' k k' now
-    waits r acted.Going end.Desync turn refl (λ p. p) refl (λ x. x) is
+    waits r acted.Going end.Desync turn (going_on client lines left l l1 l2 t t' k k' now waits r turn) refl (λ p. p) refl (λ x. x) is
 end_by client lines left l l1 l2 t t' k k' now waits r end.Wrong turn is = turn_ends client lines left l l1 l2 t t' k k' now
-    waits r acted.Going end.Wrong turn refl (λ p. p) refl (λ x. x) is
+    waits r acted.Going end.Wrong turn (going_on client lines left l l1 l2 t t' k k' now waits r turn) refl (λ p. p) refl (λ x. x) is
 end_by client lines left l l1 l2 t t' k k' now waits r end.Ended turn is = turn_ends client lines left l l1 l2 t t' k k' now
-    waits r acted.Going end.Ended turn refl (λ p. p) refl (λ x. x) is
+    waits r acted.Going end.Ended turn (going_on client lines left l l1 l2 t t' k k' now waits r turn) refl (λ p. p) refl (λ x. x) is
 end_by client lines left l l1 l2 t t' k k' now waits r end.Quit turn is = absurd is
 end_by client lines left l l1 l2 t t' k k' now waits r end.Stopped turn is = absurd is
 end_by client lines left l l1 l2 t t' k k' now waits r end.SinkFault turn is = absurd is
@@ -101,7 +112,8 @@ pub link_end : (client : Held) (lines left : List TimedLine) (l l1 l2 : LinkNow)
     (waits : List ℕ) → Turned client lines l l1 l2 t t' k k' now waits heard.End acted.Going left → GoesOn (state_of now.player)
     → Session client lines l l2 t t' k k' end.LinkEnd
 link_end client lines left l l1 l2 t t' k k' now waits turn goes =
-    turn_ends client lines left l l1 l2 t t' k k' now waits heard.End acted.Going end.LinkEnd turn refl (λ p. p) refl (λ is. is) (
+    turn_ends client lines left l l1 l2 t t' k k' now waits heard.End acted.Going end.LinkEnd turn
+    (going_on client lines left l l1 l2 t t' k k' now waits heard.End turn) refl (λ p. p) refl (λ is. is) (
       subst (λ (n : ℕ). Rises n l2.counts.ends) turn.clock.same.ends turn.heard.0,
       subst (λ (h : Held). GoesOn (state_of h.player)) (sym turn.core.client_is) goes,
       turn.stands.1,
@@ -111,7 +123,8 @@ pub link_fails : (client : Held) (lines left : List TimedLine) (l l1 l2 : LinkNo
     (waits : List ℕ) → Turned client lines l l1 l2 t t' k k' now waits heard.Failed acted.Going left → GoesOn (state_of now.player)
     → Session client lines l l2 t t' k k' end.LinkFault
 link_fails client lines left l l1 l2 t t' k k' now waits turn goes =
-    turn_ends client lines left l l1 l2 t t' k k' now waits heard.Failed acted.Going end.LinkFault turn refl (λ p. p) refl (λ is. is) (
+    turn_ends client lines left l l1 l2 t t' k k' now waits heard.Failed acted.Going end.LinkFault turn
+    (going_on client lines left l l1 l2 t t' k k' now waits heard.Failed turn) refl (λ p. p) refl (λ is. is) (
       subst (λ (n : ℕ). Rises n l2.counts.faults) turn.clock.same.faults turn.heard.0,
       subst (λ (h : Held). GoesOn (state_of h.player)) (sym turn.core.client_is) goes,
       turn.stands.1,
@@ -120,11 +133,11 @@ link_fails client lines left l l1 l2 t t' k k' now waits turn goes =
 -- the sink failed
 pub fault_session : (client : Held) (lines left left' : List TimedLine) (l l1 l2 : LinkNow) (t t' : TickerNow) (k k' k'' : SinkNow)
     (now now' now'' : Held) (waits : List ℕ) (r : Heard) (actions : List Action) (last : Standing)
-    → Core client lines l l1 k k' now waits [] actions last → last.left ≡ left
+    → Core client lines l l1 k k' now waits [] actions last → AllByRecursion EndsNone actions → last.left ≡ left
     → Clock t t' l.counts l1.counts (length (pieces actions)) → HearsRound hears now now' l1 l2 r → (r ≡ heard.Memory → ⊥)
     → ((s : Standing) → s.left ≡ left → s.client ≡ now' → ActsRound s left' now'' k' k'' acted.SinkFault)
     → Session client lines l l2 t t' k k'' end.SinkFault
-fault_session client lines left left' l l1 l2 t t' k k' k'' now now' now'' waits r actions last c left_is clock round some acts =
+fault_session client lines left left' l l1 l2 t t' k k' k'' now now' now'' waits r actions last c none_ends left_is clock round some acts =
     let heard_core = core_heard client lines l l1 l2 k k' now now' waits r actions last c round in
     let none : round.lost ≡ [] = lost_none r round.lost some round.none_lost in
     let fed = actions ++ fed_by round.pieces in
@@ -142,6 +155,7 @@ fault_session client lines left left' l l1 l2 t t' k k' k'' now now' now'' waits
       actions = all;
       last = a.last;
       acts = each_append Acts (begun client lines) start a.last fed a.actions core1.acts a.acts;
+      quits = none_append fed a.actions (none_append actions (fed_by round.pieces) none_ends (feeding_ends round.pieces)) a.stands.1;
       lost = [];
       none_lost = refl;
       read = subst (λ (xs : List ℕ). Appends l.read l2.read (xs ++ [])) (sym bytes_is) core1.read;
@@ -155,7 +169,7 @@ fault_session client lines left left' l l1 l2 t t' k k' k'' now now' now'' waits
       ticker = ticker_same t t' clock.counts;
       paced = paced_up clock.ticks (length (pieces actions)) (length (pieces all ++ [])) l.counts l1.counts l2.counts
           (later_heard l1.counts l2.counts (length (joined round.pieces)) r round.counts).idle_reads more clock.paced;
-      ended = goes_running a.last.client a.stands;
+      ended = goes_running a.last.client a.stands.0;
     }
 
 -- ---- what is said
@@ -188,6 +202,7 @@ pub record Spoken (client : Held) (lines : List TimedLine) (l l3 : LinkNow) (t t
   pub actions : List Action
   pub last : Standing
   pub core : Core client lines l l3 k k' now waits [] actions last
+  pub none_ends : AllByRecursion EndsNone actions
   pub left_is : last.left ≡ left
   pub idle : IsIdle last.left last.client
   pub goes : GoesOn (state_of last.client.player)
@@ -219,6 +234,8 @@ spoken client lines left l l1 l2 l3 t t' k k' now now' waits waits' r turn goes 
       actions = actions;
       last = last;
       core = core_said client lines l l2 l3 k k' now now' waits waits' r turn.actions turn.last turn.core round;
+      none_ends = none_append turn.actions (taken_by m.given)
+          (going_on client lines left l l1 l2 t t' k k' now waits heard.Going turn) (taking_ends m.given);
       left_is = turn.stands.0;
       idle = by_same (IdleBy turn.last.left) now.player.phase now'.player.phase now.player.runs now'.player.runs same.0 same.1 idle;
       goes = by_same GoesBy now.player.phase now'.player.phase now.player.runs now'.player.runs same.0 same.1 goes;
@@ -248,8 +265,10 @@ write_fails client lines left l l1 l2 l3 t t' k k' now now' waits waits' turn go
     let later = later_then l1.counts l2.counts l3.counts (later_heard l1.counts l2.counts turn.more heard.Going turn.heard)
     (later_said l2.counts l3.counts said.Failed round.counts) in
     let more : turn.bytes ≤ length (pieces actions ++ []) = omega (arith, bytes_is, length-append (pieces actions) []) in
-    session_of client lines l l3 t t' k k' now' waits' [] end.LinkFault actions last core refl (core.printed, core.faults) turn.clock.ticks
-    (clock_told t t' l.counts l1.counts turn.bytes turn.clock) (ticker_same t t' turn.clock.counts)
+    let none_ends = none_append turn.actions (taken_by m.given) (going_on client lines left l l1 l2 t t' k k' now waits heard.Going turn)
+    (taking_ends m.given) in
+    session_of client lines l l3 t t' k k' now' waits' [] end.LinkFault actions last core none_ends refl (core.printed, core.faults)
+    turn.clock.ticks (clock_told t t' l.counts l1.counts turn.bytes turn.clock) (ticker_same t t' turn.clock.counts)
     (paced_up turn.clock.ticks turn.bytes (length (pieces actions ++ [])) l.counts l1.counts l3.counts later.idle_reads more
     turn.clock.paced) (
       subst (λ (n : ℕ). Rises n l3.counts.faults) faults round.counts.0,
@@ -268,7 +287,8 @@ pub stop_session : (client : Held) (lines left : List TimedLine) (l l3 : LinkNow
 stop_session client lines left l l3 t t' t'' k k' now waits s counts told =
     let b = s.beaten in
     let faults : t''.counts.faults ≡ t.counts.faults = ap (λ (c : TickCounts). c.faults) counts.1 ∙ ticker_same t t' b.counts in
-    session_of client lines l l3 t t'' k k' now waits [] end.Stopped s.actions s.last s.core refl (s.core.printed, s.core.faults) b.ticks
+    session_of client lines l l3 t t'' k k' now waits [] end.Stopped s.actions s.last s.core s.none_ends refl
+    (s.core.printed, s.core.faults) b.ticks
     (adds_then t.beats t'.beats t''.beats (replicate b.ticks beat.Tick) (beat.Stop ∷ []) b.told told) faults
     (subst (λ (n : ℕ). IsPaced (b.ticks + 1) n l.counts l3.counts) (sym (nil_length (length (pieces s.actions)) (pieces s.actions) refl))
     b.paced) (
@@ -292,7 +312,7 @@ ticker_fails client lines left l l3 t t' t'' k k' now waits s counts told =
     let b = s.beaten in
     let rises : Rises t.counts.faults t''.counts.faults = subst (λ (n : ℕ). Rises n t''.counts.faults) (ap (λ (c : TickCounts). c.faults)
     b.counts) counts.0 in
-    session_of client lines l l3 t t'' k k' now waits [] end.TickerFault s.actions s.last s.core refl
+    session_of client lines l l3 t t'' k k' now waits [] end.TickerFault s.actions s.last s.core s.none_ends refl
     (s.core.printed, s.core.faults) b.ticks
     (adds_then t.beats t'.beats t''.beats (replicate b.ticks beat.Tick) [] b.told told) rises
     (fewer_paced b.ticks (length (pieces s.actions)) (length (pieces s.actions ++ [])) l.counts l3.counts

@@ -71,6 +71,19 @@ Acts s (Does line) t = IsRunningAt line.at s.client × (s.left ≡ line ∷ t.le
 Acts s (Takes bytes) t = (bytes ≡ take (length bytes) (bytes_of s.client.player.saying))
     × (t ≡ record s { client = with_call s.client (Take (length bytes)); said = s.said ++ bytes })
 
+-- a line that ends no run
+abbrev pub IsOther : Act → Type 0
+IsOther Print = Unit {0}
+IsOther Quit = ⊥
+IsOther (Do command) = Unit {0}
+
+-- an action that ends no run
+abbrev pub EndsNone : Action → Type 0
+EndsNone (Feeds piece) = Unit {0}
+EndsNone (Runs frames) = Unit {0}
+EndsNone (Does line) = IsOther line.act
+EndsNone (Takes bytes) = Unit {0}
+
 -- the pieces that actions feed, joined
 abbrev pub pieces : List Action → List ℕ
 pieces [] = []

@@ -1,5 +1,6 @@
 -- What doing the lines that are due comes to.
 use Rattle.std.specs.Prelude.{◌≡◌, ℕ, ◌≤◌, min, List, [], ◌∷◌, ◌++◌}
+use Rattle.std.specs.List.{AllByRecursion}
 use Rattle.std.specs.Io.KnownBytes.{Appends}
 use Rattle.tt_edge.specs.Count.{Rose}
 use Rattle.tt_edge.specs.Sink.{AppendsPart}
@@ -12,7 +13,7 @@ use Rattle.tt_play_file.specs.declared.line.Act.TheVariants.{Quit as QuitLine}
 use Rattle.tt_play_file.specs.declared.line.TimedLine.{TimedLine}
 use Rattle.tt_session.specs.declared.acting.Acted.{Acted}
 use Rattle.tt_session.specs.declared.acting.Acted.TheVariants as acted
-use Rattle.tt_session.specs.Acting.{Action, Standing, Acts, pieces, client_by, text_by, IsIdle, IsRunningAt}
+use Rattle.tt_session.specs.Acting.{Action, Standing, Acts, pieces, client_by, text_by, EndsNone, IsIdle, IsOther, IsRunningAt}
 use Rattle.tt_session.specs.Session.{SinkNow, IsQuit}
 
 -- the first line is due at this frame
@@ -33,8 +34,10 @@ goal_at permitted (line ∷ lines) = min line.at permitted
 -- one line: it was done, it ends the run, the sink failed at its text, or memory ran out and it was not done
 abbrev pub DoesLine : Act → Held → Held → SinkNow → SinkNow → Acted → Type 0
 DoesLine act h h' k k' acted.Going = (h' ≡ client_by act h) × Appends k.held k'.held (text_by act h) × (k'.faults ≡ k.faults)
+    × IsOther act
 DoesLine act h h' k k' acted.Quit = (act ≡ QuitLine) × (h' ≡ h) × (k' ≡ k)
 DoesLine act h h' k k' acted.SinkFault = (h' ≡ client_by act h) × AppendsPart k.held k'.held (text_by act h) × Rose k.faults k'.faults
+    × IsOther act
 DoesLine act h h' k k' acted.Memory = (h' ≡ h) × (k' ≡ k)
 
 -- the first line: it is gone, and was done so
@@ -48,12 +51,12 @@ abbrev pub IsWritten : SinkNow → SinkNow → List ℕ → Acted → Type 0
 IsWritten k k' text acted.SinkFault = AppendsPart k.held k'.held text × Rose k.faults k'.faults
 IsWritten k k' text other = Appends k.held k'.held text × (k'.faults ≡ k.faults)
 
--- how the client and the lines stand then
+-- how the client and the lines stand then, and whether a line ended the run
 abbrev pub StandsSo : List Action → Standing → List TimedLine → Acted → Type 0
-StandsSo actions s left acted.Going = (s.left ≡ left) × IsIdle s.left s.client
+StandsSo actions s left acted.Going = (s.left ≡ left) × IsIdle s.left s.client × AllByRecursion EndsNone actions
 StandsSo actions s left acted.Quit = IsQuit actions × (state_of s.client.player ≡ state.Running)
-StandsSo actions s left acted.SinkFault = state_of s.client.player ≡ state.Running
-StandsSo actions s left acted.Memory = Unit {0}
+StandsSo actions s left acted.SinkFault = (state_of s.client.player ≡ state.Running) × AllByRecursion EndsNone actions
+StandsSo actions s left acted.Memory = AllByRecursion EndsNone actions
 
 -- Lines were done and frames were run, one behind the other; nothing was fed, and nothing was taken to be said.
 pub record ActsRound (s : Standing) (left : List TimedLine) (client : Held) (k k' : SinkNow) (r : Acted) : Type 0 where

@@ -1,5 +1,6 @@
 -- What a finished run of the player did, in totals at its end.
 use Rattle.std.specs.Prelude.{◌≡◌, ℕ, ◌+◌, ◌≤◌, ◌⊎◌, List, [], ◌∷◌, ◌++◌, length, replicate, Option, Some, None}
+use Rattle.std.specs.List.{AllByRecursion}
 use Rattle.std.specs.Io.KnownBytes.{Appends}
 use Rattle.tt_edge.specs.declared.ticker.Beat.{Beat}
 use Rattle.tt_edge.specs.declared.ticker.Beat.TheVariants as beat
@@ -20,7 +21,7 @@ use Rattle.tt_play_file.specs.declared.line.Act.TheVariants.{Quit as QuitLine}
 use Rattle.tt_play_file.specs.declared.line.TimedLine.{TimedLine}
 use Rattle.tt_session.specs.declared.end.PlayEnd.{PlayEnd}
 use Rattle.tt_session.specs.declared.end.PlayEnd.TheVariants as end
-use Rattle.tt_session.specs.Acting.{Action, Does, Standing, begun, Acts, pieces, IsIdle}
+use Rattle.tt_session.specs.Acting.{Action, Does, Standing, begun, Acts, pieces, EndsNone, IsIdle}
 
 -- what is known of the ticker and of the sink
 pub record TickerNow : Type 0 where
@@ -79,9 +80,15 @@ IsEndOf s (Some end.Wrong) = IsWrong s
 IsEndOf s (Some end.Ended) = IsEnded s
 IsEndOf s (Some other) = ⊥
 
--- the last action was to do a line that ends the run
+-- the last action was to do a line that ends the run, and no action before it was
 abbrev pub IsQuit : List Action → Type 0
 IsQuit actions = (before : List Action) × (line : TimedLine) × (actions ≡ before ++ Does line ∷ []) × (line.act ≡ QuitLine)
+    × AllByRecursion EndsNone before
+
+-- A line that ends the run is done where it ends so, and is the last action. Where it ends otherwise none was done.
+abbrev pub QuitsSo : PlayEnd → List Action → Type 0
+QuitsSo end.Quit actions = IsQuit actions
+QuitsSo other actions = AllByRecursion EndsNone actions
 
 -- at a beat all was written that the client has said; or else a write answered Nothing, the last of them
 abbrev pub AllSaid : LinkCounts → LinkCounts → List ℕ → Held → Type 0
@@ -116,6 +123,8 @@ pub record Session (client : Held) (lines : List TimedLine) (l l' : LinkNow) (t 
     pub actions : List Action
     pub last : Standing
     pub acts : Each Acts (begun client lines) actions last
+    -- nothing is done behind a line that ends the run
+    pub quits : QuitsSo e actions
     -- the pieces fed, joined, are the bytes read
     pub lost : List ℕ
     pub none_lost : IsLost e lost

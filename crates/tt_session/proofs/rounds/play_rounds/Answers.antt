@@ -26,6 +26,7 @@ round-init g c =
       core = subst (λ (xs : List ℕ). Core c.args.player.now c.args.left.now.items (now c.args.link.now) (now c.args.link.now)
           (sink c.args.sink.now) (sink c.args.sink.now) c.args.player.now xs [] [] (begun c.args.player.now c.args.left.now.items))
           (sym c.new-outbox.ensures) (core_first c.args.player.now c.args.left.now.items (now c.args.link.now) (sink c.args.sink.now));
+      none_ends = tt;
       left_is = refl;
       clock = clock_first (ticker c.args.ticker.now) (g.L.Link.counts c.args.link.now);
       goes = c.requires;
@@ -41,7 +42,8 @@ returns-in-Memory g c =
     lost_session c.args.player.now c.args.left.now.items (now c.args.link.now) (now c.round.link) (now c.hear_round-heard.new.link)
     (ticker c.args.ticker.now) (ticker c.round.ticker) (sink c.args.sink.now)
     (sink c.round.sink) c.round.player c.hear_round-heard.new.hearer
-    c.round.outbox i.actions i.last i.core i.clock (subst (λ (r : Heard). HearsRound hears c.round.player c.hear_round-heard.new.hearer
+    c.round.outbox i.actions i.last i.core i.none_ends i.clock
+    (subst (λ (r : Heard). HearsRound hears c.round.player c.hear_round-heard.new.hearer
     (now c.round.link) (now c.hear_round-heard.new.link) r) c.in-Memory.is h)
 
 pub returns-in-Quit : goal.returns-in-Quit
@@ -54,8 +56,8 @@ returns-in-Quit g c =
     let turn = turned c.args.player.now c.args.left.now.items c.round.left.items c.act.new.left.items (now c.args.link.now)
     (now c.round.link) (now c.hear_round-heard.new.link)
     (ticker c.args.ticker.now) (ticker c.round.ticker) (sink c.args.sink.now) (sink c.round.sink) (sink c.act.new.sink) c.round.player
-    c.hear_round-heard.new.hearer c.act.new.player c.round.outbox c.hear_round-heard.result acted.Quit i.actions i.last i.core i.left_is
-    i.clock h c.in_default.not-Memory c.in-Quit.ensures quit_whole in
+    c.hear_round-heard.new.hearer c.act.new.player c.round.outbox c.hear_round-heard.result acted.Quit i.actions i.last i.core
+    i.none_ends i.left_is i.clock h c.in_default.not-Memory c.in-Quit.ensures quit_whole in
     quit_session c.args.player.now c.args.left.now.items c.act.new.left.items (now c.args.link.now) (now c.round.link)
     (now c.hear_round-heard.new.link)
     (ticker c.args.ticker.now) (ticker c.round.ticker) (sink c.args.sink.now) (sink c.act.new.sink) c.act.new.player c.round.outbox
@@ -71,8 +73,8 @@ returns-in-Memory-act g c =
     let turn = turned c.args.player.now c.args.left.now.items c.round.left.items c.act.new.left.items (now c.args.link.now)
     (now c.round.link) (now c.hear_round-heard.new.link)
     (ticker c.args.ticker.now) (ticker c.round.ticker) (sink c.args.sink.now) (sink c.round.sink) (sink c.act.new.sink) c.round.player
-    c.hear_round-heard.new.hearer c.act.new.player c.round.outbox c.hear_round-heard.result acted.Memory i.actions i.last i.core i.left_is
-    i.clock h c.in_default.not-Memory c.in-Memory-act.ensures memory_whole in
+    c.hear_round-heard.new.hearer c.act.new.player c.round.outbox c.hear_round-heard.result acted.Memory i.actions i.last i.core
+    i.none_ends i.left_is i.clock h c.in_default.not-Memory c.in-Memory-act.ensures memory_whole in
     memory_session c.args.player.now c.args.left.now.items c.act.new.left.items (now c.args.link.now) (now c.round.link)
     (now c.hear_round-heard.new.link)
     (ticker c.args.ticker.now) (ticker c.round.ticker) (sink c.args.sink.now) (sink c.act.new.sink) c.act.new.player c.round.outbox
@@ -88,7 +90,8 @@ returns-in-SinkFault g c =
     fault_session c.args.player.now c.args.left.now.items c.round.left.items c.act.new.left.items (now c.args.link.now)
     (now c.round.link) (now c.hear_round-heard.new.link)
     (ticker c.args.ticker.now) (ticker c.round.ticker) (sink c.args.sink.now) (sink c.round.sink) (sink c.act.new.sink) c.round.player
-    c.hear_round-heard.new.hearer c.act.new.player c.round.outbox c.hear_round-heard.result i.actions i.last i.core i.left_is i.clock h
+    c.hear_round-heard.new.hearer c.act.new.player c.round.outbox c.hear_round-heard.result i.actions i.last i.core
+    i.none_ends i.left_is i.clock h
     c.in_default.not-Memory c.in-SinkFault.ensures
 
 pub returns-in-Some-end_of : goal.returns-in-Some-end_of
@@ -101,8 +104,8 @@ returns-in-Some-end_of g c =
     let turn = turned c.args.player.now c.args.left.now.items c.round.left.items c.act.new.left.items (now c.args.link.now)
     (now c.round.link) (now c.hear_round-heard.new.link)
     (ticker c.args.ticker.now) (ticker c.round.ticker) (sink c.args.sink.now) (sink c.round.sink) (sink c.act.new.sink) c.round.player
-    c.hear_round-heard.new.hearer c.act.new.player c.round.outbox c.hear_round-heard.result acted.Going i.actions i.last i.core i.left_is
-    i.clock h c.in_default.not-Memory c.in-Going.ensures going_whole in
+    c.hear_round-heard.new.hearer c.act.new.player c.round.outbox c.hear_round-heard.result acted.Going i.actions i.last i.core
+    i.none_ends i.left_is i.clock h c.in_default.not-Memory c.in-Going.ensures going_whole in
     end_session c.args.player.now c.args.left.now.items c.act.new.left.items (now c.args.link.now) (now c.round.link)
     (now c.hear_round-heard.new.link)
     (ticker c.args.ticker.now) (ticker c.round.ticker) (sink c.args.sink.now) (sink c.act.new.sink) c.act.new.player c.round.outbox
@@ -119,8 +122,8 @@ returns-in-End g c =
     let turn = turned c.args.player.now c.args.left.now.items c.round.left.items c.act.new.left.items (now c.args.link.now)
     (now c.round.link) (now c.hear_round-heard.new.link)
     (ticker c.args.ticker.now) (ticker c.round.ticker) (sink c.args.sink.now) (sink c.round.sink) (sink c.act.new.sink) c.round.player
-    c.hear_round-heard.new.hearer c.act.new.player c.round.outbox c.hear_round-heard.result acted.Going i.actions i.last i.core i.left_is
-    i.clock h c.in_default.not-Memory c.in-Going.ensures going_whole in
+    c.hear_round-heard.new.hearer c.act.new.player c.round.outbox c.hear_round-heard.result acted.Going i.actions i.last i.core
+    i.none_ends i.left_is i.clock h c.in_default.not-Memory c.in-Going.ensures going_whole in
     let goes : GoesOn (state_of c.act.new.player.player) = subst GoesOn c.state.ensures c.in-None-end_of.ensures in
     let turned_so = subst (λ (r : Heard). Turned c.args.player.now c.args.left.now.items (now c.args.link.now) (now c.round.link)
     (now c.hear_round-heard.new.link) (ticker c.args.ticker.now) (ticker c.round.ticker) (sink c.args.sink.now)
@@ -141,8 +144,8 @@ returns-in-Failed g c =
     let turn = turned c.args.player.now c.args.left.now.items c.round.left.items c.act.new.left.items (now c.args.link.now)
     (now c.round.link) (now c.hear_round-heard.new.link)
     (ticker c.args.ticker.now) (ticker c.round.ticker) (sink c.args.sink.now) (sink c.round.sink) (sink c.act.new.sink) c.round.player
-    c.hear_round-heard.new.hearer c.act.new.player c.round.outbox c.hear_round-heard.result acted.Going i.actions i.last i.core i.left_is
-    i.clock h c.in_default.not-Memory c.in-Going.ensures going_whole in
+    c.hear_round-heard.new.hearer c.act.new.player c.round.outbox c.hear_round-heard.result acted.Going i.actions i.last i.core
+    i.none_ends i.left_is i.clock h c.in_default.not-Memory c.in-Going.ensures going_whole in
     let goes : GoesOn (state_of c.act.new.player.player) = subst GoesOn c.state.ensures c.in-None-end_of.ensures in
     let turned_so = subst (λ (r : Heard). Turned c.args.player.now c.args.left.now.items (now c.args.link.now) (now c.round.link)
     (now c.hear_round-heard.new.link) (ticker c.args.ticker.now) (ticker c.round.ticker) (sink c.args.sink.now)
@@ -163,8 +166,8 @@ returns-in-Failed-say_round g c =
     let turn = turned c.args.player.now c.args.left.now.items c.round.left.items c.act.new.left.items (now c.args.link.now)
     (now c.round.link) (now c.hear_round-heard.new.link)
     (ticker c.args.ticker.now) (ticker c.round.ticker) (sink c.args.sink.now) (sink c.round.sink) (sink c.act.new.sink) c.round.player
-    c.hear_round-heard.new.hearer c.act.new.player c.round.outbox c.hear_round-heard.result acted.Going i.actions i.last i.core i.left_is
-    i.clock h c.in_default.not-Memory c.in-Going.ensures going_whole in
+    c.hear_round-heard.new.hearer c.act.new.player c.round.outbox c.hear_round-heard.result acted.Going i.actions i.last i.core
+    i.none_ends i.left_is i.clock h c.in_default.not-Memory c.in-Going.ensures going_whole in
     let goes : GoesOn (state_of c.act.new.player.player) = subst GoesOn c.state.ensures c.in-None-end_of.ensures in
     let turned_so = subst (λ (r : Heard). Turned c.args.player.now c.args.left.now.items (now c.args.link.now) (now c.round.link)
     (now c.hear_round-heard.new.link) (ticker c.args.ticker.now) (ticker c.round.ticker) (sink c.args.sink.now)
@@ -186,8 +189,8 @@ returns-in-Stop g c =
     let turn = turned c.args.player.now c.args.left.now.items c.round.left.items c.act.new.left.items (now c.args.link.now)
     (now c.round.link) (now c.hear_round-heard.new.link)
     (ticker c.args.ticker.now) (ticker c.round.ticker) (sink c.args.sink.now) (sink c.round.sink) (sink c.act.new.sink) c.round.player
-    c.hear_round-heard.new.hearer c.act.new.player c.round.outbox c.hear_round-heard.result acted.Going i.actions i.last i.core i.left_is
-    i.clock h c.in_default.not-Memory c.in-Going.ensures going_whole in
+    c.hear_round-heard.new.hearer c.act.new.player c.round.outbox c.hear_round-heard.result acted.Going i.actions i.last i.core
+    i.none_ends i.left_is i.clock h c.in_default.not-Memory c.in-Going.ensures going_whole in
     let goes : GoesOn (state_of c.act.new.player.player) = subst GoesOn c.state.ensures c.in-None-end_of.ensures in
     let turned_so = subst (λ (r : Heard). Turned c.args.player.now c.args.left.now.items (now c.args.link.now) (now c.round.link)
     (now c.hear_round-heard.new.link) (ticker c.args.ticker.now) (ticker c.round.ticker) (sink c.args.sink.now)
@@ -213,8 +216,8 @@ returns-in-Failed-wait g c =
     let turn = turned c.args.player.now c.args.left.now.items c.round.left.items c.act.new.left.items (now c.args.link.now)
     (now c.round.link) (now c.hear_round-heard.new.link)
     (ticker c.args.ticker.now) (ticker c.round.ticker) (sink c.args.sink.now) (sink c.round.sink) (sink c.act.new.sink) c.round.player
-    c.hear_round-heard.new.hearer c.act.new.player c.round.outbox c.hear_round-heard.result acted.Going i.actions i.last i.core i.left_is
-    i.clock h c.in_default.not-Memory c.in-Going.ensures going_whole in
+    c.hear_round-heard.new.hearer c.act.new.player c.round.outbox c.hear_round-heard.result acted.Going i.actions i.last i.core
+    i.none_ends i.left_is i.clock h c.in_default.not-Memory c.in-Going.ensures going_whole in
     let goes : GoesOn (state_of c.act.new.player.player) = subst GoesOn c.state.ensures c.in-None-end_of.ensures in
     let turned_so = subst (λ (r : Heard). Turned c.args.player.now c.args.left.now.items (now c.args.link.now) (now c.round.link)
     (now c.hear_round-heard.new.link) (ticker c.args.ticker.now) (ticker c.round.ticker) (sink c.args.sink.now)
@@ -240,8 +243,8 @@ round-preserved g c =
     let turn = turned c.args.player.now c.args.left.now.items c.round.left.items c.act.new.left.items (now c.args.link.now)
     (now c.round.link) (now c.hear_round-heard.new.link)
     (ticker c.args.ticker.now) (ticker c.round.ticker) (sink c.args.sink.now) (sink c.round.sink) (sink c.act.new.sink) c.round.player
-    c.hear_round-heard.new.hearer c.act.new.player c.round.outbox c.hear_round-heard.result acted.Going i.actions i.last i.core i.left_is
-    i.clock h c.in_default.not-Memory c.in-Going.ensures going_whole in
+    c.hear_round-heard.new.hearer c.act.new.player c.round.outbox c.hear_round-heard.result acted.Going i.actions i.last i.core
+    i.none_ends i.left_is i.clock h c.in_default.not-Memory c.in-Going.ensures going_whole in
     let goes : GoesOn (state_of c.act.new.player.player) = subst GoesOn c.state.ensures c.in-None-end_of.ensures in
     let turned_so = subst (λ (r : Heard). Turned c.args.player.now c.args.left.now.items (now c.args.link.now) (now c.round.link)
     (now c.hear_round-heard.new.link) (ticker c.args.ticker.now) (ticker c.round.ticker) (sink c.args.sink.now)
@@ -256,6 +259,7 @@ round-preserved g c =
       actions = spoke.actions;
       last = spoke.last;
       core = spoke.core;
+      none_ends = spoke.none_ends;
       left_is = spoke.left_is;
       clock = clock_next (ticker c.args.ticker.now) (ticker c.round.ticker) (ticker c.wait.new.self) (g.L.Link.counts c.args.link.now)
           (g.L.Link.counts c.say_round.new.link) (length (pieces spoke.actions)) spoke.beaten c.in-Tick.ensures.beats
