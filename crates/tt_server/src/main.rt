@@ -160,3 +160,6 @@ fn advise<R: Eprint>(rt: &R, status: u8) -> io::Result<()> {
     }
     eprintln!(rt; "tt_server: {line}")
 }
+
+#[cfg(test)]
+mod tests;
