@@ -2,6 +2,7 @@
 ghost use Rattle.std.specs.Prelude.{◌≡◌};
 
 mod guests;
+mod loopback;
 
 use self::guests::{Calls, Gates, Inns, Patient, Planned, SOUND, Table, empty, gates, inns};
 use crate::server::serve_main;
@@ -12,7 +13,7 @@ use std::sync::atomic::{AtomicU64, Ordering};
 use std::test::*;
 use std::thread::Threads;
 use std::time::Clock;
-use tt_edge::{FileSource, Listener, MemSink, MemSource, Source};
+use tt_edge::{FileSource, Listener, MemSink, MemSource, Source, Ticker};
 use tt_frame::Line;
 use tt_workers::Doors;
 
@@ -32,12 +33,12 @@ const LATE: &[u8] =
     b"OTTN\x00\x01\x00\x00GAME\x00\x00\x00\x06\x35\xa4\xe9\x01\x49\x00RAND\x00\x00\x00\x08\x00\x00\x00\x00\x00\x00\x00\x00CMPY\x00\x00\x00\x12\x01\x00\x00\x00\x00\x00\x00\x00\x00\x00\x00\x04\x93\xe0\x01A\x01BSIGN\x00\x00\x00\x02\x00\x00ENDC\x00\x00\x00\x00";
 
 /// The call, where its conditions are met; 255 where they are not.
-fn called<'a, R: Threads + Wait + Clock + Sync, S: Source, L: Listener + Send>(
+fn called<R: Threads + Wait + Clock + Sync, S: Source, L: Listener + Send, T: Ticker + Send>(
     rt: &R,
     alloc: Global,
     args: &[Line],
     saved: &mut Option<S>,
-    doors: &mut Doors<L, L, Patient<'a>>,
+    doors: &mut Doors<L, L, T>,
     sink: &mut MemSink,
 ) -> u8
 where
