@@ -1,8 +1,8 @@
 -- The statuses of a call that no fault explains.
-use Rattle.std.proofs.Common.{◌≡◌, ℕ, ◌⊎◌, ◌<◌, ◌≤◌, ◌+◌, List, length, Option, None, Some, IfSome, refl, subst, inl, inr, arith}
+use Rattle.std.proofs.Common.{◌≡◌, ℕ, ◌<◌, ◌≤◌, ◌+◌, List, length, Option, None, Some, IfSome, refl, subst, inl, inr, arith}
 use Rattle.tt_edge.specs.Count.{Rose}
 use Rattle.tt_edge.specs.Source.{ConsumesCount}
-use Rattle.tt_log.specs.Saved.{IsSaved, most_saved}
+use Rattle.tt_log.specs.Saved.{most_saved}
 use Rattle.tt_workers.specs.Running.{OfBoth}
 use Rattle.tt_serving.specs.Statuses.{IsRunStatus}
 use Rattle.tt_server.specs.declared.game.NoGame.{NoGame}
