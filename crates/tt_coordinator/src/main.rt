@@ -4,6 +4,8 @@
 //! status comes when and what is written. docs/PROTOCOL.md tells what servers and clients say.
 #![tactic(auto)]
 
+ghost use Rattle.std.specs.Prelude.{◌≡◌, ◌⊎◌, IfOk, IfErr, IsSome, vec_len};
+
 mod coordinate;
 mod figures;
 
@@ -17,7 +19,7 @@ use std::thread::Threads;
 use std::time::Clock;
 use tt_edge::{Peer, Sink, StdoutSink, write_all};
 use tt_frame::Line;
-use tt_serving::doors_at;
+use tt_serving::{SocketDoors, doors_at};
 use tt_words::{Program, address_of, answer_of, words_of};
 
 /// How many handles the coordinator's socket has: as many servers and clients may be there at once.
@@ -57,6 +59,24 @@ fn answered<K: Sink>(sink: &mut K, answer: &[u8]) -> u8 {
     }
 }
 
+/// The doors of the coordinator: 256 handles at its own address and 16 at that of its STUN desk, and a clock; or the status where they
+/// can't be had.
+fn coordinator_doors<'a, R>(
+    rt: &'a R,
+    alloc: Global,
+    main: &Peer,
+    desk: &Peer,
+) -> Result<SocketDoors<'a, R>, u8>
+where
+    R: Net<Listener = TcpListener, Stream = TcpStream> + Clock,
+    ensures main { IfOk result (λ doors. vec_len doors.game ≡ 256) }
+    ensures desk { IfOk result (λ doors. vec_len doors.admin ≡ 16) }
+    ensures ticker { IfOk result (λ doors. IsSome doors.ticker) }
+    ensures err { IfErr result (λ status. (status ≡ 6) ⊎ (status ≡ 8)) }
+{
+    doors_at(rt, alloc, main, MAINS, desk, DESKS)
+}
+
 /// Opens the doors and serves, and answers the status.
 fn start<R>(rt: &R, alloc: Global, words: &[Line]) -> u8
 where
@@ -77,7 +97,7 @@ where
     let Some(desk) = address_of(desk) else {
         return BAD_WORDS;
     };
-    let mut doors = match doors_at(rt, alloc, &main, MAINS, &desk, DESKS) {
+    let mut doors = match coordinator_doors(rt, alloc, &main, &desk) {
         Ok(doors) => doors,
         Err(status) => return status,
     };

@@ -1,5 +1,6 @@
-//! The coordinator's top call over a door in memory: a server that registers, and words in no form.
-ghost use Rattle.std.specs.Prelude.{◌≡◌, None, Some};
+//! The coordinator's top call over doors in memory: a server that registers, also beside one whose link fails, and faults that are told.
+ghost use Rattle.std.specs.Prelude.{◌≡◌, ◌<◌, IfOk, None, Some};
+ghost use Rattle.tt_edge.specs.MemLink.{IsFreshLink};
 
 use crate::coordinate::coordinate_main;
 use std::alloc::Global;
@@ -27,10 +28,10 @@ const HOME: Peer = Peer {
 /// How often one looks at a number before one gives up.
 const LOOKS: u64 = 1_000_000_000;
 
-/// Looks at a number until it isn't 0. False where it gave up.
-fn rises(number: &AtomicU64) -> bool {
+/// Looks at a number until it is as large as this. False where it gave up.
+fn reaches(number: &AtomicU64, wanted: u64) -> bool {
     for _ in 0..LOOKS {
-        if number.load(Ordering::SeqCst) > 0 {
+        if number.load(Ordering::SeqCst) >= wanted {
             return true;
         }
     }
@@ -69,10 +70,12 @@ impl Listener for Watched<'_> {
     }
 }
 
-/// A ticker that tells one tick, and then Stop, once a link came back. Where none does, it fails.
+/// A clock that tells one tick once so many links came back; then it fails, or tells Stop. Where they don't come, it fails.
 #[derive(Drop)]
 struct Patient<'a> {
     back: &'a AtomicU64,
+    wanted: u64,
+    broken: bool,
     ticked: bool,
     faults: u64,
     stops: u64,
@@ -84,7 +87,7 @@ impl Ticker for Patient<'_> {
     ghost beats = { λ _. None };
 
     fn wait(&mut self) -> Beat {
-        if !rises(self.back) {
+        if !reaches(self.back, self.wanted) {
             self.faults = self.faults.saturating_add(1);
             return Beat::Failed;
         }
@@ -92,36 +95,98 @@ impl Ticker for Patient<'_> {
             self.ticked = true;
             return Beat::Tick;
         }
+        if self.broken {
+            self.faults = self.faults.saturating_add(1);
+            return Beat::Failed;
+        }
         self.stops = self.stops.saturating_add(1);
         Beat::Stop
+    }
+}
+
+/// A clock that tells Stop in the end.
+fn clock(back: &AtomicU64, wanted: u64) -> Patient<'_> {
+    Patient {
+        back,
+        wanted,
+        broken: false,
+        ticked: false,
+        faults: 0,
+        stops: 0,
     }
 }
 
 /// The doors of these tests.
 type TestDoors<'a> = Doors<Watched<'a>, Watched<'a>, Patient<'a>>;
 
-/// One handle of the main door, with one link, which brings a registration and ends.
-fn doors<'a>(alloc: Global, back: &'a AtomicU64) -> Result<TestDoors<'a>, Fail> {
-    let link = MemLink::new(
-        alloc,
-        REGISTER.to_vec(alloc)?,
-        4000,
-        LinkPlan::working(alloc),
-    )?;
+/// How a door behaves that has one link, which brings a registration and ends: how many bytes the link moves at most, at which of its
+/// reads and writes it fails, and at which of its own calls the door does.
+#[derive(Clone, Copy, Debug)]
+struct Planned {
+    most: usize,
+    reads: Option<u64>,
+    writes: Option<u64>,
+    accepts: Option<u64>,
+}
+
+/// A door that works, with a link that works.
+const SOUND: Planned = Planned {
+    most: 100,
+    reads: None,
+    writes: None,
+    accepts: None,
+};
+
+/// The number of a call, where it is there.
+fn calls(alloc: Global, number: Option<u64>) -> Result<Vec<u64>, Fail> {
+    let mut numbers = Vec::new(alloc);
+    if let Some(number) = number {
+        numbers.push(number)?;
+    }
+    Ok(numbers)
+}
+
+/// A link that brings a registration and ends, so many bytes at a time.
+fn link(alloc: Global, most: usize, plan: LinkPlan) -> Result<MemLink, Fail>
+    requires { 0 < most }
+    ensures { IfOk result IsFreshLink }
+{
+    Ok(MemLink::new(alloc, REGISTER.to_vec(alloc)?, 4000, plan)?.at_most(most))
+}
+
+/// A door with that link.
+fn door<'a>(alloc: Global, planned: &Planned, back: &'a AtomicU64) -> Result<Watched<'a>, Fail> {
+    if planned.most == 0 {
+        return Err("a link has to move a byte")?;
+    }
+    let plan = LinkPlan {
+        failing_reads: calls(alloc, planned.reads)?,
+        idle_reads: Vec::new(alloc),
+        failing_writes: calls(alloc, planned.writes)?,
+        idle_writes: Vec::new(alloc),
+    };
     let mut coming = Vec::new(alloc);
-    coming.push((link, HOME))?;
-    let door = MemListener::new(alloc, coming, Vec::new(alloc), Vec::new(alloc))?;
+    coming.push((link(alloc, planned.most, plan)?, HOME))?;
+    let failing = calls(alloc, planned.accepts)?;
+    let door = MemListener::new(alloc, coming, failing, Vec::new(alloc))?;
+    Ok(Watched { door, back })
+}
+
+/// A handle of the main door for each of these, and a clock.
+fn doors<'a>(
+    alloc: Global,
+    handles: &[Planned],
+    back: &'a AtomicU64,
+    clock: Patient<'a>,
+) -> Result<TestDoors<'a>, Fail> {
     let mut game = Vec::new(alloc);
-    game.push(Watched { door, back })?;
+    for planned in handles {
+        game.push(door(alloc, planned, back)?)?;
+    }
     Ok(Doors {
         game,
         admin: Vec::new(alloc),
-        ticker: Some(Patient {
-            back,
-            ticked: false,
-            faults: 0,
-            stops: 0,
-        }),
+        ticker: Some(clock),
     })
 }
 
@@ -133,26 +198,32 @@ fn called<'a, R: Threads + Wait + Clock + Sync>(
     doors: &mut TestDoors<'a>,
     sink: &mut MemSink,
 ) -> u8 {
-    if doors.ticker.is_none() || doors.game.len() != 1 || !doors.admin.is_empty() {
+    let handles = doors.game.len();
+    if doors.ticker.is_none() || handles == 0 || handles > 9 || !doors.admin.is_empty() {
         return 255;
     }
     coordinate_main(rt, alloc, args, doors, sink)
 }
 
-/// What the first link that came back was written.
-fn written<'d>(doors: &'d TestDoors<'_>) -> Option<&'d [u8]> {
-    let (_, link) = doors.game.first()?.door.served().first()?;
+/// What the first link of a handle was written.
+fn written<'d>(doors: &'d TestDoors<'_>, place: usize) -> Option<&'d [u8]> {
+    let (_, link) = doors.game.get(place)?.door.served().first()?;
     Some(link.written())
+}
+
+/// A sink with room for a summary.
+fn summary(alloc: Global) -> Result<MemSink, Fail> {
+    Ok(MemSink::new(alloc, 400, Vec::new(alloc))?)
 }
 
 #[test]
 fn a_server_registers(rt: HostRuntime) -> Result<(), Fail> {
     let alloc = rt.alloc();
     let back = AtomicU64::new(0);
-    let mut doors = doors(alloc, &back)?;
-    let mut sink = MemSink::new(alloc, 400, Vec::new(alloc))?;
+    let mut doors = doors(alloc, &[SOUND], &back, clock(&back, 1))?;
+    let mut sink = summary(alloc)?;
     assert_eq!(rt; called(&rt, alloc, &[], &mut doors, &mut sink), 0);
-    assert_eq!(rt; written(&doors), Some(ACK));
+    assert_eq!(rt; written(&doors, 0), Some(ACK));
     assert_eq!(rt; sink.bytes(), b"connections 1\nconn 1 45\n".as_slice());
     Ok(())
 }
@@ -161,14 +232,72 @@ fn a_server_registers(rt: HostRuntime) -> Result<(), Fail> {
 fn bad_words_touch_nothing(rt: HostRuntime) -> Result<(), Fail> {
     let alloc = rt.alloc();
     let back = AtomicU64::new(0);
-    let mut doors = doors(alloc, &back)?;
-    let mut sink = MemSink::new(alloc, 400, Vec::new(alloc))?;
+    let mut doors = doors(alloc, &[SOUND], &back, clock(&back, 1))?;
+    let mut sink = summary(alloc)?;
     let args = [
         Line::new(b"--first").ok_or("no word")?,
         Line::new(b"07").ok_or("no word")?,
     ];
     assert_eq!(rt; called(&rt, alloc, &args, &mut doors, &mut sink), 2);
-    assert!(rt; written(&doors).is_none());
+    assert!(rt; written(&doors, 0).is_none());
     assert!(rt; sink.bytes().is_empty());
+    Ok(())
+}
+
+#[test]
+fn faults_of_a_listener_and_of_the_clock_are_told(rt: HostRuntime) -> Result<(), Fail> {
+    let alloc = rt.alloc();
+    let told = b"connections 1\nconn 1 45\n";
+    let back = AtomicU64::new(0);
+    let deaf = Planned {
+        accepts: Some(0),
+        ..SOUND
+    };
+    let mut deaf = doors(alloc, &[deaf, SOUND], &back, clock(&back, 1))?;
+    let mut sink = summary(alloc)?;
+    assert_eq!(rt; called(&rt, alloc, &[], &mut deaf, &mut sink), 8);
+    assert_eq!(rt; sink.bytes(), told.as_slice());
+    let again = AtomicU64::new(0);
+    let broken = Patient {
+        broken: true,
+        ..clock(&again, 1)
+    };
+    let mut untimed = doors(alloc, &[SOUND], &again, broken)?;
+    let mut sink = summary(alloc)?;
+    assert_eq!(rt; called(&rt, alloc, &[], &mut untimed, &mut sink), 9);
+    assert_eq!(rt; sink.bytes(), told.as_slice());
+    Ok(())
+}
+
+/// A link that fails at one of its calls ends alone: beside it another server is registered, with a code of as many bytes.
+fn beside<R: Threads + Wait + Clock + Sync>(
+    rt: &R,
+    alloc: Global,
+    reads: Option<u64>,
+    writes: Option<u64>,
+) -> Result<(u8, Option<usize>), Fail> {
+    let back = AtomicU64::new(0);
+    let failing = Planned {
+        most: 1,
+        reads,
+        writes,
+        accepts: None,
+    };
+    let mut doors = doors(alloc, &[failing, SOUND], &back, clock(&back, 2))?;
+    let mut sink = summary(alloc)?;
+    let status = called(rt, alloc, &[], &mut doors, &mut sink);
+    Ok((status, written(&doors, 1).map(|bytes| bytes.len())))
+}
+
+#[test]
+fn a_link_that_fails_at_any_of_its_calls_ends_alone(rt: HostRuntime) -> Result<(), Fail> {
+    for call in 0..9 {
+        let found = beside(&rt, rt.alloc(), Some(call), None)?;
+        assert_eq!(rt; (call, found), (call, (0, Some(45))));
+    }
+    for call in 0..45 {
+        let found = beside(&rt, rt.alloc(), None, Some(call))?;
+        assert_eq!(rt; (call, found), (call, (0, Some(45))));
+    }
     Ok(())
 }

@@ -1,7 +1,6 @@
 -- A game that was served over a setup that is the words' own.
 use Rattle.std.proofs.Common.{◌≡◌, ℕ, ◌⊎◌, List, Option, subst, inl, inr}
 use Rattle.tt_world.specs.declared.setup.Setup.{Setup}
-use Rattle.tt_world.specs.World.{WorldState}
 use Rattle.tt_hub.specs.Hub.{HubState, made_of, sent, is_live, is_over}
 use Rattle.tt_words.specs.declared.server.ServerWords.{ServerWords}
 use Rattle.tt_words.specs.Forms.{IsServerForm}

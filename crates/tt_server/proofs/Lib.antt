@@ -1,3 +1,4 @@
 pub mod Lines
 pub mod Asked
 mod SavedWorlds
+mod Statuses

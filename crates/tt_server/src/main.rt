@@ -4,7 +4,7 @@
 //! status comes when and what is written. docs/PROTOCOL.md tells what players and admins say.
 #![tactic(auto)]
 
-ghost use Rattle.std.specs.Prelude.{◌≡◌, ◌↔◌, IfOk, IsSome};
+ghost use Rattle.std.specs.Prelude.{◌≡◌, ◌⊎◌, ◌↔◌, IfOk, IfErr, IsSome, vec_len};
 ghost use Rattle.tt_words.specs.Forms.{IsServerForm};
 ghost use Rattle.tt_words.specs.declared.server.ServerWords.{ServerWords};
 
@@ -24,7 +24,7 @@ use std::thread::Threads;
 use std::time::Clock;
 use tt_edge::{FileSource, Peer, Sink, StdoutSink, write_all};
 use tt_frame::Line;
-use tt_serving::doors_at;
+use tt_serving::{SocketDoors, doors_at};
 use tt_words::{Program, ServerWords, WordsError, address_of, answer_of, server_words, words_of};
 
 /// How many handles the game's socket has: as many players may be there at once, and one that is told that the game is full.
@@ -93,6 +93,24 @@ fn saved_map<'a, R: Files>(
     Ok(Some(FileSource::new(rt, path)))
 }
 
+/// The doors of the game: 256 handles at the players' address and 17 at the admins', and a clock; or the status where they can't be
+/// had.
+fn game_doors<'a, R>(
+    rt: &'a R,
+    alloc: Global,
+    players: &Peer,
+    admins: &Peer,
+) -> Result<SocketDoors<'a, R>, u8>
+where
+    R: Net<Listener = TcpListener, Stream = TcpStream> + Clock,
+    ensures players { IfOk result (λ doors. vec_len doors.game ≡ 256) }
+    ensures admins { IfOk result (λ doors. vec_len doors.admin ≡ 17) }
+    ensures ticker { IfOk result (λ doors. IsSome doors.ticker) }
+    ensures err { IfErr result (λ status. (status ≡ 6) ⊎ (status ≡ 8)) }
+{
+    doors_at(rt, alloc, players, PLAYERS, admins, ADMINS)
+}
+
 /// Opens the doors and serves, and answers the status.
 fn start<R>(rt: &R, alloc: Global, words: &[Line]) -> u8
 where
@@ -118,7 +136,7 @@ where
         Ok(saved) => saved,
         Err(status) => return status,
     };
-    let mut doors = match doors_at(rt, alloc, &game, PLAYERS, &admin, ADMINS) {
+    let mut doors = match game_doors(rt, alloc, &game, &admin) {
         Ok(doors) => doors,
         Err(status) => return status,
     };
@@ -160,3 +178,6 @@ fn advise<R: Eprint>(rt: &R, status: u8) -> io::Result<()> {
     }
     eprintln!(rt; "tt_server: {line}")
 }
+
+#[cfg(test)]
+mod tests;

@@ -1,5 +1,3 @@
-use Rattle.std.proofs.Common.{ℕ, subst}
-use Rattle.tt_edge.specs.Count.{Rose}
 use Rattle.tt_serving.proofs.Pages.{puts-then, loses-then, loses-more}
 use Rattle.tt_server.proofs.figures.GameFiguresFiguresHub.put.Goals as goal
 
