@@ -21,7 +21,7 @@ const FOUR_PIECES: usize = 5_600;
 pub struct Download {
     ahead: Vec<u8>,
     filled: usize,
-    writer: MapWriter,
+    writer: Box<MapWriter>,
 }
 
 impl Model for Download {
@@ -31,13 +31,13 @@ impl Model for Download {
 
     ghost Value = { List ℕ };
 
-    ghost view = { λ d. take d.filled d.ahead.items ++ unwritten d.writer };
+    ghost view = { λ d. take d.filled d.ahead.items ++ unwritten d.writer.value };
 
     ghost invariant = { λ d.
         (length d.ahead.items ≡ four_pieces)
         × (d.filled ≤ four_pieces)
-        × (d.filled ≤ d.writer.written)
-        × (d.filled < four_pieces → unwritten d.writer ≡ []) };
+        × (d.filled ≤ d.writer.value.written)
+        × (d.filled < four_pieces → unwritten d.writer.value ≡ []) };
 }
 
 impl Download {
@@ -46,7 +46,7 @@ impl Download {
         ensures map { IfOk result (λ download. download ≡ map_of world) }
     {
         let mut ahead = vec![in alloc; 0; FOUR_PIECES]?;
-        let mut writer = MapWriter::new(world);
+        let mut writer = Box::new(alloc, MapWriter::new(world))?;
         let filled = fill(&mut writer, &mut ahead);
         Ok(Download {
             ahead,

@@ -109,6 +109,9 @@ impl Outs {
         if bytes.is_empty() {
             return;
         }
+        if conns.is_empty() {
+            return;
+        }
         let start = self.log.put_bytes(bytes);
         tell_each(&mut self.log, &mut self.seats, conns, start);
     }
