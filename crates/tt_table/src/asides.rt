@@ -18,13 +18,14 @@ ghost use Rattle.tt_admin_desk.specs.Asked.{meant};
 ghost use Rattle.tt_admin_desk.specs.Hearing.{does};
 ghost use Rattle.tt_members.specs.declared.step.Audience.TheVariants.{One};
 ghost use Rattle.tt_members.specs.Steps.{says};
-ghost use Rattle.tt_table.specs.declared.change.Seating.TheVariants.{Arrive, Stay};
+ghost use Rattle.tt_table.specs.declared.change.Seating.TheVariants.{Arrive, Settle, Stay};
 ghost use Rattle.tt_table.specs.Coming.{answered, by_order, ComesBy, HasScope, IsAside, IsFit, IsHeard, is_own, own_steps};
 ghost use Rattle.tt_table.specs.Coming.{quits_in, seating_of};
 ghost use Rattle.tt_table.specs.Does.{HasRoom, IsChange};
 ghost use Rattle.tt_table.specs.Held.{table};
 
 use crate::answers::{tell, tell_console, tell_own};
+use crate::boxed::BoxedHeard;
 use crate::change::{Change, Seating};
 use crate::game::Game;
 use std::alloc::Global;
@@ -234,8 +235,16 @@ fn seating_of(alloc: Global, conn: u32, heard: Heard) -> Result<Seating, OutOfMe
 {
     match heard {
         Heard::Leave | Heard::Ends(_) => Ok(Seating::Leave(one(alloc, conn)?)),
-        other => Ok(Seating::Settle { conn, heard: other }),
+        other => settling(alloc, conn, other),
     }
+}
+
+/// What was heard of the admin on a connection is put in force.
+fn settling(alloc: Global, conn: u32, heard: Heard) -> Result<Seating, OutOfMemory>
+    ensures settles { IfOk result (λ seating. seating ≡ Settle conn heard) }
+{
+    let heard = BoxedHeard::new(alloc, heard)?;
+    Ok(Seating::Settle { conn, heard })
 }
 
 /// One connection.

@@ -2,11 +2,11 @@
 ghost use Rattle.std.specs.Prelude.{◌≡◌, [], None, false};
 ghost use Rattle.tt_table.specs.declared.change.Seating.TheVariants.{Stay};
 
+use crate::boxed::{BoxedHeard, BoxedWorld};
 use std::alloc::Global;
-use tt_admin_desk::Heard;
 use tt_members::{Conns, Plan, Steps};
 use tt_outgoing::Download;
-use tt_world::{Entry, World};
+use tt_world::Entry;
 
 /// What becomes of the admins.
 #[derive(Debug, Drop)]
@@ -16,7 +16,7 @@ pub enum Seating {
     /// The connection that is opened is an admin.
     Arrive,
     /// What was heard of the admin on this connection is put in force.
-    Settle { conn: u32, heard: Heard },
+    Settle { conn: u32, heard: BoxedHeard },
     /// The admins on these connections are there no longer.
     Leave(Conns),
 }
@@ -41,7 +41,7 @@ pub struct Change {
     /// The game is over by the event itself.
     pub(crate) stops: bool,
     /// The world behind the event, where a frame is run and something is told that needs it.
-    pub(crate) behind: Option<World>,
+    pub(crate) behind: Option<BoxedWorld>,
     /// The download that begins.
     pub(crate) download: Option<Download>,
 }

@@ -14,6 +14,7 @@
 
 mod answers;
 mod asides;
+mod boxed;
 mod change;
 mod frames;
 mod game;
@@ -24,6 +25,7 @@ mod putting;
 mod staging;
 mod ticking;
 
+pub use boxed::{BoxedHeard, BoxedWorld};
 pub use change::{Change, Seating};
 pub use game::Game;
 pub use putting::Ends;

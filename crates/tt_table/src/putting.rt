@@ -140,7 +140,7 @@ fn seat(desk: &mut Desk, seating: &Seating, opened: u32, frame: u32) -> Result<(
             Ok(())
         }
         Seating::Settle { conn, heard } => {
-            desk.commit(*conn, heard);
+            desk.commit(*conn, heard.get());
             Ok(())
         }
         Seating::Leave(conns) => {

@@ -1,5 +1,5 @@
 //! What a change tells becomes packets, before anything changes.
-ghost use Rattle.std.specs.Prelude.{◌≡◌, ◌++◌, ◌≤◌, true, List, IfOk, OnOk, length, nat_lt, take};
+ghost use Rattle.std.specs.Prelude.{◌≡◌, ◌++◌, ◌≤◌, true, [], List, IfOk, OnOk, length, nat_lt, take};
 ghost use Rattle.tt_edge.specs.declared.event.Event.{Event};
 ghost use Rattle.tt_log.specs.Events.{by_event, last_frame, takes};
 ghost use Rattle.tt_log.specs.Filling.{Filling};
@@ -16,6 +16,7 @@ ghost use Rattle.tt_table.specs.Held.{Held, IsGame, left_in, table};
 ghost use Rattle.tt_table.specs.Putting.{ran_where};
 ghost use Rattle.tt_table.specs.Telling.{AreHeld, digests_by, entries_by, is_locked_by, is_word, tells_word, world_by};
 
+use crate::boxed::BoxedWorld;
 use crate::change::Change;
 use crate::frames::run;
 use crate::game::Game;
@@ -36,6 +37,24 @@ impl Game {
     /// Puts the packets of what a change tells behind those that are staged. That the game is over by the event is not among
     /// them: who is told this `put` says.
     pub fn stage(
+        &self,
+        event: &Event,
+        change: &Change,
+        staged: &mut Staged,
+    ) -> Result<(), OutOfMemory>
+        requires taken { takes (table self.now) event.now ≡ true }
+        requires change { IsChange self.now.origin event.now (table self.now) change.now }
+        ensures staged { OnOk result (staged.new ≡ staged.old
+            ++ packets_of (tellings self.now.origin (table self.now) (by_event self.now.origin event.now (table self.now)))) }
+    {
+        if tells_nothing(change) {
+            return Ok(());
+        }
+        self.stage_told(event, change, staged)
+    }
+
+    /// Puts the packets of what a change tells behind those that are staged, where it tells something.
+    fn stage_told(
         &self,
         event: &Event,
         change: &Change,
@@ -97,6 +116,23 @@ fn stage_plan(
     match plan {
         Some(plan) => staged.stage_all(alloc, plan.steps(), admins, from),
         None => Ok(()),
+    }
+}
+
+/// Whether a change tells nothing.
+fn tells_nothing(change: &Change) -> bool
+    ensures none { result ≡ true → steps_of change.now ≡ [] }
+{
+    change.first.list().is_empty() && plans_nothing(&change.plan) && change.last.list().is_empty()
+}
+
+/// Whether a plan tells nothing.
+fn plans_nothing(plan: &Option<Plan>) -> bool
+    ensures none { result ≡ true → steps_by plan.now ≡ [] }
+{
+    match plan {
+        Some(plan) => plan.steps().is_empty(),
+        None => true,
     }
 }
 
@@ -186,11 +222,11 @@ fn is_locked_behind(members: &Members, plan: &Option<Plan>, company: u8) -> bool
 }
 
 /// The world behind an event, where it is there; else the world.
-fn world_behind<'a>(behind: &'a Option<World>, world: &'a World) -> &'a World
+fn world_behind<'a>(behind: &'a Option<BoxedWorld>, world: &'a World) -> &'a World
     ensures world { result.now ≡ world_by behind.now world.now }
 {
     match behind {
-        Some(behind) => behind,
+        Some(behind) => behind.get(),
         None => world,
     }
 }

@@ -18,6 +18,7 @@ ghost use Rattle.tt_table.specs.Held.{table};
 ghost use Rattle.tt_table.specs.Ticking.{IsMapOf, IsTick, IsWorld, is_late, late_conns, limit_steps, wants_world};
 ghost use Rattle.tt_table.specs.Ticking.{day_steps, new_day_steps, period_steps, report_if};
 
+use crate::boxed::BoxedWorld;
 use crate::change::{Change, Seating};
 use crate::frames::{due, run};
 use crate::game::Game;
@@ -160,7 +161,7 @@ fn behind(
     due: &[Entry],
     steps: &[Step],
     admins: &[Admin],
-) -> Result<Option<World>, OutOfMemory>
+) -> Result<Option<BoxedWorld>, OutOfMemory>
     ensures world { (o : Origin) → IfOk result (λ behind. IsWorld (ran o world.now due.now) behind) }
     ensures wanted { IfOk result (λ behind. is_some behind ≡ wants_world world.now.part steps.now admins.now) }
 {
@@ -169,7 +170,8 @@ fn behind(
     }
     let mut behind = world.copy(alloc)?;
     run(&mut behind, due);
-    Ok(Some(behind))
+    let boxed = BoxedWorld::new(alloc, behind)?;
+    Ok(Some(boxed))
 }
 
 /// Whether the world behind a tick is needed.
@@ -194,7 +196,7 @@ fn is_any_joined(admins: &[Admin]) -> bool
 /// The download that begins, where one does: of the map of the world behind.
 fn download(
     alloc: Global,
-    behind: &Option<World>,
+    behind: &Option<BoxedWorld>,
     steps: &[Step],
 ) -> Result<Option<Download>, OutOfMemory>
     requires there { begins_map steps.now ≡ true → is_some behind.now ≡ true }
@@ -206,7 +208,7 @@ fn download(
     }
     match behind {
         Some(world) => {
-            let download = begun(alloc, world)?;
+            let download = begun(alloc, world.get())?;
             Ok(Some(download))
         }
         None => unreachable!(),
@@ -217,17 +219,18 @@ fn download(
 fn tell_new_day(
     desk: &Desk,
     before: u32,
-    behind: &Option<World>,
+    behind: &Option<BoxedWorld>,
     last: &mut Steps,
 ) -> Result<(), OutOfMemory>
     ensures told { OnOk result (last.new ≡ last.old ++ new_day_steps before behind.now desk.now) }
 {
     match behind {
         Some(world) => {
-            if world.day() == before {
+            let day = world.get().day();
+            if day == before {
                 return Ok(());
             }
-            tell_day(desk, world.day(), last)
+            tell_day(desk, day, last)
         }
         None => Ok(()),
     }

@@ -10,7 +10,7 @@ use Rattle.tt_table.specs.Held.{Played, table}
 use Rattle.tt_table.specs.Putting.{ran_where}
 use Rattle.tt_table.specs.Telling.{entries_by}
 use Rattle.tt_table.proofs.PutFacts.{low-frame}
-use Rattle.tt_table.proofs.game.Game.stage.Goals as goal
+use Rattle.tt_table.proofs.game.Game.stage_told.Goals as goal
 
 pub frame_behind-requires : goal.frame_behind-requires
 frame_behind-requires c = record { low = low-frame _ _ _ c.self.invariant.0 }
