@@ -255,21 +255,22 @@ fn was_written(workers: &[Serving<'_>], place: usize, wanted: &[u8]) -> Option<b
 
 /// The first link of a worker ended so.
 fn link_ended<R: Abort>(rt: &R, workers: &[Serving<'_>], place: usize, end: LinkEnd) {
-    assert_eq!(rt; end_of(workers, place), Some(end), "worker {place}");
+    let found = end_of(workers, place);
+    assert_eq!(rt; (place, found), (place, Some(end)));
 }
 
 /// The first link of a worker ended so, and was written this.
 fn served<R: Abort>(rt: &R, workers: &[Serving<'_>], place: usize, end: LinkEnd, written: &[u8]) {
     link_ended(rt, workers, place, end);
     let same = was_written(workers, place, written);
-    assert_eq!(rt; same, Some(true), "worker {place}, wanted {written:?}");
+    assert_eq!(rt; (place, written, same), (place, written, Some(true)));
 }
 
 /// The workers ended so.
 fn ended<R: Abort>(rt: &R, workers: &[Serving<'_>], wanted: &[WorkerEnd]) {
     assert_eq!(rt; workers.len(), wanted.len());
     for (place, (worker, end)) in workers.iter().zip(wanted).enumerate() {
-        assert_eq!(rt; worker.end, *end, "worker {place}");
+        assert_eq!(rt; (place, worker.end), (place, *end));
     }
 }
 

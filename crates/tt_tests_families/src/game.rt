@@ -123,20 +123,25 @@ fn packets_are_appended(rt: HostRuntime) -> Result<(), Fail> {
 
 /// The framer takes the whole piece.
 fn feed<R: Abort>(rt: &R, framer: &mut Framer, piece: &[u8]) {
-    assert_eq!(rt; framer.feed(piece), piece.len(), "of {piece:?}");
+    assert_eq!(rt; (piece, framer.feed(piece)), (piece, piece.len()));
 }
 
 /// The framer has no whole packet yet.
 fn waits<R: Abort>(rt: &R, framer: &mut Framer, place: usize) {
-    assert!(rt; matches!(framer.next(), Next::Partial), "cut at {place}");
+    let waits = matches!(framer.next(), Next::Partial);
+    assert_eq!(rt; (place, waits), (place, true));
 }
 
 /// The framer gives the join packet.
 fn gives_join<R: Abort>(rt: &R, alloc: Global, framer: &mut Framer, place: usize) {
-    match framer.next() {
-        Next::Packet { kind, body } => spells(rt, alloc, &join(rt), kind, body),
-        _ => panic!(rt; "cut at {place}"),
-    }
+    let found = match framer.next() {
+        Next::Packet { kind, body } => {
+            spells(rt, alloc, &join(rt), kind, body);
+            true
+        }
+        _ => false,
+    };
+    assert_eq!(rt; (place, found), (place, true));
 }
 
 #[test]
@@ -189,7 +194,10 @@ fn a_piece_of_a_map_has_1_to_1400_bytes(rt: HostRuntime) -> Result<(), Fail> {
         let wanted = packet(rt.alloc(), 17, &bytes[..count])?;
         let found = crate::message::again(rt.alloc(), Game, 17, &bytes[..count])?;
         same(&rt, 17, &found, &wanted);
-        assert!(rt; is_piece(rt.alloc(), &bytes[..count])?, "{count} bytes");
+        assert_eq!(rt;
+            (count, is_piece(rt.alloc(), &bytes[..count])?),
+            (count, true)
+        );
     }
     stops(&rt, rt.alloc(), Game, 17, b"", 0);
     stops(&rt, rt.alloc(), Game, 17, &bytes, 0);

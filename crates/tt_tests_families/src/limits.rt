@@ -110,10 +110,8 @@ fn with_text(alloc: Global, front: &[u8], length: u16, behind: &[u8]) -> Result<
 fn has_its_limit<R: Abort>(rt: &R, alloc: Global, row: &Row) -> Result<(), Fail> {
     let (family, kind, front, limit, behind) = *row;
     let longest = with_text(alloc, front, limit, behind)?;
-    assert!(rt;
-        again(alloc, family, kind, &longest).is_ok(),
-        "number {kind}"
-    );
+    let found = again(alloc, family, kind, &longest).err();
+    assert_eq!(rt; (kind, found), (kind, None));
     let past = with_text(alloc, front, limit.saturating_add(1), behind)?;
     stops(rt, alloc, family, kind, &past, front.len());
     Ok(())

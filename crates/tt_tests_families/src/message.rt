@@ -128,13 +128,14 @@ pub fn packet(alloc: Global, kind: u8, body: &[u8]) -> Result<Vec<u8>, OutOfMemo
 
 /// Compares bytes that belong to a packet with this number.
 pub fn same<R: Abort>(rt: &R, kind: u8, found: &[u8], wanted: &[u8]) {
-    assert_eq!(rt; found, wanted, "number {kind}");
+    assert_eq!(rt; (kind, found), (kind, wanted));
 }
 
 /// The body spells no message, and stops at this place.
 pub fn stops<R: Abort>(rt: &R, alloc: Global, family: Family, kind: u8, body: &[u8], place: usize) {
     let found = again(alloc, family, kind, body).err();
-    assert_eq!(rt; found, Some(Bad::Malformed { at: place }), "number {kind}");
+    let wanted = Some(Bad::Malformed { at: place });
+    assert_eq!(rt; (kind, found), (kind, wanted));
 }
 
 /// The packet of the message.
@@ -146,15 +147,19 @@ pub fn told<R: Abort, M: Message>(rt: &R, alloc: Global, message: &M) -> Vec<u8>
     }
 }
 
+/// Whether the packet of this number and body spells the message.
+fn is_read<M: Message>(alloc: Global, message: &M, kind: u8, body: &[u8]) -> Result<bool, Bad> {
+    let again = M::read(alloc, kind, body)?;
+    Ok(again.is(message))
+}
+
 /// The message is told as the packet of this number and body, and read from it again.
 pub fn spells<R: Abort, M: Message>(rt: &R, alloc: Global, message: &M, kind: u8, body: &[u8]) {
     let found = told(rt, alloc, message);
-    assert_eq!(rt; found.get(2..3), Some([kind].as_slice()), "number {kind}");
+    same(rt, kind, found.get(2..3).unwrap_or(b""), &[kind]);
     same(rt, kind, found.get(3..).unwrap_or(b""), body);
-    match M::read(alloc, kind, body) {
-        Ok(again) => assert!(rt; again.is(message), "number {kind}"),
-        Err(bad) => panic!(rt; "number {kind}: {bad}"),
-    }
+    let found = is_read(alloc, message, kind, body);
+    assert_eq!(rt; (kind, found), (kind, Ok(true)));
 }
 
 /// The text of these bytes, which have to be one.

@@ -173,7 +173,9 @@ fn each_packet_is_decoded_and_encoded(rt: HostRuntime) -> Result<(), Fail> {
 fn each_number_of_a_game_has_its_row(rt: HostRuntime) {
     for (number, row) in rows().iter().enumerate() {
         let kind = usize::from(row.1);
-        assert!(rt; number > 38 || kind == number, "row {number}");
+        if number <= 38 {
+            assert_eq!(rt; kind, number);
+        }
     }
 }
 

@@ -7,7 +7,8 @@ use tt_attempts::{Attempt, Heard, InviteCode, Stage, Told, Ways};
 use tt_world::Random;
 
 fn is_code<R: Abort>(rt: &R, bytes: &[u8], wanted: bool) {
-    assert_eq!(rt; InviteCode::parse(bytes).is_some(), wanted, "of {bytes:?}");
+    let found = InviteCode::parse(bytes).is_some();
+    assert_eq!(rt; (bytes, found), (bytes, wanted));
 }
 
 #[test]
@@ -221,12 +222,14 @@ fn step(attempt: &mut Attempt, heard: Heard) -> Option<Told> {
 /// The event tells this.
 fn tells<R: Abort>(rt: &R, attempt: &mut Attempt, run: &str, event: &(Heard, Told)) {
     let (heard, wanted) = *event;
-    assert_eq!(rt; step(attempt, heard), Some(wanted), "{heard:?}: {run}");
+    let found = step(attempt, heard);
+    assert_eq!(rt; (run, heard, found), (run, heard, Some(wanted)));
 }
 
 fn begin<R: Abort>(rt: &R, run: &str, ways: Ways, wanted: Told) -> Attempt {
     let mut attempt = Attempt::new(ways);
-    assert_eq!(rt; attempt.first(), wanted, "at first: {run}");
+    let found = attempt.first();
+    assert_eq!(rt; (run, found), (run, wanted));
     attempt
 }
 

@@ -23,7 +23,7 @@ fn said(bytes: &[u8]) -> Option<ConsoleCommand> {
 
 /// The line of the console has the server say this.
 fn says<R: Abort>(rt: &R, line: &[u8], words: &[u8]) {
-    assert_eq!(rt; asked(line), said(words), "of {line:?}");
+    assert_eq!(rt; (line, asked(line)), (line, said(words)));
 }
 
 #[test]
@@ -62,7 +62,7 @@ fn takes<R: Abort>(rt: &R, desk: &Desk, kind: u16, bits: u16, most: u16) {
     } else {
         Heard::Ends(4)
     };
-    assert_eq!(rt; found, Some(wanted), "of type {kind}");
+    assert_eq!(rt; (kind, bits, found), (kind, bits, Some(wanted)));
 }
 
 /// All bits below 256 of a type.
@@ -86,11 +86,8 @@ fn bits_are_taken_by_type(rt: HostRuntime) -> Result<(), Fail> {
 
 /// An admin is due for a type on a day, or not.
 fn is_due<R: Abort>(rt: &R, desk: &Desk, conn: u32, kind: u16, day: u32, wanted: bool) {
-    assert_eq!(rt;
-        desk.due(conn, kind, day),
-        wanted,
-        "{conn}, type {kind}, at day {day}"
-    );
+    let found = desk.due(conn, kind, day);
+    assert_eq!(rt; (conn, kind, day, found), (conn, kind, day, wanted));
 }
 
 /// An admin asks for a type by these bits.
@@ -130,7 +127,8 @@ fn periods_divide_the_days(rt: HostRuntime) -> Result<(), Fail> {
 }
 
 fn opens<R: Abort>(rt: &R, desk: &mut Desk, conn: u32, since: u32, stays: bool) {
-    assert_eq!(rt; desk.open(conn, since), Ok(stays), "the connection {conn}");
+    let found = desk.open(conn, since);
+    assert_eq!(rt; (conn, found), (conn, Ok(stays)));
 }
 
 /// How many there are, and who is at a place, since when.

@@ -147,7 +147,7 @@ fn is_bad<R: Abort>(rt: &R, alloc: Global, bytes: &[u8], line: u32) {
         Err(ScriptBad::Line(line)) => Ok(line),
         Err(ScriptBad::Memory) => Err("memory ran out"),
     };
-    assert_eq!(rt; found, Ok(line), "of {bytes:?}");
+    assert_eq!(rt; (bytes, found), (bytes, Ok(line)));
 }
 
 fn all_are_told<R: Abort>(rt: &R, alloc: Global, rows: &[Row]) {
@@ -249,7 +249,7 @@ fn gives_third_bad<R: Abort>(rt: &R, alloc: Global, reader: &mut ScriptReader) {
 
 fn gives_none<R: Abort>(rt: &R, alloc: Global, reader: &mut ScriptReader) -> Result<(), Fail> {
     let found = reader.next(alloc)?;
-    assert!(rt; found.is_none(), "behind the last line");
+    assert!(rt; found.is_none());
     Ok(())
 }
 

@@ -122,7 +122,7 @@ fn entry<R: Abort>(rt: &R, company: u8, code: Code, number: u32, text: &[u8]) ->
 /// Applies a command of a company without a text.
 fn borrows<R: Abort>(rt: &R, world: &mut World, company: u8, number: u32, wanted: Effect) {
     let found = world.apply(&entry(rt, company, Code::IncreaseLoan, number, b""));
-    assert_eq!(rt; found, wanted, "a loan of {number}");
+    assert_eq!(rt; (number, found), (number, wanted));
 }
 
 #[test]
@@ -153,12 +153,9 @@ fn fault_in_pieces(alloc: Global, bytes: &[u8]) -> Result<Option<MapBad>, OutOfM
 
 /// As a whole and in pieces, the bytes are no map for this reason, or are one.
 fn faults<R: Abort>(rt: &R, alloc: Global, bytes: &[u8], wanted: Option<MapBad>) {
-    assert_eq!(rt; decode_map(alloc, bytes).err(), wanted, "of {bytes:?}");
-    assert_eq!(rt;
-        fault_in_pieces(alloc, bytes),
-        Ok(wanted),
-        "of {bytes:?} in pieces"
-    );
+    let whole = decode_map(alloc, bytes).err();
+    let pieces = fault_in_pieces(alloc, bytes);
+    assert_eq!(rt; (bytes, whole, pieces), (bytes, wanted, Ok(wanted)));
 }
 
 /// Fails at this chunk.
@@ -226,15 +223,21 @@ fn fullest<R: Abort>(rt: &R, alloc: Global) -> Result<World, Fail> {
     Ok(world)
 }
 
+/// A reader of pieces of this size takes a piece, or not.
+fn takes<R: Abort>(rt: &R, reader: &mut MapReader, size: usize, piece: &[u8], wanted: bool) {
+    let found = reader.piece(piece);
+    assert_eq!(rt; (size, found), (size, wanted));
+}
+
 /// The map is read in pieces of this size, and nothing more is taken behind its size.
 fn is_read_in_pieces<R: Abort>(rt: &R, alloc: Global, bytes: &[u8], size: usize) -> Result<(), Fail>
     requires { 0 < size }
 {
     let mut reader = MapReader::new(alloc, 40_280)?;
     for piece in bytes.chunks(size) {
-        assert!(rt; reader.piece(piece), "a piece of {size}");
+        takes(rt, &mut reader, size, piece, true);
     }
-    assert!(rt; !reader.piece(&[0]), "behind pieces of {size}");
+    takes(rt, &mut reader, size, &[0], false);
     let again = reader.finish()?;
     is_map(rt, alloc, &again, bytes);
     Ok(())

@@ -65,7 +65,7 @@ const STATUSES: [Status; 10] = [
 /// What a member that stands so may say.
 fn judged<R: Abort>(rt: &R, row: &str, standing: &Standing, msg: &GameMsg, wanted: Verdict) {
     let found = verdict(standing, &live(), msg);
-    assert_eq!(rt; found, wanted, "{row}, where one stands as {standing:?}");
+    assert_eq!(rt; (row, standing, found), (row, standing, wanted));
 }
 
 /// One that stands so but for its status may say the message at the statuses with these places alone.

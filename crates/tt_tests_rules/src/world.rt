@@ -17,7 +17,8 @@ fn draws<R: Abort>(rt: &R, random: &mut Random, words: (u32, u32)) {
 }
 
 fn draws_below<R: Abort>(rt: &R, random: &mut Random, limit: u32, wanted: u32) {
-    assert_eq!(rt; random.next_below(limit), wanted, "below {limit}");
+    let found = random.next_below(limit);
+    assert_eq!(rt; (limit, found), (limit, wanted));
 }
 
 #[test]
@@ -48,11 +49,8 @@ fn fits<R: Abort>(rt: &R, frame_freq: u8, sync_freq: u16, cost: u64, lag: u16, w
     setup.cost = cost;
     setup.lag = lag;
     let settings = (frame_freq, sync_freq, cost, lag);
-    assert_eq!(rt;
-        (setup.fits(), setup.copy().fits()),
-        (wanted, wanted),
-        "{settings:?}"
-    );
+    let found = (setup.fits(), setup.copy().fits());
+    assert_eq!(rt; (settings, found), (settings, (wanted, wanted)));
 }
 
 #[test]
@@ -89,7 +87,8 @@ fn entry<R: Abort>(rt: &R, row: &Row) -> Entry {
 fn apply<R: Abort>(rt: &R, world: &mut World, row: &Row) {
     let entry = entry(rt, row);
     let found = world.apply(&entry);
-    assert_eq!(rt; found, row.5, "{:?} of {} for {}", row.1, row.2, row.0);
+    let asked = (row.0, row.1, row.2);
+    assert_eq!(rt; (asked, found), (asked, row.5));
 }
 
 fn apply_all<R: Abort>(rt: &R, world: &mut World, rows: &[Row]) {
@@ -126,11 +125,8 @@ fn sums_of(world: &World, company: u8) -> Option<Sums> {
 }
 
 fn has<R: Abort>(rt: &R, world: &World, company: u8, sums: Sums) {
-    assert_eq!(rt;
-        sums_of(world, company),
-        Some(sums),
-        "the company {company}"
-    );
+    let found = sums_of(world, company);
+    assert_eq!(rt; (company, found), (company, Some(sums)));
 }
 
 /// A company's sums, where it may borrow 300,000.

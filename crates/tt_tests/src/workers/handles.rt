@@ -67,7 +67,7 @@ fn first_ended<R: Abort>(rt: &R, doors: &Watches<'_>, place: usize, end: LinkEnd
         },
         None => None,
     };
-    assert_eq!(rt; found, Some((end, true)), "handle {place}");
+    assert_eq!(rt; (place, found), (place, Some((end, true))));
 }
 
 #[test]
