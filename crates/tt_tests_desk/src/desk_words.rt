@@ -12,7 +12,8 @@ fn asks<R: Abort>(rt: &R, line: &[u8], wanted: ConsoleCommand) {
     let Some(text) = Line::new(line) else {
         panic!(rt; "no line: {line:?}")
     };
-    assert_eq!(rt; console(&text), wanted, "of {line:?}");
+    let found = console(&text);
+    assert_eq!(rt; (line, found), (line, wanted));
 }
 
 /// Lines that ask for nothing: words are parted by one blank, and a number has one spelling.
@@ -74,7 +75,7 @@ fn hears<R: Abort>(rt: &R, desk: &Desk, password: &[u8], message: &AdminMsg, wan
         panic!(rt; "nobody is there")
     };
     let heard = desk.heard(&setup, admin.conn, message);
-    assert_eq!(rt; &heard, wanted, "of {message:?}");
+    assert_eq!(rt; (message, &heard), (message, wanted));
 }
 
 /// A short text of a message.

@@ -59,13 +59,14 @@ pub(crate) fn taken<R: Abort>(rt: &R, alloc: Global, hub: &mut Hub, conn: u32) -
 /// Puts an event in, and compares the answer.
 pub(crate) fn put<R: Abort>(rt: &R, hub: &mut Hub, event: Event, wanted: Result<u32, CoreErr>) {
     let at = hub.frame();
-    assert_eq!(rt; hub.event(event), wanted, "at frame {at}");
+    let found = hub.event(event);
+    assert_eq!(rt; (at, found), (at, wanted));
 }
 
 /// Compares all that a connection was told and has not taken.
 pub(crate) fn told<R: Abort>(rt: &R, alloc: Global, hub: &mut Hub, conn: u32, wanted: &[u8]) {
     let bytes = taken(rt, alloc, hub, conn);
-    assert_eq!(rt; bytes.as_slice(), wanted, "connection {conn}");
+    assert_eq!(rt; (conn, bytes.as_slice()), (conn, wanted));
 }
 
 /// Compares whether a game is over, how many connections were opened, and whether one of them is live.
@@ -78,7 +79,7 @@ fn stands<R: Abort>(rt: &R, hub: &Hub, over: bool, connections: u32, conn: u32, 
 
 /// Compares how many bytes a connection was told.
 fn sent<R: Abort>(rt: &R, hub: &Hub, conn: u32, bytes: u64) {
-    assert_eq!(rt; hub.sent_len(conn), bytes, "connection {conn}");
+    assert_eq!(rt; (conn, hub.sent_len(conn)), (conn, bytes));
 }
 
 /// Compares a frame, and the day and its part of the world then.
@@ -94,17 +95,15 @@ fn at<R: Abort>(rt: &R, hub: &Hub, frame: u32, day: u32, part: u8) {
 fn done<R: Abort>(rt: &R, hub: &mut Hub, conn: u32) {
     let mut out = [7; 4];
     let took = hub.take(conn, &mut out);
-    assert_eq!(rt;
-        (took.count, took.done, out),
-        (0, true, [7; 4]),
-        "connection {conn}"
-    );
+    let found = (conn, took.count, took.done, out);
+    assert_eq!(rt; found, (conn, 0, true, [7; 4]));
 }
 
 /// A tick, and the greatest permitted frame behind it.
 fn tick<R: Abort>(rt: &R, hub: &mut Hub, top: u32) {
     put(rt, hub, Event::Tick, Ok(0));
-    assert_eq!(rt; hub.top(), top, "at the frame {}", hub.frame());
+    let frame = hub.frame();
+    assert_eq!(rt; (frame, hub.top()), (frame, top));
 }
 
 #[test]

@@ -79,18 +79,13 @@ fn answer<R: Abort>(rt: &R, alloc: Global, number: u8, body: &[u8]) -> Vec<u8> {
 /// A packet that spells nothing ends its connection with its code.
 fn is_illegal<R: Abort>(rt: &R, alloc: Global, number: u8, body: &[u8]) {
     let told = answer(rt, alloc, number, body);
-    assert_eq!(rt;
-        told.as_slice(),
-        ILLEGAL,
-        "packet {number} with {} bytes",
-        body.len()
-    );
+    assert_eq!(rt; (number, body, told.as_slice()), (number, body, ILLEGAL));
 }
 
 /// A packet that spells a message is answered by what the message asks for, or refused for another reason.
 fn is_heard<R: Abort>(rt: &R, alloc: Global, number: u8, body: &[u8]) {
     let told = answer(rt, alloc, number, body);
-    assert_ne!(rt; told.as_slice(), ILLEGAL, "packet {number}");
+    assert_ne!(rt; (number, told.as_slice()), (number, ILLEGAL));
 }
 
 /// The bytes with one more behind them.

@@ -31,11 +31,12 @@ fn named<R: Abort>(rt: &R, alloc: Global, conn: u32, name: &[u8]) -> Member {
 /// One on connection 9 that wants a name is answered so.
 fn answers<R: Abort>(rt: &R, members: &[Member], wanted: &[u8], answer: Result<&[u8], NameBad>) {
     let wanted: Text<24> = text(rt, wanted);
-    match (name_for(wanted.bytes(), members, 9), answer) {
-        (Ok(name), Ok(given)) => assert_eq!(rt; name.bytes(), given),
-        (Err(found), Err(bad)) => assert_eq!(rt; found, bad),
-        (found, _) => assert!(rt; false, "{found:?} in place of {answer:?}"),
-    }
+    let found = name_for(wanted.bytes(), members, 9);
+    let found = match &found {
+        Ok(name) => Ok(name.bytes()),
+        Err(bad) => Err(*bad),
+    };
+    assert_eq!(rt; (wanted.bytes(), found), (wanted.bytes(), answer));
 }
 
 #[test]
@@ -75,7 +76,8 @@ fn offers<R: Abort>(rt: &R, member: &mut Member, number: u32, taken: bool) {
         to: 0,
         text,
     };
-    assert_eq!(rt; member.offer(3, command), taken, "the command {number}");
+    let found = member.offer(3, command);
+    assert_eq!(rt; (number, found), (number, taken));
 }
 
 fn has_waiting<R: Abort>(rt: &R, member: &Member, wanted: usize) {
@@ -103,12 +105,14 @@ fn sixteen_commands_wait_and_two_are_drawn(rt: HostRuntime) {
 }
 
 fn asks<R: Abort>(rt: &R, queue: &mut Queue, conn: u32, wanted: Place) {
-    assert_eq!(rt; queue.ask(conn), Ok(wanted), "the connection {conn}");
+    let found = queue.ask(conn);
+    assert_eq!(rt; (conn, found), (conn, Ok(wanted)));
 }
 
 /// A connection leaves the queue, and the turn is then that one's.
 fn leaves<R: Abort>(rt: &R, queue: &mut Queue, conn: u32, next: Option<u32>) {
-    assert_eq!(rt; queue.leave(conn), next, "the connection {conn}");
+    let found = queue.leave(conn);
+    assert_eq!(rt; (conn, found), (conn, next));
 }
 
 #[test]
