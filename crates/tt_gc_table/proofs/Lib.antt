@@ -10,6 +10,7 @@ pub mod CountLaws
 pub mod Keyed
 pub mod Numbers
 pub mod ByToken
+pub mod ByConnectionLaws
 pub mod LinesLaws
 pub mod Serving
 pub mod PartsLaws

@@ -15,6 +15,7 @@ pub mod Laws
 pub mod Registry
 pub mod Lines
 pub mod OpenAttempts
+pub mod ByConnection
 pub mod Parts
 pub mod Hearing
 pub mod Tells

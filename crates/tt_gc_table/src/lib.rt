@@ -10,6 +10,7 @@
 //! core over them is `tt_gc`.
 #![tactic(auto)]
 
+mod by_connection;
 mod codes;
 mod heard;
 mod hosts;

@@ -1,9 +1,12 @@
 //! The open attempts: found by token, in the order of their numbers.
 ghost use Rattle.std.specs.Prelude.{◌≡◌, ◌≢◌, ◌<◌, ◌^◌, ℕ, Some, [], ◌∷◌, ◌++◌, length, drop};
-ghost use Rattle.std.specs.Prelude.{find, filter, map, not, cond, IfSome, IfNone, OnOk, OnErr};
+ghost use Rattle.std.specs.Prelude.{find, filter, map, not, cond, None, IfSome, IfNone, OnOk, OnErr};
 ghost use Rattle.std.specs.Fmt.{decimal};
 ghost use Rattle.std.specs.Option.{option_copied};
-ghost use Rattle.std.specs.List.{AllByRecursion};
+ghost use Rattle.std.specs.List.{AllByRecursion, IsDistinct};
+ghost use Rattle.tt_gc_table.specs.ByConnection.{numbers_of, numbered, IsEnd};
+ghost use Rattle.std.specs.Map.{keys_of, remove_entry};
+ghost use Rattle.std.specs.Ordering.{nat_cmp, eq_by_cmp};
 ghost use Rattle.tt_attempts.specs.Attempts.{stepped};
 ghost use Rattle.tt_gc_table.specs.Table.{Meeting, is_for};
 ghost use Rattle.tt_attempts.specs.declared.attempt.Heard.TheVariants.{ServerGone};
@@ -14,11 +17,12 @@ ghost use Rattle.tt_gc_table.specs.Tells.{told_to};
 ghost use Rattle.tt_gc_table.specs.Parts.{IsBegun, is_of, is_lost};
 ghost use Rattle.tt_gc_table.specs.OpenAttempts.{meetings_of, with_stage, IsToken, Distinct};
 
+use crate::by_connection::ByConnection;
 use crate::heard::plan_heard;
 use crate::parts::Parts;
 use crate::tells::Tells;
 use std::alloc::Global;
-use std::collections::BTreeMap;
+use std::collections::{BTreeMap, BTreeSet};
 use std::marker::Model;
 use tt_attempts::{Attempt, Heard};
 use tt_edge::Peer;
@@ -90,6 +94,14 @@ impl Meeting {
         self.server.conn == conn || self.client.conn == conn
     }
 
+    /// The connections of its server and of its client.
+    fn ends(&self) -> (u32, u32)
+        ensures server { result.0 ≡ self.now.server.conn }
+        ensures client { result.1 ≡ self.now.client.conn }
+    {
+        (self.server.conn, self.client.conn)
+    }
+
     /// Whether its server is on this connection, and its client on another one.
     pub fn is_lost(&self, conn: u32) -> bool
         ensures { result ≡ is_lost conn self.now }
@@ -109,10 +121,11 @@ impl Meeting {
     }
 }
 
-/// The open attempts, by number.
+/// The open attempts, by number, and for each connection the numbers of its own.
 #[derive(Drop)]
 pub struct Meetings {
     by_number: BTreeMap<u32, Meeting>,
+    by_connection: ByConnection,
 }
 
 impl Model for Meetings {
@@ -121,12 +134,14 @@ impl Model for Meetings {
     ghost use Rattle.std.specs.BTreeMap.{IsOrdered};
     ghost use Rattle.tt_gc_table.specs.Table as table;
     ghost use Rattle.tt_gc_table.specs.OpenAttempts.{IsNumbered};
+    ghost use Rattle.tt_gc_table.specs.ByConnection.{IsIndexed};
 
     ghost Value = { List (ℕ × table.Meeting) };
 
     ghost view = { λ m. m.by_number.entries };
 
-    ghost invariant = { λ m. IsNumbered m.by_number.entries × IsOrdered nat_cmp m.by_number };
+    ghost invariant = { λ m. IsNumbered m.by_number.entries × IsOrdered nat_cmp m.by_number
+        × IsIndexed m.by_number.entries m.by_connection };
 }
 
 /// The number that stands behind a token's eight characters.
@@ -156,6 +171,7 @@ impl Meetings {
     {
         Meetings {
             by_number: BTreeMap::new(alloc),
+            by_connection: ByConnection::new(alloc),
         }
     }
 
@@ -223,11 +239,21 @@ impl Meetings {
             → meetings_of self.new ≡ filter (λ x. not (is_for token.now x)) (meetings_of self.old) }
         ensures begun { (last : ℕ) → IsBegun last self.old → IsBegun last self.new }
     {
-        let by_number = &mut self.by_number;
-        let Some(number) = number_in(token) else {
+        let _open = self.by_number.len();
+        if let Some(number) = number_in(token) {
+            self.close_number(number);
+        }
+    }
+
+    /// The open attempt with this number, if there is one, is over.
+    fn close_number(&mut self, number: u32)
+        ensures { self.new ≡ remove_entry (eq_by_cmp nat_cmp number) self.old }
+    {
+        let Some(meeting) = self.by_number.remove(&number) else {
             return;
         };
-        let _over = by_number.remove(&number);
+        let ends = meeting.ends();
+        self.by_connection.forget_both(ends.0, ends.1, number);
     }
 
     /// One more is open, with a number above those of the others.
@@ -237,12 +263,50 @@ impl Meetings {
         ensures ok { OnOk result (self.new ≡ self.old ++ (number, meeting) ∷ []) }
         ensures err { OnErr result (self.new ≡ self.old) }
     {
-        self.by_number.insert(number, meeting)?;
+        let ends = meeting.ends();
+        self.by_connection.add_both(ends.0, ends.1, number)?;
+        if self.by_number.insert(number, meeting).is_err() {
+            self.by_connection.forget_both(ends.0, ends.1, number);
+            return Err(OutOfMemory);
+        }
         Ok(())
     }
 
+    /// Plans what is told where the attempt with this number loses its server by the end of this connection, if it does.
+    fn tell_number(
+        &self,
+        alloc: Global,
+        out: &mut Tells,
+        parts: &Parts,
+        turn_host: &Text<31>,
+        conn: u32,
+        number: u32,
+    ) -> Result<(), OutOfMemory>
+        ensures told { OnOk result ((s : GcSetup) → s.turn_host ≡ turn_host.now → (c : ℕ) → told_to c out.new
+            ≡ told_to c out.old ++ told_each s ServerGone parts.now c (filter (is_lost conn) (numbered number self.now))) }
+    {
+        let by_number = &self.by_number;
+        let Some(meeting) = by_number.get(&number) else {
+            return Ok(());
+        };
+        if meeting.is_lost(conn) {
+            let _stage = plan_heard(alloc, out, parts, turn_host, Heard::ServerGone, meeting)?;
+        }
+        Ok(())
+    }
+
+    /// The numbers of the attempts of a connection, in order.
+    fn numbers(&self, conn: u32) -> Option<&BTreeSet<u32>>
+        ensures some { IfSome result (λ set. numbers_of conn self.now ≡ set.now.keys) }
+        ensures none { IfNone result (numbers_of conn self.now ≡ []) }
+        ensures apart { IsDistinct (eq_by_cmp nat_cmp) (keys_of self.now) }
+    {
+        let _open = self.by_number.len();
+        self.by_connection.numbers(conn)
+    }
+
     /// Plans what is told to the clients of other connections that were to be brought to this one, whose server has gone: in the
-    /// order of the attempts. It looks at each that is open.
+    /// order of the attempts. It looks at its own alone.
     pub fn tell_lost(
         &self,
         alloc: Global,
@@ -254,19 +318,36 @@ impl Meetings {
         ensures told { OnOk result ((s : GcSetup) → s.turn_host ≡ turn_host.now → (c : ℕ) → told_to c out.new
             ≡ told_to c out.old ++ told_each s ServerGone parts.now c (filter (is_lost conn) (meetings_of self.now))) }
     {
-        for meeting in self.by_number.values() {
-            if meeting.is_lost(conn) {
-                let _stage = plan_heard(alloc, out, parts, turn_host, Heard::ServerGone, meeting)?;
-            }
+        let Some(numbers) = self.numbers(conn) else {
+            return Ok(());
+        };
+        for number in numbers.iter() {
+            self.tell_number(alloc, out, parts, turn_host, conn, *number)?;
         }
         Ok(())
     }
 
-    /// None is open any more whose server or client is on this connection. It looks at each that is open.
+    /// The number of the first attempt of a connection.
+    fn first_of(&self, conn: u32) -> Option<u32>
+        ensures some { IfSome result (λ number. IsEnd conn number self.now) }
+        ensures none { IfNone result (find (is_of conn) (meetings_of self.now) ≡ None) }
+    {
+        let Some(numbers) = self.numbers(conn) else {
+            return None;
+        };
+        match numbers.first() {
+            Some(number) => Some(*number),
+            None => None,
+        }
+    }
+
+    /// None is open any more whose server or client is on this connection. It looks at its own alone.
     pub fn leave(&mut self, conn: u32)
         ensures meetings { meetings_of self.new ≡ filter (λ m. not (is_of conn m)) (meetings_of self.old) }
         ensures begun { (last : ℕ) → IsBegun last self.old → IsBegun last self.new }
     {
-        self.by_number.retain(|_, meeting| !meeting.is_of(conn));
+        while let Some(number) = self.first_of(conn) {
+            self.close_number(number);
+        }
     }
 }

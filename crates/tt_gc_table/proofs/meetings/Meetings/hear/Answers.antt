@@ -2,7 +2,10 @@ use Rattle.std.proofs.Common.{◌≡◌, ℕ, map, cond, List, Option, Some, sym
 use Rattle.std.specs.Prelude.{find}
 use Rattle.tt_attempts.specs.Attempts.{stepped, AttemptState}
 use Rattle.tt_gc_table.specs.Table.{Meeting, is_for}
-use Rattle.tt_gc_table.specs.Parts.{IsBegun}
+use Rattle.std.specs.Ordering.{nat_cmp, eq_by_cmp}
+use Rattle.tt_gc_table.specs.ByConnection.{numbers_of}
+use Rattle.tt_gc_table.proofs.ByConnectionLaws.{indexed_set}
+use Rattle.tt_gc_table.specs.Parts.{IsBegun, is_of}
 use Rattle.tt_gc_table.specs.OpenAttempts.{meetings_of, with_stage, IsNumbered}
 use Rattle.tt_gc_table.proofs.Numbers.{nowhere}
 use Rattle.tt_gc_table.proofs.ByToken.{Looked, Here, here, missing, nobody, changed_here, begun_set, numbered_set}
@@ -41,6 +44,9 @@ invariant_of-self-2 c =
       subst IsNumbered (sym (c.get_mut.follows.holds w).0) (numbered_set c.in-Some.number c.self.inside.by_number.entries v w
           (sym c.in-Some-get_mut.ensures.value) (ap (λ (m : Meeting). m.token) c.meeting.view_is) c.self.invariant.0),
       (c.get_mut.follows.holds w).4,
+      λ x. c.self.invariant.2 x
+          ∙ sym (indexed_set x (eq_by_cmp nat_cmp c.in-Some.number) c.self.inside.by_number.entries v w
+          (sym c.in-Some-get_mut.ensures.value) (ap (is_of x) c.meeting.view_is)) ∙ ap (numbers_of x) (sym (c.get_mut.follows.holds w).0),
     )
 
 pub returns-clause-meetings : goal.returns-clause-meetings

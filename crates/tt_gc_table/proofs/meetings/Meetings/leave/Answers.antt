@@ -1,32 +1,31 @@
-use Rattle.std.proofs.Common.{rules, ◌≡◌, ℕ, Bool, not, List, sym, subst, ap, ◌∙◌}
+use Rattle.std.proofs.Common.{ℕ, not, List, length, sym, subst, ap, ◌∙◌, arith}
 use Rattle.std.specs.Prelude.{filter}
-use Rattle.std.proofs.lemmas.Map.Made.{filter_same_pairs}
+use Rattle.std.specs.Ordering.{nat_cmp, eq_by_cmp}
 use Rattle.tt_gc_table.specs.Table.{Meeting}
-use Rattle.tt_gc_table.specs.OpenAttempts.{meetings_of, IsNumbered}
+use Rattle.tt_gc_table.specs.OpenAttempts.{meetings_of}
 use Rattle.tt_gc_table.specs.Parts.{IsBegun, is_of}
-use Rattle.tt_gc_table.proofs.ByToken.{filtered, numbered_filter, begun_filter}
+use Rattle.tt_gc_table.specs.ByConnection.{IsEnd}
+use Rattle.tt_gc_table.proofs.ByToken.{begun_remove}
+use Rattle.tt_gc_table.proofs.LeavingLaws.{none_left}
+use Rattle.tt_gc_table.proofs.ByConnectionLaws.{others_stay, one_less}
 use Rattle.tt_gc_table.proofs.meetings.Meetings.leave.Goals as goal
 
-pub invariant_of-self : goal.invariant_of-self
-invariant_of-self c =
-    let p : Meeting → Bool = λ m. not (is_of c.args.conn m) in
-    let es : List (ℕ × Meeting) = c.self.inside.by_number.entries in
-    let kept : c.retain.new.self.entries ≡ filter (λ (e : ℕ × Meeting). p e.1) es =
-    filter_same_pairs _ (λ (e : ℕ × Meeting). p e.1) _ (λ k v b w f' t. search rules) _ _ c.retain.ensures.filtered in
-    (subst IsNumbered (sym kept) (numbered_filter p es c.self.invariant.0), c.retain.ensures.ordered)
+pub loop-number-smaller : goal.loop-number-smaller
+loop-number-smaller c =
+    let e : IsEnd c.args.conn c.in-Some.number c.loop-number.self = c.in-Some.ensures.some in
+    omega (arith, ap length c.close_number.ensures, one_less (eq_by_cmp nat_cmp c.in-Some.number) c.loop-number.self e.meeting e.found)
+
+pub loop-number-preserved : goal.loop-number-preserved
+loop-number-preserved c =
+    let e : IsEnd c.args.conn c.in-Some.number c.loop-number.self = c.in-Some.ensures.some in
+    record {
+      others = ap (λ (es : List (ℕ × Meeting)). filter (λ m. not (is_of c.args.conn m)) (meetings_of es)) c.close_number.ensures
+          ∙ others_stay c.args.conn (eq_by_cmp nat_cmp c.in-Some.number) c.loop-number.self e.meeting e.found e.of
+          ∙ c.loop-number.invariant.others;
+      begun = λ last begun. subst (IsBegun last) (sym c.close_number.ensures) (begun_remove c.in-Some.number last c.loop-number.self
+          (c.loop-number.invariant.begun last begun));
+    }
 
 pub returns-clause-meetings : goal.returns-clause-meetings
 returns-clause-meetings c =
-    let p : Meeting → Bool = λ m. not (is_of c.args.conn m) in
-    let es : List (ℕ × Meeting) = c.self.inside.by_number.entries in
-    let kept : c.retain.new.self.entries ≡ filter (λ (e : ℕ × Meeting). p e.1) es =
-    filter_same_pairs _ (λ (e : ℕ × Meeting). p e.1) _ (λ k v b w f' t. search rules) _ _ c.retain.ensures.filtered in
-    ap meetings_of kept ∙ filtered p es ∙ ap (λ (xs : List (ℕ × Meeting)). filter p (meetings_of xs)) c.self.view_is
-
-pub returns-clause-begun : goal.returns-clause-begun
-returns-clause-begun c = λ last begun.
-    let p : Meeting → Bool = λ m. not (is_of c.args.conn m) in
-    let es : List (ℕ × Meeting) = c.self.inside.by_number.entries in
-    let kept : c.retain.new.self.entries ≡ filter (λ (e : ℕ × Meeting). p e.1) es =
-    filter_same_pairs _ (λ (e : ℕ × Meeting). p e.1) _ (λ k v b w f' t. search rules) _ _ c.retain.ensures.filtered in
-    subst (IsBegun last) (sym kept) (begun_filter p last es (subst (IsBegun last) (sym c.self.view_is) begun))
+    sym (none_left (is_of c.args.conn) (meetings_of c.loop-number.self) c.in_default.ensures.none) ∙ c.loop-number.invariant.others

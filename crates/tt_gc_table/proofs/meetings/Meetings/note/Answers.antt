@@ -1,7 +1,10 @@
 use Rattle.std.proofs.Common.{◌≡◌, ℕ, map, cond, List, Option, Some, sym, subst, ap, ◌∙◌}
 use Rattle.std.specs.Prelude.{find}
 use Rattle.tt_gc_table.specs.Table.{Meeting, is_for}
-use Rattle.tt_gc_table.specs.Parts.{IsBegun}
+use Rattle.std.specs.Ordering.{nat_cmp, eq_by_cmp}
+use Rattle.tt_gc_table.specs.ByConnection.{numbers_of}
+use Rattle.tt_gc_table.proofs.ByConnectionLaws.{indexed_set, same_ends}
+use Rattle.tt_gc_table.specs.Parts.{IsBegun, is_of}
 use Rattle.tt_gc_table.specs.OpenAttempts.{meetings_of, IsNumbered}
 use Rattle.tt_gc_table.specs.Desk.{with_note}
 use Rattle.tt_gc_table.proofs.Numbers.{nowhere}
@@ -35,6 +38,10 @@ invariant_of-self-2 c =
           (sym c.in-Some-get_mut.ensures.value) (ap (λ (m : Meeting). m.token) c.note.ensures ∙ same_token c.args.side c.args.peer v)
           c.self.invariant.0),
       (c.get_mut.follows.holds w).4,
+      λ x. c.self.invariant.2 x
+          ∙ sym (indexed_set x (eq_by_cmp nat_cmp c.in-Some.number) c.self.inside.by_number.entries v w
+          (sym c.in-Some-get_mut.ensures.value) (ap (is_of x) c.note.ensures ∙ same_ends x c.args.side c.args.peer v))
+          ∙ ap (numbers_of x) (sym (c.get_mut.follows.holds w).0),
     )
 
 pub returns-clause-meetings : goal.returns-clause-meetings
