@@ -182,9 +182,10 @@ def main():
             break
         except OSError:
             time.sleep(0.05)
-    tell("resident memory, nobody there", f"{memory(server.pid):.1f} MB")
+    time.sleep(2)
     begun, used = now(), processor(server.pid)
     time.sleep(5)
+    tell("resident memory, nobody there", f"{memory(server.pid):.1f} MB")
     tell("processor, nobody there", f"{(processor(server.pid) - used) / (now() - begun):.3f} of a core")
 
     admin, pings = Admin(side), []
