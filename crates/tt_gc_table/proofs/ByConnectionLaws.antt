@@ -1,5 +1,6 @@
 -- The numbers that are kept for each connection are those of its attempts, whatever is done to the attempts.
-use Rattle.std.proofs.Common.{◌≡◌, ℕ, ◌+◌, ◌<◌, Bool, true, false, not, ◌&&◌, ◌||◌, cond, List, [], ◌∷◌, ◌++◌, Option, Some, None, refl, sym}
+use Rattle.std.proofs.Common.{◌≡◌, ℕ, ◌+◌, ◌<◌, Bool, true, false, not, ◌&&◌, ◌||◌, cond, List, [], ◌∷◌, ◌++◌}
+use Rattle.std.proofs.Common.{Option, Some, None, refl, sym}
 use Rattle.std.proofs.Common.{ap, ◌∙◌, arith, length, ap₂, append_assoc, Result, Ok, Err, OnErr}
 use Rattle.std.specs.Prelude.{eqb, find, filter, is_some, slice_get}
 use Rattle.std.specs.Ordering.{nat_cmp, eq_by_cmp, match_ordering, is_eq}
@@ -27,7 +28,8 @@ use Rattle.tt_gc_table.specs.Hearing.{told_each}
 use Rattle.tt_gc_table.specs.Meetings.{hears_it}
 use Rattle.tt_gc_table.specs.Told.{bytes_to}
 use Rattle.tt_gc_table.specs.OpenAttempts.{meetings_of}
-use Rattle.tt_gc_table.specs.ByConnection.{numbers_in, numbers_at, without_number, numbers_of, IsIndexed, IsEnd, at_most_one, numbered, all_numbered}
+use Rattle.tt_gc_table.specs.ByConnection.{numbers_in, numbers_at, without_number, numbers_of, IsIndexed, IsEnd}
+use Rattle.tt_gc_table.specs.ByConnection.{at_most_one, numbered, all_numbered}
 use Rattle.tt_gc_table.proofs.Keyed.{behind}
 use Rattle.tt_gc_table.proofs.Numbers.{one_apart}
 
@@ -324,10 +326,12 @@ lost_of c (m ∷ ms) = by (eqb m.server.conn c) refl (eqb m.client.conn c) refl 
 
     by : (a : Bool) → eqb m.server.conn c ≡ a → (b : Bool) → eqb m.client.conn c ≡ b → filter (is_lost c) left ≡ lost
         → filter (is_lost c) (cond (a || b) (m ∷ left) left) ≡ cond (a && not b) (m ∷ lost) lost
-    by true at b there more = ap (λ (x : Bool). cond (x && not (eqb m.client.conn c)) (m ∷ filter (is_lost c) left) (filter (is_lost c) left)) at
+    by true at b there more =
+        ap (λ (x : Bool). cond (x && not (eqb m.client.conn c)) (m ∷ filter (is_lost c) left) (filter (is_lost c) left)) at
         ∙ ap (λ (x : Bool). cond (not x) (m ∷ filter (is_lost c) left) (filter (is_lost c) left)) there
         ∙ ap (λ (l : List Meeting). cond (not b) (m ∷ l) l) more
-    by false at true there more = ap (λ (x : Bool). cond (x && not (eqb m.client.conn c)) (m ∷ filter (is_lost c) left) (filter (is_lost c) left)) at
+    by false at true there more =
+        ap (λ (x : Bool). cond (x && not (eqb m.client.conn c)) (m ∷ filter (is_lost c) left) (filter (is_lost c) left)) at
         ∙ more
     by false at false there more = more
 

@@ -17,7 +17,8 @@ add_both-requires c =
     subst (λ (es : List (ℕ × Meeting)). AllByRecursion (λ (e : ℕ × Meeting). e.0 < c.args.number) es) (sym c.self.view_is)
     c.requires.above in
     record {
-      above = λ x. subst (AllByRecursion (λ (k : ℕ). k < c.args.number)) (sym (c.self.invariant.2 x)) (numbers_below x c.args.number es above);
+      above = λ x. subst (AllByRecursion (λ (k : ℕ). k < c.args.number)) (sym (c.self.invariant.2 x))
+          (numbers_below x c.args.number es above);
     }
 
 pub invariant_of-self-then-is_err : goal.invariant_of-self-then-is_err
@@ -47,8 +48,9 @@ invariant_of-self-else-is_err c =
     put ∙ put_last c.args.number c.args.meeting es above in (
       subst IsNumbered (sym are) (numbered_last c.args.number c.args.meeting es c.requires.token c.self.invariant.0),
       c.insert.ensures.ordered,
-      λ x. indexed_too c.args.number c.ends-ends.result.0 c.ends-ends.result.1 es c.args.meeting c.self.inside.by_connection c.add_both.new.self
-          c.ends-ends.ensures.server c.ends-ends.ensures.client c.self.invariant.2 c.in_ok-add_both.ensures.ok x ∙ ap (numbers_of x) (sym are),
+      λ x. indexed_too c.args.number c.ends-ends.result.0 c.ends-ends.result.1 es c.args.meeting c.self.inside.by_connection
+          c.add_both.new.self c.ends-ends.ensures.server c.ends-ends.ensures.client c.self.invariant.2
+          c.in_ok-add_both.ensures.ok x ∙ ap (numbers_of x) (sym are),
     )
 
 pub returns-clause-ok : goal.returns-clause-ok
